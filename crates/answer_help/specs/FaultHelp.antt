@@ -26,8 +26,8 @@ after_lines zero text = text
 after_lines (suc lines) text = after_line (after_lines lines text)
 
 -- the most bytes of a line that are shown, and how many of them stand before the column
-abbrev pub most_shown : ℕ
-most_shown = 120
+abbrev pub most_of_line : ℕ
+most_of_line = 120
 
 abbrev pub most_before : ℕ
 most_before = 60
@@ -35,11 +35,11 @@ most_before = 60
 -- where the part of a line begins that is shown, for a fault after so many bytes of the line
 abbrev pub shown_from : List ℕ → ℕ → ℕ
 shown_from line before =
-    if nat_le (length line) most_shown then 0 else min (before - most_before) (length line)
+    if nat_le (length line) most_of_line then 0 else min (before - most_before) (length line)
 
 -- the part of a line from there on that is shown
 abbrev pub shown_part : List ℕ → ℕ → List ℕ
-shown_part line from = take most_shown (drop from line)
+shown_part line from = take most_of_line (drop from line)
 
 -- a byte as it is shown: a tab stays, and what can't be printed is a question mark
 abbrev pub shown_byte : ℕ → ℕ
@@ -58,7 +58,7 @@ below_mark from = if from == 0 then [] else codes "   "
 
 -- what stands for a part that is left out after it
 abbrev pub end_mark : List ℕ → ℕ → List ℕ
-end_mark line from = if nat_le (length line) (from + most_shown) then [] else codes " .."
+end_mark line from = if nat_le (length line) (from + most_of_line) then [] else codes " .."
 
 -- the word at the front of a text: its first byte, and the bytes of words that follow
 abbrev pub word_at : List ℕ → List ℕ

@@ -41,7 +41,7 @@ use sexpr_text::InputFault;
 use std::alloc::{AllocError, Global};
 
 /// The most bytes of a line that are shown.
-const MOST_SHOWN: usize = 120;
+const MOST_OF_LINE: usize = 120;
 
 /// How many of them stand before the column.
 const MOST_BEFORE: usize = 60;
@@ -159,7 +159,7 @@ fn is_in_word(byte: u8) -> bool
 fn shown_from(line: &[u8], before: usize) -> usize
     ensures { result ≡ first_shown line.now before }
 {
-    if line.len() <= MOST_SHOWN {
+    if line.len() <= MOST_OF_LINE {
         return 0;
     }
     before.saturating_sub(MOST_BEFORE).min(line.len())
@@ -169,7 +169,7 @@ fn shown_from(line: &[u8], before: usize) -> usize
 fn shown_part(line: &[u8], start: usize) -> &[u8]
     ensures { result.now ≡ part_shown line.now start }
 {
-    front(from(line, start), MOST_SHOWN)
+    front(from(line, start), MOST_OF_LINE)
 }
 
 /// A byte as it is shown.
@@ -208,7 +208,7 @@ fn below_mark(start: usize) -> &'static [u8]
 fn end_mark(line: &[u8], start: usize) -> &'static [u8]
     ensures { result.now ≡ mark_at_end line.now start }
 {
-    if line.len() <= start.saturating_add(MOST_SHOWN) {
+    if line.len() <= start.saturating_add(MOST_OF_LINE) {
         b""
     } else {
         b" .."

@@ -18,7 +18,8 @@ use Rattle.command_base.specs.Words.{Bytes, with_contexts}
 use Rattle.check_command.proofs.CheckAnswers.{too_many}
 use Rattle.command_base.proofs.TaskNames.{same_actions, same_fluents}
 use Rattle.controller_plan.specs.Controllers.{IsTooMuchToList, ReachesTooMany}
-use Rattle.controller_plan.specs.Judged.{HasNoGraph, IsControlRefusal, IsReachRefusal, IsShownRefusal}
+use Rattle.controller_plan.specs.Judged.{HasNoGraph, IsControlRefusal, IsReachRefusal}
+use Rattle.controller_plan.specs.SetRoom.{IsTightForPlan}
 use Rattle.controller_plan.specs.Words.{ControlWords}
 
 -- too many initial states, or configurations, of a plan with contexts
@@ -55,9 +56,9 @@ not_made asked d p text r found is = inr (inl (codes "configurations", inr (inl 
 
 -- a plan of which the judge finds no room
 pub no_room : (asked : ControlWords) (d : DomainTree) (p : ProblemTree) (task : Task) (text : Bytes) (plan : PlainPlan) (r : Refusal) → IsTaskOf d p task → PlanThen asked.plan d p (affirmed text)
-    → SpellsPlain (names_of_fluents task) (names_of_actions task) text plan → IsShownRefusal asked d p task plan r → IsControlRefusal asked d p r
-no_room asked d p task text plan r of found spelled (inl why) = why
-no_room asked d p task text plan r of found spelled (inr (tight, is)) = inr (inr (
+    → SpellsPlain (names_of_fluents task) (names_of_actions task) text plan → IsTightForPlan asked.plan.kind asked.plan.options.nodes task plan → r ≡ full asked.plan.options.nodes
+    → IsControlRefusal asked d p r
+no_room asked d p task text plan r of found spelled tight is = inr (inr (
   record {
     text = text;
     found = found;

@@ -19,7 +19,8 @@ use Rattle.std.proofs.lemmas.Bool.{true≢false}
 use Rattle.command_base.specs.Words.{Bytes, MayBeCertified, PlanKind, of_class, with_contexts}
 use Rattle.command_base.proofs.Initials.{shown_initial}
 use Rattle.command_base.proofs.PddlDecides.{ReadFor, not_refused, shown_both, shown_goal, shown_grounded}
-use Rattle.command_base.proofs.Statuses.{shown_at, whole_delivery, written_shown}
+use Rattle.command_base.proofs.Statuses.{shown_at}
+use Rattle.answer_help.specs.Helped.{IsHelpedDelivery}
 use Rattle.controller_plan.specs.Controllers.{ControlThen, IsControlAnswer, IsControlled, IsControllerShown, IsNoPlanShown}
 use Rattle.controller_plan.specs.Laws.{IsControllerRun, IsNoPlanRun}
 use Rattle.controller_plan.specs.Runs.{ControlRun, HasControlCause, HasControlled}
@@ -68,6 +69,17 @@ affirms (refused refusal) shown zero = absurd (cc shown)
 
 denies : (a : Answer) → is_shown a ≡ true → status_of a ≡ 1 → (text : Bytes) → a ≡ affirmed text → ⊥
 denies a shown one text is = let e : 0 ≡ 1 = ap status_of (sym is) ∙ one in omega (arith, e)
+
+-- an answer that was delivered whole with its help has its status, and where it is shown its text was
+-- written
+record Written (a : Answer) (out out' : Seen) (status : ℕ) : Type 0 where
+  is : status ≡ status_of a
+  text : is_shown a ≡ true → out'.written ≡ append_known out.written (text_of a)
+
+delivered_whole : (help : Bytes) (a : Answer) (out out' err err' : Seen) (status : ℕ) → IsHelpedDelivery help a out out' err err' status → (status ≡ 7 → ⊥) → Written a out out' status
+delivered_whole help a out out' err err' status (inl (is, inl showed)) not = record { is = is; text = λ shown. showed.output.written }
+delivered_whole help a out out' err err' status (inl (is, inr line)) not = record { is = is; text = λ shown. absurd (true≢false (sym shown ∙ line.unshown)) }
+delivered_whole help a out out' err err' status (inr (is, cut)) not = absurd (not is)
 
 -- what is written of a controller
 as_written : (text : Bytes) (a : Answer) (out out' : Seen) → a ≡ affirmed text
@@ -140,22 +152,21 @@ module _ {S : Type 0} (held : S → Bytes → Held) (faults : S → ℕ) (fetche
   pub controller_run : IsControllerRun held run
   controller_run asked says zero =
       let a = has.answer in
-      let whole = whole_delivery a run.out run.out_after run.err run.err_after run.status has.delivered (λ seven. let e : 0 ≡ 7 = sym zero ∙ seven in omega (arith, e)) in
-      let code : status_of a ≡ 0 = sym whole.0 ∙ zero in
+      let whole = delivered_whole has.help a run.out run.out_after run.err run.err_after run.status has.delivered (λ seven. let e : 0 ≡ 7 = sym zero ∙ seven in omega (arith, e)) in
+      let code : status_of a ≡ 0 = sym whole.is ∙ zero in
       let shown = shown_at a (inl code) in
       let found = shown_cause (held run.shelf) failed run.words asked a shown says has.cause in
       let text = affirms a shown code in
       let controller = controller_for asked found.domain found.problem a text.0 text.1 shown found.then in
-      let written = written_shown a (text_of a) run.out run.out_after run.err run.err_after whole.1 shown refl in
-      (found.domain, found.problem, controller.plan, controller.steps, found.both, controller.text, as_written _ a run.out run.out_after controller.shown written)
+      (found.domain, found.problem, controller.plan, controller.steps, found.both, controller.text, as_written _ a run.out run.out_after controller.shown (whole.text shown))
 
   pub no_plan_run : IsNoPlanRun held run
   no_plan_run asked says one =
       let a = has.answer in
-      let whole = whole_delivery a run.out run.out_after run.err run.err_after run.status has.delivered (λ seven. let e : 1 ≡ 7 = sym one ∙ seven in omega (arith, e)) in
-      let code : status_of a ≡ 1 = sym whole.0 ∙ one in
+      let whole = delivered_whole has.help a run.out run.out_after run.err run.err_after run.status has.delivered (λ seven. let e : 1 ≡ 7 = sym one ∙ seven in omega (arith, e)) in
+      let code : status_of a ≡ 1 = sym whole.is ∙ one in
       let shown = shown_at a (inr code) in
       let found = shown_cause (held run.shelf) failed run.words asked a shown says has.cause in
       let missing = missing_for asked found.domain found.problem a says.plan.for_class shown (denies a shown code) found.then in
-      let written = written_shown a missing.text run.out run.out_after run.err run.err_after whole.1 shown (ap text_of missing.shown) in
+      let written = whole.text shown ∙ ap (λ (b : Answer). append_known run.out.written (text_of b)) missing.shown in
       (found.domain, found.problem, missing.text, found.both, missing.none, missing.told, written)

@@ -13,13 +13,13 @@ plain_says words asked plain says =
     let whole : words ≡ says.front = says.written ∙ ap (λ j. says.front ++ json_word j) plain ∙ append-nil says.front in
     subst (λ (ws : List Bytes). SaysPlan (codes "plan" ∷ ws) asked.plan) (sym whole) says.plan
 
-neither_asks : (words : List Bytes) → ((asked : PlanWords) → asked.certified ≡ false → SaysPlan (codes "plan" ∷ words) asked → ⊥)
+neither_asks : (words : List Bytes) → ((asked : PlanWords) → SaysPlan (codes "plan" ∷ words) asked → ⊥)
     → ((asked : ControlWords) → asked.json ≡ true → SaysControl words asked → ⊥) → (asked : ControlWords) (j : Bool) → asked.json ≡ j → SaysControl words asked → ⊥
 neither_asks words none said asked true json says = said asked json says
-neither_asks words none said asked false plain says = none asked.plan says.plain (plain_says words asked plain says)
+neither_asks words none said asked false plain says = none asked.plan (plain_says words asked plain says)
 
 -- neither with nor without
-pub neither_says : (words : List Bytes) (r : Option CodeControlWords) → ((asked : PlanWords) → asked.certified ≡ false → SaysPlan (codes "plan" ∷ words) asked → ⊥)
+pub neither_says : (words : List Bytes) (r : Option CodeControlWords) → ((asked : PlanWords) → SaysPlan (codes "plan" ∷ words) asked → ⊥)
     → MatchOption r ((asked : ControlWords) → asked.json ≡ true → SaysControl words asked → ⊥) (λ asked. SaysControl words (control_words_of asked))
     → MatchOption r ((asked : ControlWords) → SaysControl words asked → ⊥) (λ asked. SaysControl words (control_words_of asked))
 neither_says words (Some asked) none said = said
@@ -36,13 +36,13 @@ pub last_and_front : {X Y : Type 0} (f : X → Y) (xs : List X) (a : X) → 1 �
     → map f xs ≡ map f (take (length xs - 1) xs) ++ f a ∷ []
 last_and_front f xs a some is = snoc_at f xs (length xs - 1) a (omega (arith, some)) is
 
-pub json_says : (words front : List Bytes) (last : Bytes) (asked : PlanWords) → words ≡ front ++ last ∷ [] → last ≡ codes "--json" → SaysPlan (codes "plan" ∷ front) asked → asked.certified ≡ false
+pub json_says : (words front : List Bytes) (last : Bytes) (asked : PlanWords) → words ≡ front ++ last ∷ [] → last ≡ codes "--json" → SaysPlan (codes "plan" ∷ front) asked
     → SaysControl words (record { plan = asked; json = true })
-json_says words front last asked split is says plain = record { front = front; written = split ∙ ap (λ (w : Bytes). front ++ w ∷ []) is; plan = says; plain = plain }
+json_says words front last asked split is says = record { front = front; written = split ∙ ap (λ (w : Bytes). front ++ w ∷ []) is; plan = says }
 
-pub json_none : (words front : List Bytes) (last : Bytes) → words ≡ front ++ last ∷ [] → last ≡ codes "--json" → ((asked : PlanWords) → asked.certified ≡ false → SaysPlan (codes "plan" ∷ front) asked → ⊥)
+pub json_none : (words front : List Bytes) (last : Bytes) → words ≡ front ++ last ∷ [] → last ≡ codes "--json" → ((asked : PlanWords) → SaysPlan (codes "plan" ∷ front) asked → ⊥)
     → (asked : ControlWords) → asked.json ≡ true → SaysControl words asked → ⊥
 json_none words front last split is none asked json says =
     let same : says.front ++ json_word true ≡ front ++ json_word true =
     sym (says.written ∙ ap (λ j. says.front ++ json_word j) json) ∙ split ∙ ap (λ (w : Bytes). front ++ w ∷ []) is in
-    none asked.plan says.plain (subst (λ (ws : List Bytes). SaysPlan (codes "plan" ∷ ws) asked.plan) (append_cancel_right says.front front (json_word true) same) says.plan)
+    none asked.plan (subst (λ (ws : List Bytes). SaysPlan (codes "plan" ∷ ws) asked.plan) (append_cancel_right says.front front (json_word true) same) says.plan)

@@ -1,6 +1,6 @@
 -- What is judged to be good is a controller.
 use Rattle.std.proofs.Common.{◌≡◌, ◌↔◌, ◌<◌, ◌≤◌, ◌∙◌, ap, ℕ, Bool, false, true, List, length, refl, subst, sym, Option, None, Some, inl, inr}
-use Rattle.std.specs.Prelude.{Vec}
+use Rattle.std.specs.Prelude.{codes, Err, IfErr, IfOk, IfSome, Ok, Result, Vec}
 use Rattle.std.specs.declared.alloc.Global.{Global}
 use Rattle.controller_rules.specs.AsRun.{HasNoDeadRule, HasNoHiddenRule, HasOneMove, NamesLastContext}
 use Rattle.controller_rules.specs.Texts.{IsTextWithin, controller_text}
@@ -12,7 +12,7 @@ use Rattle.pddl_system.proofs.States.{they_have_a_system}
 use Rattle.pddl_system.specs.Systems.{action_names, fluent_names, system}
 use Rattle.plan_check.specs.Verdicts.{SaysYes}
 use Rattle.plan_document.specs.Faithful.{IsToldInFull}
-use Rattle.plan_command.specs.PlanCommand.{IsWrittenFor}
+use Rattle.plan_command.specs.PlanCommand.{IsWrittenFor, PlanThen}
 use Rattle.first_match.specs.FirstMatch.{AreGoodAsRun}
 use Rattle.controller_rules.specs.Unlisted.{AreGoodUnlisted}
 use Rattle.plan_meets.proofs.Meetings.{table_meets}
@@ -24,19 +24,22 @@ use Rattle.plan_rules.specs.Rules.{PlainPlan, PlanRule, automaton, table}
 use Rattle.task_core.specs.Names.{Name}
 use Rattle.task_core.specs.Systems.{IsSystem, System}
 use Rattle.task_core.specs.Tasks.{action_names as names_of_actions, fluent_names as names_of_fluents}
-use Rattle.command_base.specs.Answers.{Answer, affirmed}
+use Rattle.command_base.specs.Answers.{Answer, Refusal, affirmed}
 use Rattle.command_base.specs.Grounded.{IsGroundedOf}
 use Rattle.command_base.specs.Grounding.{has_goal_for}
 use Rattle.check_command.specs.Judged.{HasGoalIn, IsTaskVerdict}
 use Rattle.plan_meets.specs.Meets.{Meets, PlanMeets}
 use Rattle.command_base.specs.Reading.{file_limit}
+use Rattle.command_base.specs.Values.{refusal_of, shown_of}
+use Rattle.command_base.specs.declared.answers.Refusal.{Refusal as CodeRefusal}
+use Rattle.command_base.specs.declared.answers.Shown.{Shown}
 use Rattle.command_base.specs.Words.{Bytes, PlanKind, of_class, with_contexts}
 use Rattle.check_command.proofs.CheckAnswers.{goal_in, verdict_for}
 use Rattle.check_command.proofs.YesMeets.{YesSolves, yes_is_met}
 use Rattle.command_base.proofs.TaskNames.{same_actions, same_fluents}
 use Rattle.controller_plan.specs.Controllers.{HasLongText, IsController, IsControllerShown, run_meaning, shown_bytes, text_for}
-use Rattle.controller_plan.specs.Judged.{HasNoGraph, IsFoundGood, IsGoodAlong, IsJudged, IsTableGoodOnSets, bytes_as}
-use Rattle.controller_plan.proofs.Limits.{too_much}
+use Rattle.controller_plan.specs.Judged.{HasLongJudged, HasNoGraph, IsControlRefusal, IsFoundGood, IsGoodAlong, IsJudged, IsJudgedShown, IsMadeRefusal, IsRoomRefusal, IsTableGoodOnSets, bytes_as, text_over}
+use Rattle.controller_plan.proofs.Limits.{no_room, too_much}
 use Rattle.controller_plan.specs.Words.{ControlWords}
 
 -- what is known of rules that are good as they are run
@@ -138,27 +141,60 @@ shown_over asked d p plan steps bytes a fs as' same_fs same_as controller text s
       shown = all.2 ∙ ap affirmed (by_json asked.json d p plan steps bytes all.0.0);
     }
 
-pub shown_controller : GroundedGoalsAreTrue → YesSolves → GoodRulesControl → (asked : ControlWords) (d : DomainTree) (p : ProblemTree) (g : Grounded) (plan : PlainPlan) (steps : List ℕ) (found : Option (Vec ℕ Global)) (bytes : Vec ℕ Global) (a : Answer)
-    → IsGroundedOf d p g → IsJudged asked.plan.kind g.task g.ctl plan → found ≡ Some bytes
-    → IsTextWithin file_limit (controller_text (names_of_fluents g.task) (names_of_actions g.task) plan steps) found
-    → SpellsPlain (names_of_fluents g.task) (names_of_actions g.task) (controller_text (names_of_fluents g.task) (names_of_actions g.task) plan steps) plan
-    → a ≡ affirmed (bytes_as asked.json (names_of_fluents g.task) (names_of_actions g.task) plan bytes.items) → IsControllerShown asked d p a
-shown_controller true_goals law control asked d p g plan steps found bytes a of judged is within spells shown =
-    shown_over asked d p plan steps bytes.items a (names_of_fluents g.task) (names_of_actions g.task) (same_fluents d p g.task of.of_task.task_is) (same_actions d p g.task of.of_task.task_is)
-    (judged_controller true_goals law control asked.plan.kind d p g plan of judged)
-    (text_is file_limit (controller_text (names_of_fluents g.task) (names_of_actions g.task) plan steps) found bytes is within) spells shown
-
--- and where its text is too long, that is so
-pub long_controller : GroundedGoalsAreTrue → YesSolves → GoodRulesControl → (kind : PlanKind) (d : DomainTree) (p : ProblemTree) (g : Grounded) (plan : PlainPlan) (steps : List ℕ) (found : Option (Vec ℕ Global))
-    → IsGroundedOf d p g → IsJudged kind g.task g.ctl plan → found ≡ None
-    → IsTextWithin file_limit (controller_text (names_of_fluents g.task) (names_of_actions g.task) plan steps) found → HasLongText kind d p
-long_controller true_goals law control kind d p g plan steps found of judged is within =
-    let long : file_limit < length (controller_text (names_of_fluents g.task) (names_of_actions g.task) plan steps) =
-    subst (IsTextWithin file_limit (controller_text (names_of_fluents g.task) (names_of_actions g.task) plan steps)) is within in
+-- what is shown of a plan that was judged
+pub is_shown : (kind : PlanKind) (json : Bool) (g : Grounded) (plan : PlainPlan) (steps : List ℕ) (found : Option (Vec ℕ Global)) (bytes : Vec ℕ Global) (a : Answer)
+    → IsJudged kind g.task g.ctl plan → found ≡ Some bytes → IsTextWithin file_limit (text_over g.task plan steps) found
+    → SpellsPlain (names_of_fluents g.task) (names_of_actions g.task) (text_over g.task plan steps) plan
+    → a ≡ affirmed (bytes_as json (names_of_fluents g.task) (names_of_actions g.task) plan bytes.items) → IsJudgedShown kind json g a
+is_shown kind json g plan steps found bytes a judged is within spells shown =
+    let text = text_is file_limit (text_over g.task plan steps) found bytes is within in
     record {
       plan = plan;
       steps = steps;
-      controller = judged_controller true_goals law control kind d p g plan of judged;
-      long = subst (λ (ys : List Name). file_limit < length (controller_text (fluent_names d p) ys plan steps)) (same_actions d p g.task of.of_task.task_is)
-          (subst (λ (xs : List Name). file_limit < length (controller_text xs (names_of_actions g.task) plan steps)) (same_fluents d p g.task of.of_task.task_is) long);
+      judged = judged;
+      spelled = spells;
+      short = text.1;
+      shown = shown ∙ ap (λ (b : Bytes). affirmed (bytes_as json (names_of_fluents g.task) (names_of_actions g.task) plan b)) text.0;
     }
+
+-- and where its text is too long, that is so
+pub is_long : (kind : PlanKind) (g : Grounded) (plan : PlainPlan) (steps : List ℕ) (found : Option (Vec ℕ Global))
+    → IsJudged kind g.task g.ctl plan → found ≡ None → IsTextWithin file_limit (text_over g.task plan steps) found → HasLongJudged kind g
+is_long kind g plan steps found judged is within =
+    record { plan = plan; steps = steps; judged = judged; long = subst (IsTextWithin file_limit (text_over g.task plan steps)) is within }
+
+-- a plan that was judged for the task of a problem is a controller for the problem
+module _ (true_goals : GroundedGoalsAreTrue) (law : YesSolves) (control : GoodRulesControl) (asked : ControlWords) (d : DomainTree) (p : ProblemTree) (g : Grounded) (of : IsGroundedOf d p g) where
+  shown_controller : (a : Answer) → IsJudgedShown asked.plan.kind asked.json g a → IsControllerShown asked d p a
+  shown_controller a shown =
+      shown_over asked d p shown.plan shown.steps (text_over g.task shown.plan shown.steps) a (names_of_fluents g.task) (names_of_actions g.task) (same_fluents d p g.task of.of_task.task_is) (same_actions d p g.task of.of_task.task_is)
+      (judged_controller true_goals law control asked.plan.kind d p g shown.plan of shown.judged) (refl, shown.short) shown.spelled shown.shown
+
+  long_controller : HasLongJudged asked.plan.kind g → HasLongText asked.plan.kind d p
+  long_controller judged = record {
+    plan = judged.plan;
+    steps = judged.steps;
+    controller = judged_controller true_goals law control asked.plan.kind d p g judged.plan of judged.judged;
+    long = subst (λ (ys : List Name). file_limit < length (controller_text (fluent_names d p) ys judged.plan judged.steps)) (same_actions d p g.task of.of_task.task_is)
+        (subst (λ (xs : List Name). file_limit < length (controller_text xs (names_of_actions g.task) judged.plan judged.steps)) (same_fluents d p g.task of.of_task.task_is) judged.long);
+  }
+
+  pub made_refusal : (r : Refusal) → IsMadeRefusal asked.plan.kind g r → IsControlRefusal asked d p r
+  made_refusal r (inl memory) = inl memory
+  made_refusal r (inr (long, is)) = inr (inl (codes "file", inr (inr (refl, inl (long_controller long))), is))
+
+  pub made_shown : (r : Result (Option Shown) CodeRefusal) → IfOk r (λ found. IfSome found (λ shown. IsJudgedShown asked.plan.kind asked.json g (shown_of shown)))
+      → IfOk r (λ found. IfSome found (λ shown. IsControllerShown asked d p (shown_of shown)))
+  made_shown (Ok (Some shown)) is = shown_controller (shown_of shown) is
+  made_shown (Ok None) is = tt
+  made_shown (Err refusal) is = tt
+
+  pub made_refused : (r : Result (Option Shown) CodeRefusal) → IfErr r (λ refusal. IsMadeRefusal asked.plan.kind g (refusal_of refusal)) → IfErr r (λ refusal. IsControlRefusal asked d p (refusal_of refusal))
+  made_refused (Ok found) is = tt
+  made_refused (Err refusal) is = made_refusal (refusal_of refusal) is
+
+  -- the plan that `plan` finds, of which a text may be too long, or the judge may find no room
+  pub found_refusal : (text : Bytes) (plan : PlainPlan) (r : Refusal) → PlanThen asked.plan d p (affirmed text)
+      → SpellsPlain (names_of_fluents g.task) (names_of_actions g.task) text plan → IsRoomRefusal asked.plan.kind asked.plan.options.nodes g plan r → IsControlRefusal asked d p r
+  found_refusal text plan r found spelled (inl why) = made_refusal r why
+  found_refusal text plan r found spelled (inr (tight, is)) = no_room asked d p g.task text plan r of.of_task found spelled tight is

@@ -1,10 +1,14 @@
 -- Private: that a plan was judged, over its task.
-use Rattle.std.specs.Prelude.{◌≡◌, ◌≢◌, ◌++◌, ◌⊎◌, ℕ, Bool, false, true, List, [], Option, codes}
+use Rattle.std.specs.Prelude.{◌≡◌, ◌≢◌, ◌++◌, ◌⊎◌, ◌<◌, ◌≤◌, ℕ, Bool, false, true, List, []}
+use Rattle.std.specs.Prelude.{Option, IfSome, codes, length}
 use Rattle.controller_rules.specs.AsRun.{HasNoDeadRule, HasOneMove, NamesLastContext}
+use Rattle.controller_rules.specs.Texts.{controller_text}
+use Rattle.ctl_syntax.specs.Values.{NamesBelow, ctl_value}
 use Rattle.ctl_syntax.specs.declared.goals.Ctl.{Ctl}
 use Rattle.exec_graph.specs.Executions.{ReachesMoreThan}
 use Rattle.exec_graph.specs.Initials.{HasTooManyInitial}
 use Rattle.first_match.specs.FirstMatch.{AreGoodAsRun}
+use Rattle.ground_task.specs.declared.grounding.Grounded.{Grounded}
 use Rattle.pddl_ast.specs.Trees.{DomainTree, ProblemTree}
 use Rattle.plan_certs.specs.Certificates.{PlainCertificate}
 use Rattle.plan_certs.specs.Readings.{SpellsPlain as SpellsCertificate}
@@ -13,18 +17,21 @@ use Rattle.plan_check.specs.Verdicts.{SaysYes}
 use Rattle.plan_check.specs.declared.verdicts.Verdict.{Verdict}
 use Rattle.plan_document.specs.Documents.{document_text}
 use Rattle.plan_document.specs.Faithful.{IsToldInFull}
+use Rattle.plan_rules.specs.Readings.{SpellsPlain}
 use Rattle.plan_rules.specs.Rules.{PlainPlan, PlanRule, automaton, table}
 use Rattle.task_core.specs.Names.{Name}
-use Rattle.task_core.specs.Tasks.{initial_states, system_of}
+use Rattle.task_core.specs.Tasks.{action_names, fluent_count, fluent_names, initial_states}
+use Rattle.task_core.specs.Tasks.{system_of}
 use Rattle.task_core.specs.declared.classes.Class.{Class}
 use Rattle.task_core.specs.declared.tasks.Task.{Task}
-use Rattle.command_base.specs.Answers.{Refusal, full, no_memory, over_limit}
+use Rattle.command_base.specs.Answers.{Answer, Refusal, affirmed, full, no_memory, over_limit}
 use Rattle.command_base.specs.Following.{most_followed}
-use Rattle.check_command.specs.Judged.{IsTaskVerdict}
+use Rattle.check_command.specs.Judged.{HasGoalIn, IsTaskVerdict}
 use Rattle.plan_command.specs.PlanCommand.{IsWrittenFor, no_plan_text}
 use Rattle.command_base.specs.Values.{bytes_of}
 use Rattle.command_base.specs.declared.answers.Text.{Text}
-use Rattle.command_base.specs.Words.{Bytes, PlanKind, of_class, with_contexts}
+use Rattle.command_base.specs.Reading.{file_limit}
+use Rattle.command_base.specs.Words.{Bytes, IsNodeLimit, PlanKind, of_class, with_contexts}
 use Rattle.controller_plan.specs.Controllers.{HasNoRoomToJudge, IsLimitPassed}
 use Rattle.controller_plan.specs.SetRoom.{IsTightForPlan}
 use Rattle.controller_plan.specs.Words.{ControlWords}
@@ -88,18 +95,54 @@ IsControlRefusal asked domain problem refusal =
     ⊎ ((name : Bytes) × IsLimitPassed asked domain problem name × (refusal ≡ over_limit name))
     ⊎ (HasNoRoomToJudge asked domain problem × (refusal ≡ full asked.plan.options.nodes))
 
--- the same, where the plan in hand is judged
-abbrev pub IsShownRefusal : ControlWords → DomainTree → ProblemTree → Task → PlainPlan → Refusal
-    → Type 0
-IsShownRefusal asked domain problem task plan refusal =
-    IsControlRefusal asked domain problem refusal
-    ⊎ (IsTightForPlan asked.plan.kind asked.plan.options.nodes task plan
-    × (refusal ≡ full asked.plan.options.nodes))
-
 -- what is shown: the text, or the document of the plan
 abbrev pub bytes_as : Bool → List Name → List Name → PlainPlan → Bytes → Bytes
 bytes_as false fluents actions plan text = text
 bytes_as true fluents actions plan text = document_text fluents actions plan
+
+-- a plan can be judged: the task has a goal for plans of the kind, over its fluents, and so many nodes
+-- may be asked for
+pub record CanBeJudged (kind : PlanKind) (nodes : ℕ) (grounded : Grounded) : Type 0 where
+  pub room : IsNodeLimit nodes
+  pub goal : HasGoalIn kind grounded.task grounded.ctl
+  pub names : IfSome grounded.ctl
+      (λ goal. NamesBelow (fluent_count grounded.task) (ctl_value goal))
+
+-- the text of a plan of a task whose rules are first wanted after these numbers of steps
+abbrev pub text_over : Task → PlainPlan → List ℕ → Bytes
+text_over task plan steps = controller_text (fluent_names task) (action_names task) plan steps
+
+-- a plan is shown that was judged: its text, which spells it and is no longer than a plan's file may be,
+-- or its document
+pub record IsJudgedShown (kind : PlanKind) (json : Bool) (grounded : Grounded) (answer : Answer)
+    : Type 0 where
+  pub plan : PlainPlan
+  pub steps : List ℕ
+  pub judged : IsJudged kind grounded.task grounded.ctl plan
+  pub spelled : SpellsPlain (fluent_names grounded.task) (action_names grounded.task)
+      (text_over grounded.task plan steps) plan
+  pub short : length (text_over grounded.task plan steps) ≤ file_limit
+  pub shown : answer ≡ affirmed (bytes_as json (fluent_names grounded.task)
+      (action_names grounded.task) plan (text_over grounded.task plan steps))
+
+-- a plan was judged whose text is longer
+pub record HasLongJudged (kind : PlanKind) (grounded : Grounded) : Type 0 where
+  pub plan : PlainPlan
+  pub steps : List ℕ
+  pub judged : IsJudged kind grounded.task grounded.ctl plan
+  pub long : file_limit < length (text_over grounded.task plan steps)
+
+-- why no plan is shown that a search made: want of memory, or a text that is too long
+abbrev pub IsMadeRefusal : PlanKind → Grounded → Refusal → Type 0
+IsMadeRefusal kind grounded refusal =
+    (refusal ≡ no_memory)
+    ⊎ (HasLongJudged kind grounded × (refusal ≡ over_limit (codes "file")))
+
+-- the same where want of room to judge it is told, too
+abbrev pub IsRoomRefusal : PlanKind → ℕ → Grounded → PlainPlan → Refusal → Type 0
+IsRoomRefusal kind nodes grounded plan refusal =
+    IsMadeRefusal kind grounded refusal
+    ⊎ (IsTightForPlan kind nodes grounded.task plan × (refusal ≡ full nodes))
 
 -- a limit that the plan in hand passes: there are too many initial states, or it reaches too many
 -- configurations

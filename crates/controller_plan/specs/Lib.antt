@@ -6,3 +6,4 @@ pub mod Runs
 pub mod SetRoom
 pub mod Values
 pub mod Words
+pub mod WrongWords

@@ -4,10 +4,12 @@ use Rattle.plan_io.specs.Fetches.{FetchesNothing}
 use Rattle.plan_io.specs.Held.{Held}
 use Rattle.command_base.specs.Answers.{Answer}
 use Rattle.command_base.specs.Fetching.{FetchesBoth}
-use Rattle.command_base.specs.Frame.{FailedIn, HasCauseOf, IsRunOf, Run}
+use Rattle.answer_help.specs.HelpedRuns.{IsHelpedRunOf}
+use Rattle.command_base.specs.Frame.{FailedIn, HasCauseOf, Run}
 use Rattle.command_base.specs.Words.{Bytes}
 use Rattle.controller_plan.specs.Controllers.{IsControlAnswer}
 use Rattle.controller_plan.specs.Words.{ControlWords, SaysControl}
+use Rattle.controller_plan.specs.WrongWords.{wrong_control}
 
 -- the words ask for nothing; or they ask for a controller, and the answer is the one to that, or
 -- want of memory, which has no further cause
@@ -26,12 +28,12 @@ abbrev pub FetchesForControl : {S : Type 0} → (Bytes → Held) → (S → Byte
 FetchesForControl held fetched asked answer before after =
     FetchesBoth held fetched asked.plan.domain asked.plan.problem FetchesNothing before after
 
--- an answer was given that has its cause, and was delivered. The two files were fetched in their
--- order, each once, as far as they were needed, and none where nothing was asked for. The shelf's
--- count of faults is as it was, but at the answers that may have had one; it never falls, and what
--- is held stays
+-- an answer was given that has its cause, and was delivered, with help where it is a refusal. The two
+-- files were fetched in their order, each once, as far as they were needed, and none where nothing was
+-- asked for. The shelf's count of faults is as it was, but at the answers that may have had one; it
+-- never falls, and what is held stays
 abbrev pub HasControlled : {S : Type 0} → (S → Bytes → Held) → (S → ℕ) → (S → Bytes → S → Type 0)
     → ControlRun S → Type 0
 HasControlled {S} held faults fetched run =
-    IsRunOf SaysControl (IsControlAnswer (held run.shelf) (FailedIn faults fetched run))
-    (FetchesForControl (held run.shelf) fetched) held faults run
+    IsHelpedRunOf SaysControl (IsControlAnswer (held run.shelf) (FailedIn faults fetched run))
+    (FetchesForControl (held run.shelf) fetched) wrong_control held faults run

@@ -12,14 +12,13 @@ abbrev pub json_word : Bool → List Bytes
 json_word true = codes "--json" ∷ []
 json_word false = []
 
--- `CLASS DOMAIN PROBLEM` or `ctl DOMAIN PROBLEM`, the options as after `plan`, and then perhaps
--- `--json`: with the word `plan` before them and without `--json` after them, the words say a plan,
--- and ask for no certificate
+-- `CLASS DOMAIN PROBLEM`, with or without `--cert` after it, or `ctl DOMAIN PROBLEM`, the options as
+-- after `plan`, and then perhaps `--json`: with the word `plan` before them and without `--json` after
+-- them, the words say a plan
 pub record SaysControl (words : List Bytes) (asked : ControlWords) : Type 0 where
   pub front : List Bytes
   pub written : words ≡ front ++ json_word asked.json
   pub plan : SaysPlan (codes "plan" ∷ front) asked.plan
-  pub plain : asked.plan.certified ≡ false
 
 -- the words ask for no controller
 abbrev pub AskNothing : List Bytes → Type 0

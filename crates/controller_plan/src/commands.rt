@@ -8,13 +8,7 @@ ghost use Rattle.controller_plan.specs.Controllers.{
   IsControllerShown,
   IsRefuted,
 };
-ghost use Rattle.controller_plan.specs.Judged.{
-  IsControlRefusal,
-  IsJudgeRefusal,
-  IsJudged,
-  IsShownRefusal,
-  bytes_as,
-};
+ghost use Rattle.controller_plan.specs.Judged.{IsControlRefusal};
 ghost use Rattle.controller_plan.specs.Runs.{HasControlCause};
 ghost use Rattle.controller_plan.specs.Values.{control_words_of};
 ghost use Rattle.controller_plan.specs.Words.{AskNothing, ControlWords as AskedControl, SaysControl};
@@ -29,7 +23,6 @@ ghost use Rattle.command_base.specs.Words.{IsNodeLimit, of_class, with_contexts}
 ghost use Rattle.pddl_ast.specs.Fits.{FitsDomain, FitsProblem};
 ghost use Rattle.pddl_ast.specs.Values.{domain_value, problem_value};
 ghost use Rattle.pddl_system.specs.Names.{NamesAreWords};
-ghost use Rattle.plan_document.specs.Faithful.{IsToldInFull};
 ghost use Rattle.plan_io.specs.Fetches.{FailedLast, FetchesNothing};
 ghost use Rattle.plan_rules.specs.Plans.{IsPlanOf};
 ghost use Rattle.plan_rules.specs.Readings.{SpellsPlain};
@@ -52,29 +45,24 @@ ghost use Rattle.std.specs.Prelude.{
 ghost use Rattle.task_core.specs.Tasks.{action_count, action_names, fluent_count, fluent_names};
 
 use crate::followed::Followed;
-use crate::judged::is_controller;
-use crate::own_states::rules_with_own_states;
-use crate::plans::{plan_of, steps_of};
+use crate::made::{Wanted, shown_controller, shown_plan, shown_table};
 use crate::reach::{check_reached, plan_in};
 use crate::refuted::{certificate_of, is_accepted, is_certificate_of, text_of_no_plan};
-use crate::rules::{Length, rules_of};
 use crate::searches::{Effort, Searched, follow_found, seek};
-use crate::served::served_rules;
 use crate::words::{ControlWords, read_words};
 use command_base::{Limit, PlanKind, Refusal, Shown, Text, check_goal, ground_both, read_both};
-use controller_rules::{good_rules_control, is_plan_of, write_controller};
+use controller_rules::good_rules_control;
 use ground_task::Grounded;
 use pddl_ast::{Domain, Problem};
 use pddl_system::grounded_goals_are_true;
 use plan_certs::{Certificate, accepted_certificates_mean_no_plan};
 use plan_check::yes_is_solution;
 use plan_command::plan_grounded;
-use plan_document::plan_document;
 use plan_io::Shelf;
-use plan_rules::{Plan, Rule, TablePlan};
+use plan_rules::{Plan, Rule};
 use sexpr_text::MAX_BYTES;
 use std::alloc::{AllocError, Global};
-use task_core::{Lit, Task};
+use task_core::Lit;
 
 /// Does what the words say, and gives the answer.
 pub(crate) fn answer<S: Shelf>(
@@ -217,12 +205,78 @@ fn shown_sought(
 {
     match seek(alloc, &asked.plan, grounded, effort)? {
         Searched::Followed(followed) => {
-            shown_controller(alloc, asked, domain, problem, grounded, &followed)
+            followed_controller(alloc, asked, domain, problem, grounded, &followed)
         }
-        Searched::Rules(rules) => shown_table(alloc, asked, domain, problem, grounded, rules),
+        Searched::Rules(rules) => table_controller(alloc, asked, domain, problem, grounded, rules),
         Searched::NoPlan(sets) => shown_refuted(alloc, asked, domain, problem, grounded, sets),
         Searched::Nothing => Ok(None),
     }
+}
+
+/// The controller for what a plan does where it reaches, if rules for that make one.
+fn followed_controller(
+    alloc: Global,
+    asked: &ControlWords,
+    domain: &Domain,
+    problem: &Problem,
+    grounded: &Grounded,
+    followed: &Followed,
+) -> Result<Option<Shown>, Refusal>
+    requires room { IsNodeLimit asked.now.plan.options.nodes }
+    requires goal { has_goal_for (kind_of asked.now.plan.kind) (problem_value problem.now)
+        ≡ true }
+    requires grounded { IsGroundedOf (domain_value domain.now) (problem_value problem.now)
+        grounded.now }
+    ensures shown { IfOk result (λ found. IfSome found (λ shown.
+        IsControllerShown (control_words_of asked.now)
+        (domain_value domain.now) (problem_value problem.now) (shown_of shown))) }
+    ensures refused { IfErr result (λ refusal. IsControlRefusal (control_words_of asked.now)
+        (domain_value domain.now) (problem_value problem.now) (refusal_of refusal)) }
+{
+    // These do nothing: that what is judged to be good meets the problem rests on what they promise.
+    grounded_goals_are_true();
+    yes_is_solution();
+    good_rules_control();
+    let wanted = Wanted {
+        kind: asked.plan.kind,
+        nodes: asked.plan.options.nodes,
+        json: asked.json,
+        grounded,
+    };
+    shown_controller(alloc, &wanted, followed)
+}
+
+/// The controller with the rules of a table, of which the first that matches counts, if they make one.
+fn table_controller(
+    alloc: Global,
+    asked: &ControlWords,
+    domain: &Domain,
+    problem: &Problem,
+    grounded: &Grounded,
+    rules: Vec<Rule>,
+) -> Result<Option<Shown>, Refusal>
+    requires room { IsNodeLimit asked.now.plan.options.nodes }
+    requires goal { has_goal_for (kind_of asked.now.plan.kind) (problem_value problem.now)
+        ≡ true }
+    requires grounded { IsGroundedOf (domain_value domain.now) (problem_value problem.now)
+        grounded.now }
+    ensures shown { IfOk result (λ found. IfSome found (λ shown.
+        IsControllerShown (control_words_of asked.now)
+        (domain_value domain.now) (problem_value problem.now) (shown_of shown))) }
+    ensures refused { IfErr result (λ refusal. IsControlRefusal (control_words_of asked.now)
+        (domain_value domain.now) (problem_value problem.now) (refusal_of refusal)) }
+{
+    // These do nothing: that what is judged to be good meets the problem rests on what they promise.
+    grounded_goals_are_true();
+    yes_is_solution();
+    good_rules_control();
+    let wanted = Wanted {
+        kind: asked.plan.kind,
+        nodes: asked.plan.options.nodes,
+        json: asked.json,
+        grounded,
+    };
+    shown_table(alloc, &wanted, rules)
 }
 
 /// That there is no plan, where these sets of cubes are a certificate of that for the class.
@@ -283,173 +337,6 @@ fn shown_no_plan(
     }
     let text = text_of_no_plan(alloc, asked.plan.certified, certificate, task)?;
     Ok(Some(Shown::Denied(text)))
-}
-
-/// The controller with the rules of a table, of which the first that matches counts, if they make one:
-/// with those of them that are wanted where it leads, or with shorter ones; or with all of them where
-/// it leads to more than may be followed.
-fn shown_table(
-    alloc: Global,
-    asked: &ControlWords,
-    domain: &Domain,
-    problem: &Problem,
-    grounded: &Grounded,
-    rules: Vec<Rule>,
-) -> Result<Option<Shown>, Refusal>
-    requires room { IsNodeLimit asked.now.plan.options.nodes }
-    requires goal { has_goal_for (kind_of asked.now.plan.kind) (problem_value problem.now)
-        ≡ true }
-    requires grounded { IsGroundedOf (domain_value domain.now) (problem_value problem.now)
-        grounded.now }
-    ensures shown { IfOk result (λ found. IfSome found (λ shown.
-        IsControllerShown (control_words_of asked.now)
-        (domain_value domain.now) (problem_value problem.now) (shown_of shown))) }
-    ensures refused { IfErr result (λ refusal. IsControlRefusal (control_words_of asked.now)
-        (domain_value domain.now) (problem_value problem.now) (refusal_of refusal)) }
-{
-    match asked.plan.kind {
-        PlanKind::Class(class) => {
-            let plan = Plan::Table(TablePlan { class, rules });
-            shown_found(alloc, asked, domain, problem, grounded, &plan)
-        }
-        PlanKind::Contexts => Ok(None),
-    }
-}
-
-/// The same for a plan that may be one for another task.
-fn shown_found(
-    alloc: Global,
-    asked: &ControlWords,
-    domain: &Domain,
-    problem: &Problem,
-    grounded: &Grounded,
-    plan: &Plan,
-) -> Result<Option<Shown>, Refusal>
-    requires room { IsNodeLimit asked.now.plan.options.nodes }
-    requires goal { has_goal_for (kind_of asked.now.plan.kind) (problem_value problem.now)
-        ≡ true }
-    requires grounded { IsGroundedOf (domain_value domain.now) (problem_value problem.now)
-        grounded.now }
-    ensures shown { IfOk result (λ found. IfSome found (λ shown.
-        IsControllerShown (control_words_of asked.now)
-        (domain_value domain.now) (problem_value problem.now) (shown_of shown))) }
-    ensures refused { IfErr result (λ refusal. IsControlRefusal (control_words_of asked.now)
-        (domain_value domain.now) (problem_value problem.now) (refusal_of refusal)) }
-{
-    if !is_plan_of(
-        grounded.task.fluents.len(),
-        grounded.task.actions.len(),
-        plan,
-    ) {
-        return Ok(None);
-    }
-    match follow_found(alloc, &grounded.task, plan)? {
-        Some(followed) => shown_followed(alloc, asked, domain, problem, grounded, plan, &followed),
-        None => shown_unfollowed(alloc, asked, domain, problem, grounded, plan),
-    }
-}
-
-/// The controller with those rules of a table that match something that no rule before them does.
-fn shown_unfollowed(
-    alloc: Global,
-    asked: &ControlWords,
-    domain: &Domain,
-    problem: &Problem,
-    grounded: &Grounded,
-    plan: &Plan,
-) -> Result<Option<Shown>, Refusal>
-    requires room { IsNodeLimit asked.now.plan.options.nodes }
-    requires goal { has_goal_for (kind_of asked.now.plan.kind) (problem_value problem.now)
-        ≡ true }
-    requires grounded { IsGroundedOf (domain_value domain.now) (problem_value problem.now)
-        grounded.now }
-    ensures shown { IfOk result (λ found. IfSome found (λ shown.
-        IsControllerShown (control_words_of asked.now)
-        (domain_value domain.now) (problem_value problem.now) (shown_of shown))) }
-    ensures refused { IfErr result (λ refusal. IsControlRefusal (control_words_of asked.now)
-        (domain_value domain.now) (problem_value problem.now) (refusal_of refusal)) }
-{
-    match plan {
-        Plan::Table(table) => {
-            let plan = Plan::Table(TablePlan {
-                class: table.class,
-                rules: rules_with_own_states(alloc, &table.rules)?,
-            });
-            shown_made(alloc, asked, domain, problem, grounded, &plan, &[])
-        }
-        Plan::Auto(_) => Ok(None),
-    }
-}
-
-/// The controller for a plan that was followed: with those of its rules that are wanted, or with rules
-/// for what it does where it reaches.
-fn shown_followed(
-    alloc: Global,
-    asked: &ControlWords,
-    domain: &Domain,
-    problem: &Problem,
-    grounded: &Grounded,
-    plan: &Plan,
-    followed: &Followed,
-) -> Result<Option<Shown>, Refusal>
-    requires room { IsNodeLimit asked.now.plan.options.nodes }
-    requires goal { has_goal_for (kind_of asked.now.plan.kind) (problem_value problem.now)
-        ≡ true }
-    requires grounded { IsGroundedOf (domain_value domain.now) (problem_value problem.now)
-        grounded.now }
-    ensures shown { IfOk result (λ found. IfSome found (λ shown.
-        IsControllerShown (control_words_of asked.now)
-        (domain_value domain.now) (problem_value problem.now) (shown_of shown))) }
-    ensures refused { IfErr result (λ refusal. IsControlRefusal (control_words_of asked.now)
-        (domain_value domain.now) (problem_value problem.now) (refusal_of refusal)) }
-{
-    let served = shown_served(alloc, asked, domain, problem, grounded, plan, followed)?;
-    if served.is_some() {
-        return Ok(served);
-    }
-    shown_controller(alloc, asked, domain, problem, grounded, followed)
-}
-
-/// The controller with those rules of a table that are wanted where it leads, if they make one.
-fn shown_served(
-    alloc: Global,
-    asked: &ControlWords,
-    domain: &Domain,
-    problem: &Problem,
-    grounded: &Grounded,
-    plan: &Plan,
-    followed: &Followed,
-) -> Result<Option<Shown>, Refusal>
-    requires room { IsNodeLimit asked.now.plan.options.nodes }
-    requires goal { has_goal_for (kind_of asked.now.plan.kind) (problem_value problem.now)
-        ≡ true }
-    requires grounded { IsGroundedOf (domain_value domain.now) (problem_value problem.now)
-        grounded.now }
-    ensures shown { IfOk result (λ found. IfSome found (λ shown.
-        IsControllerShown (control_words_of asked.now)
-        (domain_value domain.now) (problem_value problem.now) (shown_of shown))) }
-    ensures refused { IfErr result (λ refusal. IsControlRefusal (control_words_of asked.now)
-        (domain_value domain.now) (problem_value problem.now) (refusal_of refusal)) }
-{
-    match plan {
-        Plan::Table(table) => {
-            let served = served_rules(alloc, &table.rules, followed)?;
-            let plan = Plan::Table(TablePlan {
-                class: table.class,
-                rules: served.rules,
-            });
-            shown_made(
-                alloc,
-                asked,
-                domain,
-                problem,
-                grounded,
-                &plan,
-                &served.steps,
-            )
-        }
-        Plan::Auto(_) => Ok(None),
-    }
 }
 
 /// The answer of `plan` where no controller was shown; if it is a plan, what is made of that.
@@ -676,7 +563,7 @@ fn made_of_good_plan(
         (domain_value domain.now) (problem_value problem.now) (refusal_of refusal)) }
 {
     match follow_found(alloc, &grounded.task, plan)? {
-        Some(followed) => shown_controller(alloc, asked, domain, problem, grounded, &followed),
+        Some(followed) => followed_controller(alloc, asked, domain, problem, grounded, &followed),
         None => shown_as_found(alloc, asked, domain, problem, grounded, text, plan),
     }
 }
@@ -706,7 +593,17 @@ fn shown_as_found(
     ensures refused { IfErr result (λ refusal. IsControlRefusal (control_words_of asked.now)
         (domain_value domain.now) (problem_value problem.now) (refusal_of refusal)) }
 {
-    match shown_plan(alloc, asked, domain, problem, grounded, plan, &[]) {
+    // These do nothing: that what is judged to be good meets the problem rests on what they promise.
+    grounded_goals_are_true();
+    yes_is_solution();
+    good_rules_control();
+    let wanted = Wanted {
+        kind: asked.plan.kind,
+        nodes: asked.plan.options.nodes,
+        json: asked.json,
+        grounded,
+    };
+    match shown_plan(alloc, &wanted, plan) {
         Ok(found) => Ok(found),
         Err(refusal) => Err(refusal),
     }
@@ -738,246 +635,4 @@ fn check_found(
         Ok(()) => Ok(()),
         Err(refusal) => Err(refusal),
     }
-}
-
-/// The controller for what a plan does where it reaches: first with short rules, and if these don't make
-/// one, with full ones. `None` where these don't, either.
-fn shown_controller(
-    alloc: Global,
-    asked: &ControlWords,
-    domain: &Domain,
-    problem: &Problem,
-    grounded: &Grounded,
-    followed: &Followed,
-) -> Result<Option<Shown>, Refusal>
-    requires room { IsNodeLimit asked.now.plan.options.nodes }
-    requires goal { has_goal_for (kind_of asked.now.plan.kind) (problem_value problem.now)
-        ≡ true }
-    requires grounded { IsGroundedOf (domain_value domain.now) (problem_value problem.now)
-        grounded.now }
-    ensures shown { IfOk result (λ found. IfSome found (λ shown.
-        IsControllerShown (control_words_of asked.now)
-        (domain_value domain.now) (problem_value problem.now) (shown_of shown))) }
-    ensures refused { IfErr result (λ refusal. IsControlRefusal (control_words_of asked.now)
-        (domain_value domain.now) (problem_value problem.now) (refusal_of refusal)) }
-{
-    let short = shown_rules(
-        alloc,
-        asked,
-        domain,
-        problem,
-        grounded,
-        followed,
-        Length::Short,
-    )?;
-    if short.is_some() {
-        return Ok(short);
-    }
-    shown_rules(
-        alloc,
-        asked,
-        domain,
-        problem,
-        grounded,
-        followed,
-        Length::Full,
-    )
-}
-
-/// The controller with rules of this length, if they make one.
-fn shown_rules(
-    alloc: Global,
-    asked: &ControlWords,
-    domain: &Domain,
-    problem: &Problem,
-    grounded: &Grounded,
-    followed: &Followed,
-    length: Length,
-) -> Result<Option<Shown>, Refusal>
-    requires room { IsNodeLimit asked.now.plan.options.nodes }
-    requires goal { has_goal_for (kind_of asked.now.plan.kind) (problem_value problem.now)
-        ≡ true }
-    requires grounded { IsGroundedOf (domain_value domain.now) (problem_value problem.now)
-        grounded.now }
-    ensures shown { IfOk result (λ found. IfSome found (λ shown.
-        IsControllerShown (control_words_of asked.now)
-        (domain_value domain.now) (problem_value problem.now) (shown_of shown))) }
-    ensures refused { IfErr result (λ refusal. IsControlRefusal (control_words_of asked.now)
-        (domain_value domain.now) (problem_value problem.now) (refusal_of refusal)) }
-{
-    let rules = rules_of(alloc, followed, grounded.task.fluents.len() as u32, length)?;
-    let plan = plan_of(alloc, asked.plan.kind, &rules)?;
-    let steps = steps_of(alloc, &rules)?;
-    shown_made(alloc, asked, domain, problem, grounded, &plan, &steps)
-}
-
-/// A plan that a search made as a controller, if it is one and there is room to judge it.
-fn shown_made(
-    alloc: Global,
-    asked: &ControlWords,
-    domain: &Domain,
-    problem: &Problem,
-    grounded: &Grounded,
-    plan: &Plan,
-    steps: &[u32],
-) -> Result<Option<Shown>, Refusal>
-    requires room { IsNodeLimit asked.now.plan.options.nodes }
-    requires goal { has_goal_for (kind_of asked.now.plan.kind) (problem_value problem.now)
-        ≡ true }
-    requires grounded { IsGroundedOf (domain_value domain.now) (problem_value problem.now)
-        grounded.now }
-    ensures shown { IfOk result (λ found. IfSome found (λ shown.
-        IsControllerShown (control_words_of asked.now)
-        (domain_value domain.now) (problem_value problem.now) (shown_of shown))) }
-    ensures refused { IfErr result (λ refusal. IsControlRefusal (control_words_of asked.now)
-        (domain_value domain.now) (problem_value problem.now) (refusal_of refusal)) }
-{
-    if !is_judged_good(alloc, asked, domain, problem, grounded, plan)? {
-        return Ok(None);
-    }
-    let shown = shown_judged(alloc, asked, domain, problem, grounded, plan, steps)?;
-    Ok(Some(shown))
-}
-
-/// Whether a plan is judged to be a controller. It isn't where there is no room to judge it.
-fn is_judged_good(
-    alloc: Global,
-    asked: &ControlWords,
-    domain: &Domain,
-    problem: &Problem,
-    grounded: &Grounded,
-    plan: &Plan,
-) -> Result<bool, Refusal>
-    requires room { IsNodeLimit asked.now.plan.options.nodes }
-    requires goal { has_goal_for (kind_of asked.now.plan.kind) (problem_value problem.now)
-        ≡ true }
-    requires grounded { IsGroundedOf (domain_value domain.now) (problem_value problem.now)
-        grounded.now }
-    ensures judged { IfOk result (λ is. IsTrue is → IsJudged (kind_of asked.now.plan.kind)
-        grounded.now.task grounded.now.ctl (plain_of plan.now)) }
-    ensures in_task { IfOk result (λ is. IsTrue is
-        → IsPlanOf (fluent_count grounded.now.task) (action_count grounded.now.task) plan.now) }
-    ensures refused { IfErr result (λ refusal. refusal_of refusal ≡ no_memory) }
-{
-    match is_good(alloc, asked, domain, problem, grounded, plan) {
-        Ok(is) => Ok(is),
-        Err(Refusal::NoMemory) => Err(Refusal::NoMemory),
-        Err(_) => Ok(false),
-    }
-}
-
-/// A plan as a controller, if it is one.
-fn shown_plan(
-    alloc: Global,
-    asked: &ControlWords,
-    domain: &Domain,
-    problem: &Problem,
-    grounded: &Grounded,
-    plan: &Plan,
-    steps: &[u32],
-) -> Result<Option<Shown>, Refusal>
-    requires room { IsNodeLimit asked.now.plan.options.nodes }
-    requires goal { has_goal_for (kind_of asked.now.plan.kind) (problem_value problem.now)
-        ≡ true }
-    requires grounded { IsGroundedOf (domain_value domain.now) (problem_value problem.now)
-        grounded.now }
-    ensures shown { IfOk result (λ found. IfSome found (λ shown.
-        IsControllerShown (control_words_of asked.now)
-        (domain_value domain.now) (problem_value problem.now) (shown_of shown))) }
-    ensures refused { IfErr result (λ refusal. IsShownRefusal (control_words_of asked.now)
-        (domain_value domain.now) (problem_value problem.now) grounded.now.task
-        (plain_of plan.now) (refusal_of refusal)) }
-{
-    if !is_good(alloc, asked, domain, problem, grounded, plan)? {
-        return Ok(None);
-    }
-    let shown = shown_judged(alloc, asked, domain, problem, grounded, plan, steps)?;
-    Ok(Some(shown))
-}
-
-/// Whether a plan is judged to be a controller.
-fn is_good(
-    alloc: Global,
-    asked: &ControlWords,
-    domain: &Domain,
-    problem: &Problem,
-    grounded: &Grounded,
-    plan: &Plan,
-) -> Result<bool, Refusal>
-    requires room { IsNodeLimit asked.now.plan.options.nodes }
-    requires goal { has_goal_for (kind_of asked.now.plan.kind) (problem_value problem.now)
-        ≡ true }
-    requires grounded { IsGroundedOf (domain_value domain.now) (problem_value problem.now)
-        grounded.now }
-    ensures judged { IfOk result (λ is. IsTrue is → IsJudged (kind_of asked.now.plan.kind)
-        grounded.now.task grounded.now.ctl (plain_of plan.now)) }
-    ensures in_task { IfOk result (λ is. IsTrue is
-        → IsPlanOf (fluent_count grounded.now.task) (action_count grounded.now.task) plan.now) }
-    ensures refused { IfErr result (λ refusal. IsJudgeRefusal (kind_of asked.now.plan.kind)
-        asked.now.plan.options.nodes grounded.now.task (plain_of plan.now) (refusal_of refusal)) }
-{
-    is_controller(
-        alloc,
-        asked.plan.kind,
-        asked.plan.options.nodes,
-        grounded,
-        plan,
-    )
-}
-
-/// A plan that was judged to be a controller, as it is shown, unless its text is too long.
-fn shown_judged(
-    alloc: Global,
-    asked: &ControlWords,
-    domain: &Domain,
-    problem: &Problem,
-    grounded: &Grounded,
-    plan: &Plan,
-    steps: &[u32],
-) -> Result<Shown, Refusal>
-    requires goal { has_goal_for (kind_of asked.now.plan.kind) (problem_value problem.now)
-        ≡ true }
-    requires grounded { IsGroundedOf (domain_value domain.now) (problem_value problem.now)
-        grounded.now }
-    requires judged { IsJudged (kind_of asked.now.plan.kind) grounded.now.task grounded.now.ctl
-        (plain_of plan.now) }
-    requires in_task { IsPlanOf (fluent_count grounded.now.task) (action_count grounded.now.task)
-        plan.now }
-    ensures shown { IfOk result (λ shown. IsControllerShown (control_words_of asked.now)
-        (domain_value domain.now) (problem_value problem.now) (shown_of shown)) }
-    ensures refused { IfErr result (λ refusal. IsControlRefusal (control_words_of asked.now)
-        (domain_value domain.now) (problem_value problem.now) (refusal_of refusal)) }
-{
-    // These do nothing: that what is judged to be good meets the problem rests on what they promise.
-    grounded_goals_are_true();
-    yes_is_solution();
-    good_rules_control();
-    match write_controller(alloc, plan, steps, &grounded.task, MAX_BYTES)? {
-        Some(text) => {
-            let shown = shown_as(alloc, asked.json, text, plan, &grounded.task)?;
-            Ok(shown)
-        }
-        None => Err(Refusal::OverLimit(Limit::File)),
-    }
-}
-
-/// A controller as it is shown: its text, or, as JSON, the document of its plan.
-fn shown_as(
-    alloc: Global,
-    json: bool,
-    text: Vec<u8>,
-    plan: &Plan,
-    task: &Task,
-) -> Result<Shown, AllocError>
-    requires in_task { IsPlanOf (fluent_count task.now) (action_count task.now) plan.now }
-    requires told { IsToldInFull (plain_of plan.now) }
-    ensures { IfOk result (λ shown. shown_of shown
-        ≡ affirmed (bytes_as json (fluent_names task.now) (action_names task.now)
-        (plain_of plan.now) text.items)) }
-{
-    if json {
-        let document = plan_document(alloc, plan, task)?;
-        return Ok(Shown::Affirmed(Text::Made(document)));
-    }
-    Ok(Shown::Affirmed(Text::Made(text)))
 }

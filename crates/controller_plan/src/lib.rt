@@ -4,11 +4,13 @@
 //! `control` finds the plan with the planners of `plan_command`, as sets of states, follows it from the
 //! initial states (`followed`, `searches`, `context_searches`), and makes rules of what it does there
 //! (`rules`, `plans`). None of that is trusted: the plan is judged by the proved checker, and what isn't
-//! found to be a controller isn't shown (`judged`, and `controller_rules` for what its rules are to be
-//! beside). All other answers are those of the command `plan`: that there is no plan, and each refusal.
+//! found to be a controller isn't shown (`made`, `judged`, and `controller_rules` for what its rules are
+//! to be beside). All other answers are those of the command `plan`: that there is no plan, and each refusal,
+//! below which `answer_help` says more.
 //!
-//! `specs/` says what the call answers: `Words` which words say what is wanted, `Controllers` the
-//! answer, `Runs` a run with its cause, and `Laws` what follows of each run.
+//! `specs/` says what the call answers: `Words` which words say what is wanted, `WrongWords` what is
+//! wrong with others, `Controllers` the answer, `Runs` a run with its cause, and `Laws` what follows of
+//! each run.
 #![tactic(auto)]
 
 mod commands;
@@ -16,6 +18,8 @@ mod context_searches;
 mod followed;
 mod judged;
 mod laws;
+mod made;
+mod node_words;
 mod own_states;
 mod plans;
 mod reach;
@@ -27,6 +31,7 @@ mod set_judge;
 mod state_plans;
 mod top;
 mod words;
+mod wrong_words;
 
 pub use laws::{controllers_meet, no_plan_is_there};
 pub use top::control;

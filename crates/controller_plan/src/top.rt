@@ -1,24 +1,27 @@
 //! The call.
 
+ghost use Rattle.answer_help.specs.Keeping.{KeepsAfter, faults_by, held_by, kept_in};
 ghost use Rattle.controller_plan.specs.Runs.{HasControlled};
 ghost use Rattle.command_base.specs.Delivery.{seen};
-ghost use Rattle.std.specs.Prelude.{◌≡◌, map, string_bytes};
+ghost use Rattle.std.specs.Prelude.{◌≡◌, [], map, string_bytes};
 
 use crate::commands::answer;
-use command_base::deliver;
+use crate::wrong_words::wrong_control;
+use answer_help::{HelpSource, KeepingShelf, deliver_helped};
 use plan_io::{Shelf, Sink};
 use std::alloc::Global;
 
 /// Makes the controller that the words ask for, writes it, and gives the exit status.
 ///
-/// The words are `KIND DOMAIN PROBLEM`, then `--nodes N` or nothing, and then `--json` or nothing,
-/// where KIND, DOMAIN, PROBLEM and N are those of `mbp plan`. The controller, or
-/// `no plan`, goes to `out`; every other answer is one line on `err`. The statuses are those of
+/// The words are `KIND DOMAIN PROBLEM`, then for a class `--cert` or nothing, then `--nodes N` or
+/// nothing, and then `--json` or nothing, where KIND, DOMAIN, PROBLEM and N are those of `mbp plan`.
+/// The controller, or `no plan`, goes to `out`. Every other answer goes to `err`: one line, and below
+/// it, where it is a fault in a file or in the words, what helps to find it. The statuses are those of
 /// `plan`:
 ///
 /// - 0: a controller is on `out`: a plan of the kind that meets the problem, with rules for the
 ///   states alone that it reaches, as text or as a JSON document;
-/// - 1: there is no plan of the kind;
+/// - 1: there is no plan of the kind; with `--cert` a certificate of that stands below;
 /// - 4: a limit is passed, one of those of `plan`, or: the text would be longer than 1,048,576 bytes;
 ///   of a plan with contexts, there are more than 262,144 initial states, or more than 262,144
 ///   configurations are reached; or no controller was judged to be good;
@@ -26,11 +29,12 @@ use std::alloc::Global;
 pub fn control<S: Shelf, O: Sink, E: Sink>(
     alloc: Global,
     words: &[String],
-    shelf: &mut S,
+    shelf: &mut KeepingShelf<S>,
     out: &mut O,
     err: &mut E,
 ) -> u8
-    ensures { HasControlled S.held S.faults S.fetched (record {
+    requires { kept_in shelf.old ≡ [] }
+    ensures { HasControlled (held_by S.held) (faults_by S.faults) (KeepsAfter S.held S.fetched) (record {
       words = map string_bytes words.now;
       handed = tt;
       shelf = shelf.old;
@@ -43,5 +47,9 @@ pub fn control<S: Shelf, O: Sink, E: Sink>(
     }) }
 {
     let found = answer(alloc, words, shelf);
-    deliver(alloc, &found, out, err)
+    let source = HelpSource {
+        shelf,
+        words: wrong_control(words),
+    };
+    deliver_helped(alloc, &found, &source, out, err)
 }

@@ -2,6 +2,7 @@
 //! `controller_plan::control`.
 #![tactic(auto)]
 
+use answer_help::KeepingShelf;
 use command_base::{NO_MEMORY, command_words};
 use controller_plan::control;
 use plan_io::{DiskShelf, StdSink};
@@ -19,7 +20,7 @@ fn main(rt: HostRuntime) -> ExitCode {
 /// and then nothing is written.
 fn control_words(rt: &HostRuntime) -> io::Result<u8> {
     let words = command_words(rt)?;
-    let mut shelf = DiskShelf::new(rt);
+    let mut shelf = KeepingShelf::new(rt.alloc(), DiskShelf::new(rt));
     let mut out = StdSink::new(rt.stdout());
     let mut err = StdSink::new(rt.stderr());
     Ok(control(rt.alloc(), &words, &mut shelf, &mut out, &mut err))

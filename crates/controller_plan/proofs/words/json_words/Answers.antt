@@ -9,8 +9,7 @@ returns-in-Some-clause-said c =
     let words = c.args.words.now in
     let split = last_and_front (string_bytes {Z = Global}) words c.last-item.result c.in-len1-up.len_at_least c.last-item.is in
     let last : string_bytes c.last-item.result ≡ codes "--json" = search rules in
-    json_says (map (string_bytes {Z = Global}) words) (map (string_bytes {Z = Global}) (take (length words - 1) words)) (string_bytes c.last-item.result) (plan_words_of c.in-Some.plan) split last
-    c.in-Some.ensures.said c.in-Some.ensures.plain
+    json_says (map (string_bytes {Z = Global}) words) (map (string_bytes {Z = Global}) (take (length words - 1) words)) (string_bytes c.last-item.result) (plan_words_of c.in-Some.plan) split last c.in-Some.ensures.said
 
 pub returns-in-None-clause-said : goal.returns-in-None-clause-said
 returns-in-None-clause-said c =

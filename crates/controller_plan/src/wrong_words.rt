@@ -1,0 +1,164 @@
+//! What is wrong with words that ask for no controller.
+
+ghost use Rattle.answer_help.specs.Values.{wrong_of};
+ghost use Rattle.controller_plan.specs.WrongWords.{
+  is_option as is_an_option,
+  names_kind as names_a_kind,
+  option_reason as reason_for,
+  wrong_after_all as wrong_after_them,
+  wrong_after_kind as wrong_behind_kind,
+  wrong_after_nodes as wrong_behind_nodes,
+  wrong_at_cert as wrong_by_cert,
+  wrong_control as wrong_in,
+  wrong_from_nodes as wrong_in_nodes,
+  wrong_from_json as wrong_in_json,
+  wrong_options as wrong_in_options,
+};
+ghost use Rattle.std.specs.Prelude.{◌≡◌, map, string_bytes};
+
+use answer_help::{NO_KIND, NO_NODES, NO_OPTION, NO_VALUE, WrongWords};
+
+/// Why an option is wrong that stands where another one has to, or none.
+pub(crate) const WRONG_ORDER: &str =
+    "the options are `--cert`, `--nodes N` and `--json`, in this order, each once";
+
+/// Why `--cert` is wrong after `ctl`.
+pub(crate) const NO_CERTIFICATE: &str = "there are no certificates for `ctl`";
+
+/// What is wrong with words that ask for no controller.
+pub(crate) fn wrong_control<'a>(words: &'a [String]) -> WrongWords<'a>
+    ensures { wrong_of result ≡ wrong_in (map string_bytes words.now) }
+{
+    let [kind, rest @ ..] = words else {
+        return WrongWords::TooFew;
+    };
+    if names_kind(kind) {
+        return wrong_after_kind(kind, rest);
+    }
+    WrongWords::Word {
+        word: kind,
+        why: NO_KIND,
+    }
+}
+
+/// Whether a word names a class, or is `ctl`.
+fn names_kind(word: &str) -> bool
+    ensures { result ≡ names_a_kind word.now }
+{
+    word == "weak" || word == "strong" || word == "cyclic" || word == "ctl"
+}
+
+/// What is wrong with the words after a kind.
+fn wrong_after_kind<'a>(kind: &str, words: &'a [String]) -> WrongWords<'a>
+    ensures { wrong_of result ≡ wrong_behind_kind kind.now (map string_bytes words.now) }
+{
+    let [_domain, _problem, options @ ..] = words else {
+        return WrongWords::TooFew;
+    };
+    wrong_options(kind, options)
+}
+
+/// What is wrong with the options.
+fn wrong_options<'a>(kind: &str, words: &'a [String]) -> WrongWords<'a>
+    ensures { wrong_of result ≡ wrong_in_options kind.now (map string_bytes words.now) }
+{
+    let [word, rest @ ..] = words else {
+        return WrongWords::TooFew;
+    };
+    if word.as_str() == "--cert" {
+        return wrong_at_cert(kind, word, rest);
+    }
+    wrong_from_nodes(words)
+}
+
+/// What is wrong with `--cert`, which is this word, and the words after it.
+fn wrong_at_cert<'a>(kind: &str, word: &'a str, words: &'a [String]) -> WrongWords<'a>
+    ensures { wrong_of result ≡ wrong_by_cert kind.now word.now (map string_bytes words.now) }
+{
+    if kind == "ctl" {
+        return WrongWords::Word {
+            word,
+            why: NO_CERTIFICATE,
+        };
+    }
+    wrong_from_nodes(words)
+}
+
+/// What is wrong where `--nodes` may stand, and `--json` after it.
+fn wrong_from_nodes<'a>(words: &'a [String]) -> WrongWords<'a>
+    ensures { wrong_of result ≡ wrong_in_nodes (map string_bytes words.now) }
+{
+    let [word, rest @ ..] = words else {
+        return WrongWords::TooFew;
+    };
+    if word.as_str() == "--nodes" {
+        return wrong_after_nodes(word, rest);
+    }
+    wrong_from_json(WrongWords::TooFew, words)
+}
+
+/// What is wrong with the words after `--nodes`, which is this word.
+fn wrong_after_nodes<'a>(nodes: &'a str, words: &'a [String]) -> WrongWords<'a>
+    ensures { wrong_of result ≡ wrong_behind_nodes nodes.now (map string_bytes words.now) }
+{
+    let [number, rest @ ..] = words else {
+        return WrongWords::Word {
+            word: nodes,
+            why: NO_VALUE,
+        };
+    };
+    let no_number = WrongWords::Word {
+        word: number,
+        why: NO_NODES,
+    };
+    wrong_from_json(no_number, rest)
+}
+
+/// What is wrong where `--json` may stand; `otherwise` where it is nothing.
+fn wrong_from_json<'a>(otherwise: WrongWords<'a>, words: &'a [String]) -> WrongWords<'a>
+    ensures { wrong_of result
+        ≡ wrong_in_json (wrong_of otherwise.entry) (map string_bytes words.now) }
+{
+    let [word, rest @ ..] = words else {
+        return otherwise;
+    };
+    if word.as_str() == "--json" {
+        return wrong_after_all(otherwise, rest);
+    }
+    WrongWords::Word {
+        word,
+        why: option_reason(word),
+    }
+}
+
+/// What is wrong with words after which none may stand; `otherwise` where there are none.
+fn wrong_after_all<'a>(otherwise: WrongWords<'a>, words: &'a [String]) -> WrongWords<'a>
+    ensures { wrong_of result
+        ≡ wrong_after_them (wrong_of otherwise.entry) (map string_bytes words.now) }
+{
+    let [word, ..] = words else {
+        return otherwise;
+    };
+    WrongWords::Word {
+        word,
+        why: option_reason(word),
+    }
+}
+
+/// Why a word is wrong that is none of the options that may stand in its place.
+fn option_reason(word: &str) -> &'static str
+    ensures { result.now ≡ reason_for word.now }
+{
+    if is_option(word) {
+        WRONG_ORDER
+    } else {
+        NO_OPTION
+    }
+}
+
+/// Whether a word is an option.
+fn is_option(word: &str) -> bool
+    ensures { result ≡ is_an_option word.now }
+{
+    word == "--nodes" || word == "--cert" || word == "--json"
+}
