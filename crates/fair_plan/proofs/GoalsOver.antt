@@ -6,7 +6,7 @@ use Rattle.ctl_syntax.specs.GoalValues.{EachInStage, GoalIsAtMostDeep, GoalNames
 use Rattle.ctl_syntax.specs.declared.context_goals.ContextGoal.{ContextGoal}
 use Rattle.ctl_syntax.specs.declared.context_goals.ContextGoal.TheVariants.{Until, Patrol}
 use Rattle.ctl_syntax.specs.declared.context_goals.UntilStage.{UntilStage}
-use Rattle.task_core.specs.Conditions.{depth, ids_below, is_shallow}
+use Rattle.task_core.specs.Conditions.{depth, ids_below}
 use Rattle.task_core.specs.declared.conditions.Cond.{Cond}
 use Rattle.fair_plan.specs.Goals.{HasVisit, IsConditionOver, IsFairGoalOver, count_of, most_of}
 

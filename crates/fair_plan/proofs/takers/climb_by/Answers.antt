@@ -1,4 +1,4 @@
-use Rattle.std.proofs.Common.{◌≡◌, ◌+◌, ◌≤◌, arith, length}
+use Rattle.std.proofs.Common.{◌+◌, arith, length}
 use Rattle.std.proofs.lemmas.Result.{err_from_is_err_and}
 use Rattle.board_steps.proofs.StepLemmas.{found_of, passed_on}
 use Rattle.fair_plan.specs.Boards.{Scene}
