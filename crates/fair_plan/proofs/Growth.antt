@@ -39,11 +39,8 @@ abbrev pub near_steps : ActionId → ℕ → List Step
 near_steps a pairs = Lead 0 Outcomes.Some a 2 ∷ Combine 0 Meet 0 pairs ∷ Combine 2 Join 2 0 ∷ []
 
 module _ (origin : Origin) (a : ActionId) (pairs : ℕ) (is : pairs ≡ 8 + a.0) (below : a.0 < actions_of origin) where
-  within : pairs < origin.start.places
+  pub within : pairs < origin.start.places
   within = let p = pair_in origin a.0 below in omega arith
-
-  pub pair_can : AreStepsOf origin (pair_steps a pairs)
-  pair_can = ((within, low origin 4 (omega arith), below), ((low origin 3 (omega arith), low origin 3 (omega arith), within), ((within, within, low origin 6 (omega arith)), tt)))
 
   pub near_can : AreStepsOf origin (near_steps a pairs)
   near_can = ((low origin 0 (omega arith), low origin 2 (omega arith), below), ((low origin 0 (omega arith), low origin 0 (omega arith), within), ((low origin 2 (omega arith), low origin 2 (omega arith), low origin 0 (omega arith)), tt)))

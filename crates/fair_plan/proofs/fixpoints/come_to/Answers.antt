@@ -47,7 +47,7 @@ make-requires-2 c =
     let can : AreStepsOf r.0 (Copy 2 c.args.target ∷ []) = ((low r.0 2 (omega arith), in_start r.0 (c.args.enc.now, c.args.board.now.slots.items) r.1 c.args.target c.requires.target), tt) in
     let first = done r.0 (c.make.new.enc, c.make.new.board.slots.items) _ c.make.result _ c.in_ok-make.was (c.make.ensures r.0 r.1 can) in
     let grown = done r.0 (c.grow.new.enc, c.grow.new.board.slots.items) _ c.grow.result _ c.in_ok-grow.was (c.grow.ensures r.0 first.0) in
-    (r.0, grown.0, ((low r.0 5 (omega arith), low r.0 5 (omega arith), low r.0 2 (omega arith)), tt))
+    (r.0, grown.0, ((low r.0 _ (omega arith), low r.0 _ (omega arith), low r.0 _ (omega arith)), tt))
 
 pub returns : goal.returns
 returns c origin there =
@@ -59,4 +59,4 @@ returns c origin there =
     let first = done origin m _ c.make.result _ c.in_ok-make.was (c.make.ensures origin there ((low origin 2 (omega arith), within), tt)) in
     let grown = done origin n _ c.grow.result _ c.in_ok-grow.was (c.grow.ensures origin first.0) in
     leaves_with origin y _ _ c.make-2.result (λ now last. aimed origin x m n y c.args.target within first.1 grown.1 last)
-    (c.make-2.ensures origin grown.0 ((low origin 5 (omega arith), low origin 5 (omega arith), low origin 2 (omega arith)), tt))
+    (c.make-2.ensures origin grown.0 ((low origin _ (omega arith), low origin _ (omega arith), low origin _ (omega arith)), tt))
