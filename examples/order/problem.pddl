@@ -4,4 +4,4 @@
   (:ctl-goal
     (af (and (reserved)
       (au (not (shipped)) (and (paid)
-        (af (and (shipped) (ag (and (paid) (shipped))))))))))))
+        (af (and (shipped) (ag (and (paid) (shipped)))))))))))
