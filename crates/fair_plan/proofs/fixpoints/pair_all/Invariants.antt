@@ -1,0 +1,7 @@
+use Rattle.fair_plan.specs.Boards.{IsThere, Origin}
+use Rattle.fair_plan.specs.Rounds.{Pairs}
+use Rattle.fair_plan.proofs.fixpoints.pair_all.Given as goal
+
+abbrev pub invariant-loop-a : goal.invariant-loop-a
+invariant-loop-a l = (origin : Origin) → IsThere origin (l.fn.enc, l.fn.board.slots.items)
+    → IsThere origin (l.enc, l.board.slots.items) × Pairs origin (l.fn.enc, l.fn.board.slots.items) (l.enc, l.board.slots.items) l.a

@@ -1,0 +1,7 @@
+use Rattle.fair_plan.specs.Boards.{IsThere, Origin}
+use Rattle.fair_plan.specs.Rounds.{HasVisits}
+use Rattle.fair_plan.proofs.stages.put_visits.Given as goal
+
+abbrev pub invariant-loop-i : goal.invariant-loop-i
+invariant-loop-i l = (origin : Origin) → IsThere origin (l.fn.enc, l.fn.board.slots.items)
+    → IsThere origin (l.enc, l.board.slots.items) × HasVisits origin l.fn.visits l.fn.first (l.enc, l.board.slots.items) l.i

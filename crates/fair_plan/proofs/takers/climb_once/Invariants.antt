@@ -1,0 +1,7 @@
+use Rattle.fair_plan.specs.Boards.{IsThere, Origin}
+use Rattle.fair_plan.specs.Rounds.{ClimbsOnce}
+use Rattle.fair_plan.proofs.takers.climb_once.Given as goal
+
+abbrev pub invariant-loop-a : goal.invariant-loop-a
+invariant-loop-a l = (origin : Origin) → IsThere origin (l.fn.enc, l.fn.board.slots.items)
+    → IsThere origin (l.enc, l.board.slots.items) × ClimbsOnce (l.fn.enc, l.fn.board.slots.items) (l.enc, l.board.slots.items)
