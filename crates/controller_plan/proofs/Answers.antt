@@ -23,8 +23,9 @@ use Rattle.answer_help.specs.declared.keeping.KeepingShelf.{KeepingShelf}
 use Rattle.answer_help.proofs.HelpedFrames.{IsTold, is_helped_run, over_may_fetch, told_fetch}
 use Rattle.controller_plan.specs.Controllers.{AffirmsNothing, ControlThen, IsControlAnswer, IsControlled, IsControllerShown, IsRefuted}
 use Rattle.controller_plan.specs.Judged.{IsControlRefusal}
-use Rattle.controller_plan.specs.Runs.{ControlRun, FetchesForControl, HasControlCause, HasControlled}
-use Rattle.controller_plan.specs.Words.{AskNothing, ControlWords, SaysControl}
+use Rattle.controller_plan.specs.FairWords.{AskNothing, ControlRequest, SaysRequest, domain_of, problem_of}
+use Rattle.controller_plan.specs.Runs.{ControlRun, FetchesForControl, HasControlCause, HasControlled, IsRequestAnswer}
+use Rattle.controller_plan.specs.Words.{ControlWords}
 use Rattle.controller_plan.specs.WrongWords.{wrong_control}
 
 -- one of the files is refused
@@ -116,14 +117,14 @@ plan_answer asked d p found a same none why =
 -- what was found for the words, and what was given for it
 pub has_controlled : {S : Type 0} (held : S → Bytes → Held) (faults : S → ℕ) (fetched : S → Bytes → S → Type 0) (run : ControlRun S) (found given : Answer) (help : Bytes)
     → HasControlCause (held run.shelf) (FailedIn faults fetched run) run.words found
-    → ((asked : ControlWords) → SaysControl run.words asked
-    → FetchesBoth (held run.shelf) fetched asked.plan.domain asked.plan.problem FetchesNothing run.shelf run.shelf_after)
+    → ((asked : ControlRequest) → SaysRequest run.words asked
+    → FetchesBoth (held run.shelf) fetched (domain_of asked) (problem_of asked) FetchesNothing run.shelf run.shelf_after)
     → (AskNothing run.words → run.shelf_after ≡ run.shelf) → IsQuietAt found (faults run.shelf) (faults run.shelf_after)
     → ((file : Bytes) → held run.shelf_after file ≡ held run.shelf file) → faults run.shelf ≤ faults run.shelf_after
     → IsGivenFor found given → IsHelpFor (held run.shelf_after) (wrong_control run.words) given help
     → IsHelpedDelivery help given run.out run.out_after run.err run.err_after run.status → HasControlled held faults fetched run
 has_controlled held faults fetched run =
-    is_helped_run SaysControl (IsControlAnswer (held run.shelf) (FailedIn faults fetched run)) (FetchesForControl (held run.shelf) fetched) wrong_control held faults run
+    is_helped_run SaysRequest (IsRequestAnswer (held run.shelf) (FailedIn faults fetched run)) (FetchesForControl (held run.shelf) fetched) wrong_control held faults run
     (λ asked a did. did)
 
 -- what is kept after a run can be what is told
@@ -136,7 +137,7 @@ module _ {S : Type 0} (held : S → Bytes → Held) (failed : Bytes → Type 0) 
 
   pub told_after : (words : List Bytes) (answer : Answer) (before after : KeepingShelf S) → kept_in before ≡ []
       → HasControlCause (held_by held before) failed words answer
-      → ((asked : ControlWords) → SaysControl words asked → FetchesBoth (held_by held before) (KeepsAfter held fetched) asked.plan.domain asked.plan.problem FetchesNothing before after)
+      → ((asked : ControlRequest) → SaysRequest words asked → FetchesBoth (held_by held before) (KeepsAfter held fetched) (domain_of asked) (problem_of asked) FetchesNothing before after)
       → (AskNothing words → after ≡ before) → IsTold held after
   told_after words answer before after none cause fetches unfetched = go cause where
     begun : IsTold held before
@@ -144,4 +145,4 @@ module _ {S : Type 0} (held : S → Bytes → Held) (failed : Bytes → Type 0) 
 
     go : HasControlCause (held_by held before) failed words answer → IsTold held after
     go (inl (nothing, is)) = subst (IsTold held) (sym (unfetched nothing)) begun
-    go (inr (asked, says, why)) = over_both asked.plan.domain asked.plan.problem before after (fetches asked says) begun
+    go (inr (asked, says, why)) = over_both (domain_of asked) (problem_of asked) before after (fetches asked says) begun

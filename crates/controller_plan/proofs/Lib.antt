@@ -1,4 +1,8 @@
 pub mod Answers
+pub mod FairAnswers
+pub mod FairGoalParts
+pub mod FairRunLaws
+pub mod FairWordLists
 pub mod Limits
 pub mod OneAsked
 pub mod NoPlans

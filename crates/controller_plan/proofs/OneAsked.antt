@@ -1,8 +1,9 @@
 -- No words ask for two controllers.
-use Rattle.std.proofs.Common.{◌≡◌, ◌++◌, ◌∙◌, ℕ, Bool, true, false, List, [], ◌∷◌, length, drop, get_or, inl, inr, refl, sym, ap, codes, subst, append_assoc}
+use Rattle.std.proofs.Common.{◌≡◌, ◌++◌, ◌∙◌, ℕ, Bool, true, false, List, [], ◌∷◌, length, drop, get_or, inl, inr, refl, sym, ap, arith, codes, subst, append_assoc}
 use Rattle.std.specs.Prelude.{◌==◌, if◌then◌else◌}
 use Rattle.std.proofs.lemmas.List.{append_cancel_right}
-use Rattle.command_base.specs.Words.{Bytes, PlanOptions, PlanWords, SaysOptions, SaysPlan, cert_words, kind_word, plan}
+use Rattle.command_base.specs.Words.{Bytes, PlanKind, PlanOptions, PlanWords, SaysOptions, SaysPlan, cert_words, kind_word, of_class, plan, with_contexts}
+use Rattle.task_core.specs.declared.classes.Class.TheVariants.{Weak, Strong, Cyclic}
 use Rattle.command_base.proofs.OneCommand.{one_command}
 use Rattle.controller_plan.specs.Words.{ControlWords, SaysControl, json_word}
 
@@ -61,6 +62,9 @@ module _ (words : List Bytes) (a : ControlWords) (says : SaysControl words a) wh
   whole : words ≡ kind_word a.plan.kind ∷ a.plan.domain ∷ a.plan.problem ∷ ((cert_words a.plan.certified ++ says.plan.rest) ++ json_word a.json)
   whole = says.written ∙ ap (λ (ws : List Bytes). ws ++ json_word a.json) front_is
 
+  pub first_word : get_or words 0 [] ≡ kind_word a.plan.kind
+  first_word = ap (λ (ws : List Bytes). get_or ws 0 []) whole
+
   after_three : drop 3 words ≡ cert_words a.plan.certified ++ last
   after_three = ap (λ (ws : List Bytes). drop 3 ws) whole ∙ append_assoc (cert_words a.plan.certified) says.plan.rest (json_word a.json)
 
@@ -73,6 +77,13 @@ module _ (words : List Bytes) (a : ControlWords) (says : SaysControl words a) wh
 
   asks_json : a.json ≡ (length (after_nodes last) == 1)
   asks_json = json_told a.json ∙ ap (λ (ws : List Bytes). length ws == 1) (sym (json_is says.plan.rest a.plan.options says.plan.options a.json))
+
+-- no kind is named `fair`
+pub no_fair_kind : (kind : PlanKind) → kind_word kind ≡ codes "fair" → ⊥
+no_fair_kind (of_class Weak) same = omega (arith, ap (λ (w : Bytes). get_or w 0 0) same)
+no_fair_kind (of_class Strong) same = omega (arith, ap (λ (w : Bytes). get_or w 0 0) same)
+no_fair_kind (of_class Cyclic) same = omega (arith, ap (λ (w : Bytes). get_or w 0 0) same)
+no_fair_kind with_contexts same = omega (arith, ap (λ (w : Bytes). get_or w 0 0) same)
 
 asked_is : (a b : ControlWords) → a.json ≡ b.json → a.plan ≡ b.plan → a ≡ b
 asked_is a b json plan_is = λ i. record { plan = plan_is i; json = json i }

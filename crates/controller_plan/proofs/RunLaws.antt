@@ -23,10 +23,11 @@ use Rattle.command_base.proofs.Statuses.{shown_at}
 use Rattle.answer_help.specs.Helped.{IsHelpedDelivery}
 use Rattle.controller_plan.specs.Controllers.{ControlThen, IsControlAnswer, IsControlled, IsControllerShown, IsNoPlanShown}
 use Rattle.controller_plan.specs.Laws.{IsControllerRun, IsNoPlanRun}
-use Rattle.controller_plan.specs.Runs.{ControlRun, HasControlCause, HasControlled}
+use Rattle.controller_plan.specs.FairWords.{ControlRequest, to_plan}
+use Rattle.controller_plan.specs.Runs.{ControlRun, HasControlCause, HasControlled, IsRequestAnswer}
 use Rattle.controller_plan.specs.Words.{ControlWords, SaysControl}
 use Rattle.controller_plan.proofs.Answers.{denied_affirms_nothing}
-use Rattle.controller_plan.proofs.OneAsked.{one_asked}
+use Rattle.controller_plan.proofs.FairWordLists.{one_request}
 
 -- the trees that the files spell, and what follows for a shown answer
 pub record ShownFor (held : Bytes → Held) (asked : ControlWords) (a : Answer) : Type 0 where
@@ -57,32 +58,33 @@ shown_answer held failed asked a shown (inr (inr read)) =
 
 shown_cause : (held : Bytes → Held) (failed : Bytes → Type 0) (words : List Bytes) (asked : ControlWords) (a : Answer) → is_shown a ≡ true → SaysControl words asked
     → HasControlCause held failed words a → ShownFor held asked a
-shown_cause held failed words asked a shown says (inl (nothing, is)) = absurd (nothing asked says)
+shown_cause held failed words asked a shown says (inl (nothing, is)) = absurd (nothing (to_plan asked) says)
 shown_cause held failed words asked a shown says (inr (other, said, why)) =
-    subst (λ (k : ControlWords). ShownFor held k a) (one_asked words other asked said says) (shown_answer held failed other a shown why)
+    shown_answer held failed asked a shown
+    (subst (λ (k : ControlRequest). (a ≡ refused no_memory) ⊎ IsRequestAnswer held failed k a) (one_request words other (to_plan asked) said says) why)
 
 -- an answer with status 0 affirms, and one with status 1 denies
-affirms : (a : Answer) → is_shown a ≡ true → status_of a ≡ 0 → (text : Bytes) × (a ≡ affirmed text)
+pub affirms : (a : Answer) → is_shown a ≡ true → status_of a ≡ 0 → (text : Bytes) × (a ≡ affirmed text)
 affirms (affirmed text) shown zero = (text, refl)
 affirms (denied text) shown one = absurd (omega (arith, one))
 affirms (refused refusal) shown zero = absurd (cc shown)
 
-denies : (a : Answer) → is_shown a ≡ true → status_of a ≡ 1 → (text : Bytes) → a ≡ affirmed text → ⊥
+pub denies : (a : Answer) → is_shown a ≡ true → status_of a ≡ 1 → (text : Bytes) → a ≡ affirmed text → ⊥
 denies a shown one text is = let e : 0 ≡ 1 = ap status_of (sym is) ∙ one in omega (arith, e)
 
 -- an answer that was delivered whole with its help has its status, and where it is shown its text was
 -- written
-record Written (a : Answer) (out out' : Seen) (status : ℕ) : Type 0 where
-  is : status ≡ status_of a
-  text : is_shown a ≡ true → out'.written ≡ append_known out.written (text_of a)
+pub record Written (a : Answer) (out out' : Seen) (status : ℕ) : Type 0 where
+  pub is : status ≡ status_of a
+  pub text : is_shown a ≡ true → out'.written ≡ append_known out.written (text_of a)
 
-delivered_whole : (help : Bytes) (a : Answer) (out out' err err' : Seen) (status : ℕ) → IsHelpedDelivery help a out out' err err' status → (status ≡ 7 → ⊥) → Written a out out' status
+pub delivered_whole : (help : Bytes) (a : Answer) (out out' err err' : Seen) (status : ℕ) → IsHelpedDelivery help a out out' err err' status → (status ≡ 7 → ⊥) → Written a out out' status
 delivered_whole help a out out' err err' status (inl (is, inl showed)) not = record { is = is; text = λ shown. showed.output.written }
 delivered_whole help a out out' err err' status (inl (is, inr line)) not = record { is = is; text = λ shown. absurd (true≢false (sym shown ∙ line.unshown)) }
 delivered_whole help a out out' err err' status (inr (is, cut)) not = absurd (not is)
 
 -- what is written of a controller
-as_written : (text : Bytes) (a : Answer) (out out' : Seen) → a ≡ affirmed text
+pub as_written : (text : Bytes) (a : Answer) (out out' : Seen) → a ≡ affirmed text
     → out'.written ≡ append_known out.written (text_of a) → out'.written ≡ append_known out.written text
 as_written text a out out' is written = written ∙ ap (λ (b : Answer). append_known out.written (text_of b)) is
 

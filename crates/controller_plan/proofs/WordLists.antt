@@ -8,7 +8,7 @@ use Rattle.controller_plan.specs.Words.{ControlWords, SaysControl, json_word}
 use Rattle.controller_plan.specs.declared.words.ControlWords.{ControlWords as CodeControlWords}
 
 -- words that ask for a plan where they don't end with `--json`
-plain_says : (words : List Bytes) (asked : ControlWords) → asked.json ≡ false → SaysControl words asked → SaysPlan (codes "plan" ∷ words) asked.plan
+pub plain_says : (words : List Bytes) (asked : ControlWords) → asked.json ≡ false → SaysControl words asked → SaysPlan (codes "plan" ∷ words) asked.plan
 plain_says words asked plain says =
     let whole : words ≡ says.front = says.written ∙ ap (λ j. says.front ++ json_word j) plain ∙ append-nil says.front in
     subst (λ (ws : List Bytes). SaysPlan (codes "plan" ∷ ws) asked.plan) (sym whole) says.plan

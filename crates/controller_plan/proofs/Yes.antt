@@ -25,7 +25,7 @@ use Rattle.task_core.specs.Names.{Name}
 use Rattle.task_core.specs.Systems.{IsSystem, System}
 use Rattle.task_core.specs.Tasks.{action_names as names_of_actions, fluent_names as names_of_fluents}
 use Rattle.command_base.specs.Answers.{Answer, Refusal, affirmed}
-use Rattle.command_base.specs.Grounded.{IsGroundedOf}
+use Rattle.command_base.specs.Grounded.{IsGroundedOf, IsTaskOf}
 use Rattle.command_base.specs.Grounding.{has_goal_for}
 use Rattle.check_command.specs.Judged.{HasGoalIn, IsTaskVerdict}
 use Rattle.plan_meets.specs.Meets.{Meets, PlanMeets}
@@ -125,21 +125,30 @@ by_json : (json : Bool) (d : DomainTree) (p : ProblemTree) (plan : PlainPlan) (s
 by_json false d p plan steps bytes is = is
 by_json true d p plan steps bytes is = refl
 
-shown_over : (asked : ControlWords) (d : DomainTree) (p : ProblemTree) (plan : PlainPlan) (steps : List ℕ) (bytes : Bytes) (a : Answer) (fs as' : List Name)
-    → fs ≡ fluent_names d p → as' ≡ action_names d p → IsController asked.plan.kind d p plan
-    → (bytes ≡ controller_text fs as' plan steps) × (length (controller_text fs as' plan steps) ≤ file_limit) → SpellsPlain fs as' (controller_text fs as' plan steps) plan
-    → a ≡ affirmed (bytes_as asked.json fs as' plan bytes) → IsControllerShown asked d p a
-shown_over asked d p plan steps bytes a fs as' same_fs same_as controller text spells is =
+-- what is shown of a plan, over these names
+pub record ShownText (json : Bool) (d : DomainTree) (p : ProblemTree) (plan : PlainPlan) (steps : List ℕ) (a : Answer) : Type 0 where
+  pub spelled : SpellsPlain (fluent_names d p) (action_names d p) (text_for d p plan steps) plan
+  pub short : length (text_for d p plan steps) ≤ file_limit
+  pub shown : a ≡ affirmed (shown_bytes json d p plan steps)
+
+pub text_shown : (kind : PlanKind) (json : Bool) (d : DomainTree) (p : ProblemTree) (g : Grounded) (a : Answer) → IsTaskOf d p g.task → (shown : IsJudgedShown kind json g a)
+    → ShownText json d p shown.plan shown.steps a
+text_shown kind json d p g a of shown =
     let P : List Name → List Name → Type 0 = λ (xs ys : List Name).
-    ((bytes ≡ controller_text xs ys plan steps) × (length (controller_text xs ys plan steps) ≤ file_limit)) × SpellsPlain xs ys (controller_text xs ys plan steps) plan
-    × (a ≡ affirmed (bytes_as asked.json xs ys plan bytes)) in
-    let all : P (fluent_names d p) (action_names d p) = subst (λ (ys : List Name). P (fluent_names d p) ys) same_as (subst (λ (xs : List Name). P xs as') same_fs (text, spells, is)) in
+    (length (controller_text xs ys shown.plan shown.steps) ≤ file_limit) × SpellsPlain xs ys (controller_text xs ys shown.plan shown.steps) shown.plan
+    × (a ≡ affirmed (bytes_as json xs ys shown.plan (controller_text xs ys shown.plan shown.steps))) in
+    let all : P (fluent_names d p) (action_names d p) = subst (λ (ys : List Name). P (fluent_names d p) ys) (same_actions d p g.task of.task_is)
+    (subst (λ (xs : List Name). P xs (names_of_actions g.task)) (same_fluents d p g.task of.task_is) (shown.short, shown.spelled, shown.shown)) in
     record {
-      plan = plan;
-      steps = steps;
-      text = record { controller = controller; spelled = all.1; short = all.0.1 };
-      shown = all.2 ∙ ap affirmed (by_json asked.json d p plan steps bytes all.0.0);
+      spelled = all.1;
+      short = all.0;
+      shown = all.2 ∙ ap affirmed (by_json json d p shown.plan shown.steps (text_for d p shown.plan shown.steps) refl);
     }
+
+pub text_long : (kind : PlanKind) (d : DomainTree) (p : ProblemTree) (g : Grounded) → IsTaskOf d p g.task → (judged : HasLongJudged kind g) → file_limit < length (text_for d p judged.plan judged.steps)
+text_long kind d p g of judged =
+    subst (λ (ys : List Name). file_limit < length (controller_text (fluent_names d p) ys judged.plan judged.steps)) (same_actions d p g.task of.task_is)
+    (subst (λ (xs : List Name). file_limit < length (controller_text xs (names_of_actions g.task) judged.plan judged.steps)) (same_fluents d p g.task of.task_is) judged.long)
 
 -- what is shown of a plan that was judged
 pub is_shown : (kind : PlanKind) (json : Bool) (g : Grounded) (plan : PlainPlan) (steps : List ℕ) (found : Option (Vec ℕ Global)) (bytes : Vec ℕ Global) (a : Answer)
@@ -167,16 +176,24 @@ is_long kind g plan steps found judged is within =
 module _ (true_goals : GroundedGoalsAreTrue) (law : YesSolves) (control : GoodRulesControl) (asked : ControlWords) (d : DomainTree) (p : ProblemTree) (g : Grounded) (of : IsGroundedOf d p g) where
   shown_controller : (a : Answer) → IsJudgedShown asked.plan.kind asked.json g a → IsControllerShown asked d p a
   shown_controller a shown =
-      shown_over asked d p shown.plan shown.steps (text_over g.task shown.plan shown.steps) a (names_of_fluents g.task) (names_of_actions g.task) (same_fluents d p g.task of.of_task.task_is) (same_actions d p g.task of.of_task.task_is)
-      (judged_controller true_goals law control asked.plan.kind d p g shown.plan of shown.judged) (refl, shown.short) shown.spelled shown.shown
+      let text = text_shown asked.plan.kind asked.json d p g a of.of_task shown in
+      record {
+        plan = shown.plan;
+        steps = shown.steps;
+        text = record {
+          controller = judged_controller true_goals law control asked.plan.kind d p g shown.plan of shown.judged;
+          spelled = text.spelled;
+          short = text.short;
+        };
+        shown = text.shown;
+      }
 
   long_controller : HasLongJudged asked.plan.kind g → HasLongText asked.plan.kind d p
   long_controller judged = record {
     plan = judged.plan;
     steps = judged.steps;
     controller = judged_controller true_goals law control asked.plan.kind d p g judged.plan of judged.judged;
-    long = subst (λ (ys : List Name). file_limit < length (controller_text (fluent_names d p) ys judged.plan judged.steps)) (same_actions d p g.task of.of_task.task_is)
-        (subst (λ (xs : List Name). file_limit < length (controller_text xs (names_of_actions g.task) judged.plan judged.steps)) (same_fluents d p g.task of.of_task.task_is) judged.long);
+    long = text_long asked.plan.kind d p g of.of_task judged;
   }
 
   pub made_refusal : (r : Refusal) → IsMadeRefusal asked.plan.kind g r → IsControlRefusal asked d p r

@@ -1,14 +1,20 @@
 -- What follows for every run that has its cause: statements of laws. `held`, `faults` and `fetched`
 -- are what the shelf tells.
-use Rattle.std.specs.Prelude.{◌≡◌, ℕ, List}
+use Rattle.std.specs.Prelude.{◌≡◌, ℕ, List, Some}
 use Rattle.std.specs.Io.KnownBytes.{append_known}
-use Rattle.pddl_ast.specs.Trees.{DomainTree, ProblemTree}
+use Rattle.pddl_ast.specs.Trees.{DomainTree, FormulaTree, ProblemTree}
 use Rattle.plan_io.specs.Held.{Held}
 use Rattle.command_base.specs.PddlTexts.{HoldBoth}
-use Rattle.plan_command.specs.PlanCommand.{HasNoPlan}
+use Rattle.plan_command.specs.PlanCommand.{HasNoPlan, no_plan_text}
 use Rattle.command_base.specs.Words.{Bytes}
 use Rattle.controller_plan.specs.Controllers.{IsControllerText, IsNoPlanShown, shown_bytes}
 use Rattle.plan_rules.specs.Rules.{PlainPlan}
+use Rattle.ctl_syntax.specs.ContextGoals.{PlainGoal}
+use Rattle.fair_theory.specs.FairPlans.{HasNoFairPlan}
+use Rattle.pddl_system.specs.Systems.{system}
+use Rattle.plan_command.specs.ContextGoals.{context_goal}
+use Rattle.controller_plan.specs.FairControllers.{IsFairText, fair_goal_of}
+use Rattle.controller_plan.specs.FairWords.{FairWords, SaysFair}
 use Rattle.controller_plan.specs.Runs.{ControlRun, HasControlled}
 use Rattle.controller_plan.specs.Words.{ControlWords, SaysControl}
 
@@ -39,3 +45,27 @@ IsNoPlanRun {S} held run =
     × HasNoPlan asked.plan.kind domain problem
     × IsNoPlanShown asked.plan.certified asked.plan.kind domain problem text
     × (run.out_after.written ≡ append_known run.out.written text)
+
+-- status 0 for `fair`: the two files spell a problem, whose goal is an until-chain or a patrol goal, and
+-- what was written is the text of a controller for it whose actions may be tried again, or, as JSON, the
+-- document of one
+abbrev pub IsFairControllerRun : {S : Type 0} → (S → Bytes → Held) → ControlRun S → Type 0
+IsFairControllerRun {S} held run =
+    (asked : FairWords) → SaysFair run.words asked → run.status ≡ 0
+    → (domain : DomainTree) × (problem : ProblemTree) × (goal : PlainGoal FormulaTree)
+    × (plan : PlainPlan) × (steps : List ℕ)
+    × HoldBoth (held run.shelf) asked.domain asked.problem domain problem
+    × (context_goal problem ≡ Some goal)
+    × IsFairText domain problem (fair_goal_of domain problem goal) plan steps
+    × (run.out_after.written
+    ≡ append_known run.out.written (shown_bytes asked.json domain problem plan steps))
+
+-- status 1 for `fair`: no plan with contexts has the goal, whatever its contexts are and however many
+abbrev pub IsNoFairPlanRun : {S : Type 0} → (S → Bytes → Held) → ControlRun S → Type 0
+IsNoFairPlanRun {S} held run =
+    (asked : FairWords) → SaysFair run.words asked → run.status ≡ 1
+    → (domain : DomainTree) × (problem : ProblemTree) × (goal : PlainGoal FormulaTree)
+    × HoldBoth (held run.shelf) asked.domain asked.problem domain problem
+    × (context_goal problem ≡ Some goal)
+    × HasNoFairPlan (system domain problem) (fair_goal_of domain problem goal)
+    × (run.out_after.written ≡ append_known run.out.written no_plan_text)

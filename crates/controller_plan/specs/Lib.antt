@@ -1,4 +1,7 @@
 pub mod Controllers
+pub mod FairControllers
+pub mod FairJudged
+pub mod FairWords
 pub mod Followed
 pub mod Judged
 pub mod Laws

@@ -8,14 +8,21 @@ use Rattle.answer_help.specs.HelpedRuns.{IsHelpedRunOf}
 use Rattle.command_base.specs.Frame.{FailedIn, HasCauseOf, Run}
 use Rattle.command_base.specs.Words.{Bytes}
 use Rattle.controller_plan.specs.Controllers.{IsControlAnswer}
-use Rattle.controller_plan.specs.Words.{ControlWords, SaysControl}
+use Rattle.controller_plan.specs.FairControllers.{IsFairAnswer}
+use Rattle.controller_plan.specs.FairWords.{ControlRequest, SaysRequest, domain_of, problem_of}
+use Rattle.controller_plan.specs.FairWords.{to_plan, to_try}
 use Rattle.controller_plan.specs.WrongWords.{wrong_control}
+
+-- the answer to what is asked for
+abbrev pub IsRequestAnswer : (Bytes → Held) → (Bytes → Type 0) → ControlRequest → Answer → Type 0
+IsRequestAnswer held failed (to_plan asked) = IsControlAnswer held failed asked
+IsRequestAnswer held failed (to_try asked) = IsFairAnswer held failed asked
 
 -- the words ask for nothing; or they ask for a controller, and the answer is the one to that, or
 -- want of memory, which has no further cause
 abbrev pub HasControlCause : (Bytes → Held) → (Bytes → Type 0) → List Bytes → Answer → Type 0
 HasControlCause held failed words answer =
-    HasCauseOf SaysControl (IsControlAnswer held failed) words answer
+    HasCauseOf SaysRequest (IsRequestAnswer held failed) words answer
 
 -- a run: nothing is handed in besides
 abbrev pub ControlRun : Type 0 → Type 0
@@ -24,9 +31,9 @@ ControlRun S = Run S ⊤
 -- the two files were fetched in their order, each once, as far as they were needed, whatever the
 -- answer
 abbrev pub FetchesForControl : {S : Type 0} → (Bytes → Held) → (S → Bytes → S → Type 0)
-    → ControlWords → Answer → S → S → Type 0
+    → ControlRequest → Answer → S → S → Type 0
 FetchesForControl held fetched asked answer before after =
-    FetchesBoth held fetched asked.plan.domain asked.plan.problem FetchesNothing before after
+    FetchesBoth held fetched (domain_of asked) (problem_of asked) FetchesNothing before after
 
 -- an answer was given that has its cause, and was delivered, with help where it is a refusal. The two
 -- files were fetched in their order, each once, as far as they were needed, and none where nothing was
@@ -35,5 +42,5 @@ FetchesForControl held fetched asked answer before after =
 abbrev pub HasControlled : {S : Type 0} → (S → Bytes → Held) → (S → ℕ) → (S → Bytes → S → Type 0)
     → ControlRun S → Type 0
 HasControlled {S} held faults fetched run =
-    IsHelpedRunOf SaysControl (IsControlAnswer (held run.shelf) (FailedIn faults fetched run))
+    IsHelpedRunOf SaysRequest (IsRequestAnswer (held run.shelf) (FailedIn faults fetched run))
     (FetchesForControl (held run.shelf) fetched) wrong_control held faults run

@@ -19,7 +19,3 @@ pub record SaysControl (words : List Bytes) (asked : ControlWords) : Type 0 wher
   pub front : List Bytes
   pub written : words ≡ front ++ json_word asked.json
   pub plan : SaysPlan (codes "plan" ∷ front) asked.plan
-
--- the words ask for no controller
-abbrev pub AskNothing : List Bytes → Type 0
-AskNothing words = (asked : ControlWords) → SaysControl words asked → ⊥

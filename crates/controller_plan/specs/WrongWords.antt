@@ -4,15 +4,16 @@ use Rattle.std.specs.Prelude.{Bool, ◌||◌, if◌then◌else◌, ℕ, List, []
 use Rattle.std.specs.Str.{bytes_eq}
 use Rattle.command_base.specs.Words.{Bytes}
 use Rattle.answer_help.specs.WrongWords.{WrongWords, too_few, wrong}
-use Rattle.answer_help.specs.declared.wrong_words.TheConstants.{NO_KIND, NO_NODES, NO_OPTION}
-use Rattle.answer_help.specs.declared.wrong_words.TheConstants.{NO_VALUE}
-use Rattle.controller_plan.specs.declared.wrong_words.TheConstants.{NO_CERTIFICATE, WRONG_ORDER}
+use Rattle.answer_help.specs.declared.wrong_words.TheConstants.{NO_NODES, NO_OPTION, NO_VALUE}
+use Rattle.controller_plan.specs.declared.wrong_words.TheConstants.{NO_CERTIFICATE, NO_CONTROLLER}
+use Rattle.controller_plan.specs.declared.wrong_words.TheConstants.{WRONG_ORDER}
 
--- the word names a class, or it is `ctl`
+-- the word names a class, or it is `ctl` or `fair`
 abbrev pub names_kind : Bytes → Bool
 names_kind word =
     bytes_eq word (codes "weak") || bytes_eq word (codes "strong")
     || bytes_eq word (codes "cyclic") || bytes_eq word (codes "ctl")
+    || bytes_eq word (codes "fair")
 
 -- the word is an option
 abbrev pub is_option : Bytes → Bool
@@ -51,7 +52,8 @@ wrong_from_nodes (word ∷ words) =
 -- what is wrong with `--cert`, which is this word, and the words after it, after this kind
 abbrev pub wrong_at_cert : Bytes → Bytes → List Bytes → WrongWords
 wrong_at_cert kind word words =
-    if bytes_eq kind (codes "ctl") then wrong word NO_CERTIFICATE.now else wrong_from_nodes words
+    if bytes_eq kind (codes "ctl") || bytes_eq kind (codes "fair")
+    then wrong word NO_CERTIFICATE.now else wrong_from_nodes words
 
 -- what is wrong with the options
 abbrev pub wrong_options : Bytes → List Bytes → WrongWords
@@ -70,4 +72,4 @@ wrong_after_kind kind (domain ∷ problem ∷ options) = wrong_options kind opti
 abbrev pub wrong_control : List Bytes → WrongWords
 wrong_control [] = too_few
 wrong_control (kind ∷ words) =
-    if names_kind kind then wrong_after_kind kind words else wrong kind NO_KIND.now
+    if names_kind kind then wrong_after_kind kind words else wrong kind NO_CONTROLLER.now

@@ -11,7 +11,13 @@ ghost use Rattle.controller_plan.specs.Controllers.{
 ghost use Rattle.controller_plan.specs.Judged.{IsControlRefusal};
 ghost use Rattle.controller_plan.specs.Runs.{HasControlCause};
 ghost use Rattle.controller_plan.specs.Values.{control_words_of};
-ghost use Rattle.controller_plan.specs.Words.{AskNothing, ControlWords as AskedControl, SaysControl};
+ghost use Rattle.controller_plan.specs.FairWords.{
+  AskNothing,
+  ControlRequest as AskedControl,
+  SaysRequest,
+  domain_of,
+  problem_of,
+};
 ghost use Rattle.command_base.specs.Answers.{affirmed, full, no_memory, refused};
 ghost use Rattle.command_base.specs.Faults.{IsQuietAt};
 ghost use Rattle.command_base.specs.Fetching.{FetchesBoth};
@@ -44,12 +50,14 @@ ghost use Rattle.std.specs.Prelude.{
 };
 ghost use Rattle.task_core.specs.Tasks.{action_count, action_names, fluent_count, fluent_names};
 
+use crate::fair::fair_files;
 use crate::followed::Followed;
 use crate::made::{Wanted, shown_controller, shown_plan, shown_table};
 use crate::reach::{check_reached, plan_in};
 use crate::refuted::{certificate_of, is_accepted, is_certificate_of, text_of_no_plan};
+use crate::requests::{ControlRequest, read_request};
 use crate::searches::{Effort, Searched, follow_found, seek};
-use crate::words::{ControlWords, read_words};
+use crate::words::ControlWords;
 use command_base::{Limit, PlanKind, Refusal, Shown, Text, check_goal, ground_both, read_both};
 use controller_rules::good_rules_control;
 use ground_task::Grounded;
@@ -73,17 +81,18 @@ pub(crate) fn answer<S: Shelf>(
     ensures cause { let failed = FailedLast S.fetched S.faults shelf.old shelf.new in
         HasControlCause (S.held shelf.old) failed (map string_bytes words.now)
         (answer_of result) }
-    ensures fetches { (asked : AskedControl) → SaysControl (map string_bytes words.now) asked
-        → FetchesBoth (S.held shelf.old) S.fetched asked.plan.domain asked.plan.problem
+    ensures fetches { (asked : AskedControl) → SaysRequest (map string_bytes words.now) asked
+        → FetchesBoth (S.held shelf.old) S.fetched (domain_of asked) (problem_of asked)
         FetchesNothing shelf.old shelf.new }
     ensures no_fetch { AskNothing (map string_bytes words.now) → shelf.new ≡ shelf.old }
     ensures quiet_at { IsQuietAt (answer_of result) (S.faults shelf.old) (S.faults shelf.new) }
     ensures kept { (file : List ℕ) → S.held shelf.new file ≡ S.held shelf.old file }
     ensures later { S.faults shelf.old ≤ S.faults shelf.new }
 {
-    match read_words(words) {
-        Some(asked) => control_files(alloc, shelf, &asked),
-        None => Err(Refusal::NoCommand),
+    match read_request(words) {
+        ControlRequest::Plan(asked) => control_files(alloc, shelf, &asked),
+        ControlRequest::Fair(asked) => fair_files(alloc, shelf, &asked),
+        ControlRequest::Nothing => Err(Refusal::NoCommand),
     }
 }
 

@@ -1,7 +1,13 @@
 //! Laws on runs: what follows wherever an answer that has its cause was delivered, as `control` says
 //! it.
 
-ghost use Rattle.controller_plan.specs.Laws.{IsControllerRun, IsNoPlanRun, OfControlRuns};
+ghost use Rattle.controller_plan.specs.Laws.{
+  IsControllerRun,
+  IsFairControllerRun,
+  IsNoFairPlanRun,
+  IsNoPlanRun,
+  OfControlRuns,
+};
 
 use plan_io::Shelf;
 
@@ -14,4 +20,14 @@ pub fn controllers_meet<S: Shelf>()
 /// Status 1 comes where there is no plan.
 pub fn no_plan_is_there<S: Shelf>()
     ensures { OfControlRuns S.held S.faults S.fetched (IsNoPlanRun S.held) }
+{}
+
+/// Status 0 for `fair` comes with a controller whose actions may be tried again.
+pub fn fair_controllers_have_the_goal<S: Shelf>()
+    ensures { OfControlRuns S.held S.faults S.fetched (IsFairControllerRun S.held) }
+{}
+
+/// Status 1 for `fair` comes where no plan with contexts has the goal.
+pub fn no_fair_plan_is_there<S: Shelf>()
+    ensures { OfControlRuns S.held S.faults S.fetched (IsNoFairPlanRun S.held) }
 {}

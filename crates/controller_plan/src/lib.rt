@@ -8,13 +8,19 @@
 //! to be beside). All other answers are those of the command `plan`: that there is no plan, and each refusal,
 //! below which `answer_help` says more.
 //!
-//! `specs/` says what the call answers: `Words` which words say what is wanted, `WrongWords` what is
-//! wrong with others, `Controllers` the answer, `Runs` a run with its cause, and `Laws` what follows of
-//! each run.
+//! A controller for a goal with stages whose actions may be tried again (`fair`) is found by `fair_plan`,
+//! and judged by the goal that `fair_theory` puts in the place of the problem's.
+//!
+//! `specs/` says what the call answers: `Words` and `FairWords` which words say what is wanted,
+//! `WrongWords` what is wrong with others, `Controllers` and `FairControllers` the answer, `Runs` a run
+//! with its cause, and `Laws` what follows of each run.
 #![tactic(auto)]
 
 mod commands;
 mod context_searches;
+mod fair;
+mod fair_search;
+mod fair_words;
 mod followed;
 mod judged;
 mod laws;
@@ -24,6 +30,7 @@ mod own_states;
 mod plans;
 mod reach;
 mod refuted;
+mod requests;
 mod rules;
 mod searches;
 mod served;
@@ -33,5 +40,7 @@ mod top;
 mod words;
 mod wrong_words;
 
-pub use laws::{controllers_meet, no_plan_is_there};
+pub use laws::{
+    controllers_meet, fair_controllers_have_the_goal, no_fair_plan_is_there, no_plan_is_there,
+};
 pub use top::control;

@@ -69,7 +69,11 @@ pub(crate) fn shown_table(
 }
 
 /// The same for a plan that may be one for another task.
-fn shown_found(alloc: Global, wanted: &Wanted<'_>, plan: &Plan) -> Result<Option<Shown>, Refusal>
+pub(crate) fn shown_found(
+    alloc: Global,
+    wanted: &Wanted<'_>,
+    plan: &Plan,
+) -> Result<Option<Shown>, Refusal>
     requires { CanBeJudged (kind_of wanted.now.kind) wanted.now.nodes wanted.now.grounded.now }
     ensures shown { IfOk result (λ found. IfSome found (λ shown.
         IsJudgedShown (kind_of wanted.now.kind) wanted.now.json wanted.now.grounded.now

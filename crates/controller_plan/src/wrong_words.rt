@@ -16,14 +16,17 @@ ghost use Rattle.controller_plan.specs.WrongWords.{
 };
 ghost use Rattle.std.specs.Prelude.{◌≡◌, map, string_bytes};
 
-use answer_help::{NO_KIND, NO_NODES, NO_OPTION, NO_VALUE, WrongWords};
+use answer_help::{NO_NODES, NO_OPTION, NO_VALUE, WrongWords};
+
+/// Why a word is wrong that stands where a class, `ctl` or `fair` is wanted.
+pub(crate) const NO_CONTROLLER: &str = "none of `weak`, `strong`, `cyclic`, `ctl` and `fair`";
 
 /// Why an option is wrong that stands where another one has to, or none.
 pub(crate) const WRONG_ORDER: &str =
     "the options are `--cert`, `--nodes N` and `--json`, in this order, each once";
 
-/// Why `--cert` is wrong after `ctl`.
-pub(crate) const NO_CERTIFICATE: &str = "there are no certificates for `ctl`";
+/// Why `--cert` is wrong after `ctl` and `fair`.
+pub(crate) const NO_CERTIFICATE: &str = "there are no certificates for `ctl` and `fair`";
 
 /// What is wrong with words that ask for no controller.
 pub(crate) fn wrong_control<'a>(words: &'a [String]) -> WrongWords<'a>
@@ -37,15 +40,15 @@ pub(crate) fn wrong_control<'a>(words: &'a [String]) -> WrongWords<'a>
     }
     WrongWords::Word {
         word: kind,
-        why: NO_KIND,
+        why: NO_CONTROLLER,
     }
 }
 
-/// Whether a word names a class, or is `ctl`.
+/// Whether a word names a class, or is `ctl` or `fair`.
 fn names_kind(word: &str) -> bool
     ensures { result ≡ names_a_kind word.now }
 {
-    word == "weak" || word == "strong" || word == "cyclic" || word == "ctl"
+    word == "weak" || word == "strong" || word == "cyclic" || word == "ctl" || word == "fair"
 }
 
 /// What is wrong with the words after a kind.
@@ -75,7 +78,7 @@ fn wrong_options<'a>(kind: &str, words: &'a [String]) -> WrongWords<'a>
 fn wrong_at_cert<'a>(kind: &str, word: &'a str, words: &'a [String]) -> WrongWords<'a>
     ensures { wrong_of result ≡ wrong_by_cert kind.now word.now (map string_bytes words.now) }
 {
-    if kind == "ctl" {
+    if kind == "ctl" || kind == "fair" {
         return WrongWords::Word {
             word,
             why: NO_CERTIFICATE,

@@ -1,19 +1,31 @@
 use Rattle.std.proofs.Common.{map, string_bytes, inr, subst}
 use Rattle.plan_io.specs.Fetches.{FetchesNothing}
 use Rattle.command_base.specs.Fetching.{FetchesBoth}
-use Rattle.controller_plan.specs.Values.{control_words_of}
-use Rattle.controller_plan.specs.Words.{ControlWords}
-use Rattle.controller_plan.proofs.OneAsked.{one_asked}
+use Rattle.controller_plan.specs.FairWords.{ControlRequest, domain_of, problem_of, to_plan, to_try}
+use Rattle.controller_plan.specs.Values.{control_words_of, fair_words_of}
+use Rattle.controller_plan.proofs.FairWordLists.{one_request}
 use Rattle.controller_plan.proofs.commands.answer.Goals as goal
 
-pub returns-in-Some-clause-cause : goal.returns-in-Some-clause-cause
-returns-in-Some-clause-cause g c = inr (control_words_of c.in-Some.asked, c.in-Some.ensures.said, c.control_files.ensures.answer)
+pub returns-in-Plan-clause-cause : goal.returns-in-Plan-clause-cause
+returns-in-Plan-clause-cause g c = inr (to_plan (control_words_of c.in-Plan.asked), c.in-Plan.ensures.said, c.control_files.ensures.answer)
 
-pub returns-in-Some-clause-fetches : goal.returns-in-Some-clause-fetches
-returns-in-Some-clause-fetches g c = λ asked says.
-    subst (λ (said : ControlWords). FetchesBoth (g.S.Shelf.held c.args.shelf.now) g.S.Shelf.fetched said.plan.domain said.plan.problem FetchesNothing c.args.shelf.now c.control_files.new.shelf)
-    (one_asked (map string_bytes c.args.words.now) (control_words_of c.in-Some.asked) asked c.in-Some.ensures.said says)
+pub returns-in-Plan-clause-fetches : goal.returns-in-Plan-clause-fetches
+returns-in-Plan-clause-fetches g c = λ asked says.
+    subst (λ (said : ControlRequest). FetchesBoth (g.S.Shelf.held c.args.shelf.now) g.S.Shelf.fetched (domain_of said) (problem_of said) FetchesNothing c.args.shelf.now c.control_files.new.shelf)
+    (one_request (map string_bytes c.args.words.now) (to_plan (control_words_of c.in-Plan.asked)) asked c.in-Plan.ensures.said says)
     c.control_files.ensures.fetches
 
-pub returns-in-Some-clause-no_fetch : goal.returns-in-Some-clause-no_fetch
-returns-in-Some-clause-no_fetch g c = λ nothing. absurd (nothing (control_words_of c.in-Some.asked) c.in-Some.ensures.said)
+pub returns-in-Plan-clause-no_fetch : goal.returns-in-Plan-clause-no_fetch
+returns-in-Plan-clause-no_fetch g c = λ nothing. absurd (nothing (to_plan (control_words_of c.in-Plan.asked)) c.in-Plan.ensures.said)
+
+pub returns-in-Fair-clause-cause : goal.returns-in-Fair-clause-cause
+returns-in-Fair-clause-cause g c = inr (to_try (fair_words_of c.in-Fair.asked), c.in-Fair.ensures.said, c.fair_files.ensures.answer)
+
+pub returns-in-Fair-clause-fetches : goal.returns-in-Fair-clause-fetches
+returns-in-Fair-clause-fetches g c = λ asked says.
+    subst (λ (said : ControlRequest). FetchesBoth (g.S.Shelf.held c.args.shelf.now) g.S.Shelf.fetched (domain_of said) (problem_of said) FetchesNothing c.args.shelf.now c.fair_files.new.shelf)
+    (one_request (map string_bytes c.args.words.now) (to_try (fair_words_of c.in-Fair.asked)) asked c.in-Fair.ensures.said says)
+    c.fair_files.ensures.fetches
+
+pub returns-in-Fair-clause-no_fetch : goal.returns-in-Fair-clause-no_fetch
+returns-in-Fair-clause-no_fetch g c = λ nothing. absurd (nothing (to_try (fair_words_of c.in-Fair.asked)) c.in-Fair.ensures.said)

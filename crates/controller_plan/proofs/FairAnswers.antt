@@ -1,0 +1,296 @@
+-- Controllers whose actions may be tried again: what is judged to be good is one.
+use Rattle.std.proofs.Common.{◌≡◌, ◌≢◌, ◌≤◌, ◌<◌, ◌⊎◌, ◌∙◌, ℕ, Bool, true, List, [], ◌∷◌, map, inl, inr, refl, sym, subst, ap, All, None, Some, arith}
+use Rattle.std.specs.Prelude.{IfErr, IfOk, IfSome, Option, Result, Ok, Err, codes}
+use Rattle.std.proofs.lemmas.Bool.{le-leb}
+use Rattle.std.proofs.lemmas.List.Elements.{All-cons, All-head, All-nil, All-tail}
+use Rattle.ctl_syntax.specs.Conditions.{CondTree, condition_value}
+use Rattle.ctl_syntax.specs.ContextGoals.{PlainGoal, plain_patrol, plain_until}
+use Rattle.ctl_syntax.specs.GoalValues.{EachInStage, GoalIsAtMostDeep, GoalNamesBelow, stage_value, tree_of_goal}
+use Rattle.ctl_syntax.specs.Goals.{CtlTree, EachPlain, EachPlainOf, ef, goal_row, map_plain, plain}
+use Rattle.ctl_syntax.specs.Values.{NamesBelow, ctl_value}
+use Rattle.ctl_syntax.specs.declared.context_goals.ContextGoal.{ContextGoal}
+use Rattle.ctl_syntax.specs.declared.context_goals.ContextGoal.TheVariants.{Patrol, Until}
+use Rattle.ctl_syntax.specs.declared.context_goals.UntilStage.{UntilStage}
+use Rattle.ctl_syntax.specs.declared.goals.Ctl.{Ctl}
+use Rattle.ctl_syntax.proofs.ConditionTrees.{below_is, tree_below}
+use Rattle.ctl_syntax.proofs.Parts.{each_mapped, each_weaker}
+use Rattle.fair_plan.specs.Found.{CanBeHad, IfNoPlan, IfPlan}
+use Rattle.fair_plan.specs.declared.found.FairFound.{FairFound}
+use Rattle.fair_plan.specs.declared.found.FairFound.TheVariants.{NoPlan, Plan}
+use Rattle.fair_plan.specs.Goals.{IsConditionOver, IsFairGoalOver}
+use Rattle.fair_theory.specs.FairGoals.{both, fair_chain, fair_tree}
+use Rattle.fair_theory.specs.FairPlans.{HasNoFairPlan, IsTrueFairly, sets_of_goal}
+use Rattle.fair_theory.specs.FairSets.{SetGoal}
+use Rattle.ground_task.specs.declared.grounding.Grounded.{Grounded}
+use Rattle.pddl_ast.specs.Trees.{DomainTree, FormulaTree, ProblemTree}
+use Rattle.pddl_system.specs.Sizes.{first_passed}
+use Rattle.pddl_system.specs.Systems.{system}
+use Rattle.plan_check.specs.ContextVerdicts.{IsTrueAt}
+use Rattle.plan_check.specs.Verdicts.{SaysYes}
+use Rattle.plan_check.specs.declared.verdicts.Verdict.{Verdict}
+use Rattle.plan_check.proofs.ContextLaws.{yes_met}
+use Rattle.plan_io.specs.Held.{Held}
+use Rattle.plan_rules.specs.Denoted.{denoted_contexts}
+use Rattle.plan_rules.specs.Rules.{PlainPlan, automaton, table}
+use Rattle.controller_rules.specs.AsRun.{HasNoDeadRule, HasOneMove}
+use Rattle.task_core.specs.Conditions.{depth, ids_below, is_shallow}
+use Rattle.task_core.specs.Systems.{System}
+use Rattle.task_core.specs.Tasks.{fluent_count, initial_states, system_of}
+use Rattle.task_core.specs.declared.conditions.Cond.{Cond}
+use Rattle.task_core.specs.declared.tasks.Task.{Task}
+use Rattle.task_sets.specs.FullTables.{IsFull, IsFullTry}
+use Rattle.task_sets.proofs.FullTables.{filled_after}
+use Rattle.check_command.specs.Judged.{IsTaskVerdict}
+use Rattle.command_base.specs.Answers.{Answer, Refusal, denied, full, no_memory, over_limit, refused}
+use Rattle.command_base.specs.Grounded.{IsTaskOf}
+use Rattle.command_base.specs.Grounding.{has_goal_for}
+use Rattle.command_base.specs.InitialStates.{empty_init}
+use Rattle.command_base.specs.PddlTexts.{HoldBoth}
+use Rattle.command_base.specs.Values.{answer_of, refusal_of, shown_of}
+use Rattle.command_base.specs.Words.{Bytes, IsNodeLimit, with_contexts}
+use Rattle.command_base.specs.declared.answers.Refusal.{Refusal as CodeRefusal}
+use Rattle.command_base.specs.declared.answers.Shown.{Shown}
+use Rattle.plan_command.specs.ContextGoals.{part_count}
+use Rattle.plan_command.specs.FoundGoals.{StandsForGoal}
+use Rattle.plan_command.specs.GoalConditions.{HasSomeVisit, count_of, limit_of_goal, sets_of_goal as plan_sets}
+use Rattle.plan_command.specs.GoalSets.{goal_sets}
+use Rattle.plan_command.specs.PlanCommand.{no_plan_text}
+use Rattle.controller_plan.specs.FairControllers.{FairThen, HasLongFairText, IsFairAnswer, IsFairController, IsFairResult, IsFairShown, IsTried, MeetsFairly, fair_goal_of, fair_sets, most_fair_parts}
+use Rattle.controller_plan.specs.FairJudged.{HasLongFairly, IsFairlyFound, IsFairlyRefused, IsFairlyShown, IsTranslated, LacksFairRoom, most_fair_of, with_goal}
+use Rattle.controller_plan.specs.FairWords.{FairWords}
+use Rattle.controller_plan.specs.Judged.{CanBeJudged, HasLongJudged, IsFoundGood, IsJudged, IsJudgedShown, IsMadeRefusal}
+use Rattle.controller_plan.proofs.Yes.{text_long, text_shown}
+
+-- what is known of goals whose actions may be tried again
+abbrev pub FairGoalsAreTrue : Type 0
+FairGoalsAreTrue = (made : CtlTree Cond) (found : ContextGoal) → map_plain condition_value made ≡ fair_tree (tree_of_goal found) → IsTrueFairly made found
+
+-- the goal by which a plan is judged names the fluents that the goal names
+module _ (n : ℕ) where
+  abbrev Below : CondTree → Type 0
+  Below t = tree_below n t ≡ true
+
+  below : (c : Cond) → ids_below n c ≡ true → Below (condition_value c)
+  below c names = sym (below_is n c) ∙ names
+
+  chain_below : (stages : List UntilStage) (keep : Cond) → All (EachInStage (λ (c : Cond). ids_below n c ≡ true)) stages → ids_below n keep ≡ true
+      → EachPlain Below (fair_chain (map stage_value stages) (condition_value keep))
+  chain_below [] keep each kept = below keep kept
+  chain_below (stage ∷ rest) keep each kept =
+      let first = All-head (EachInStage (λ (c : Cond). ids_below n c ≡ true)) stage rest each in
+      let later = chain_below rest keep (All-tail (EachInStage (λ (c : Cond). ids_below n c ≡ true)) stage rest each) kept in
+      let met : EachPlain Below (both (plain (condition_value stage.target)) (fair_chain (map stage_value rest) (condition_value keep))) = (below stage.target first.target, (later, tt)) in
+      ((below stage.guard first.guard, (met, tt)), met)
+
+  visits_below : (visits : List Cond) → All (λ (c : Cond). ids_below n c ≡ true) visits
+      → EachPlainOf Below (goal_row (map (λ (visit : CondTree). ef (plain visit)) (map condition_value visits)))
+  visits_below [] each = tt
+  visits_below (visit ∷ rest) each =
+      (below visit (All-head (λ (c : Cond). ids_below n c ≡ true) visit rest each), visits_below rest (All-tail (λ (c : Cond). ids_below n c ≡ true) visit rest each))
+
+  tree_names : (goal : ContextGoal) → GoalNamesBelow n goal → EachPlain Below (fair_tree (tree_of_goal goal))
+  tree_names (Until chain) names = chain_below chain.stages.items chain.keep names.stages names.keep
+  tree_names (Patrol visits) names = visits_below visits.items names
+
+  pub translated_names : (goal : ContextGoal) (made : Ctl) → IsTranslated goal made → GoalNamesBelow n goal → NamesBelow n (ctl_value made)
+  translated_names goal made is names =
+      each_weaker (λ (c : Cond). Below (condition_value c)) (λ (c : Cond). ids_below n c ≡ true) (λ c h. below_is n c ∙ h) (ctl_value made)
+      (each_mapped condition_value Below (ctl_value made) (subst (EachPlain Below) (sym is) (tree_names goal names)))
+
+-- a plan that was judged by it has the goal
+one_goal : (f g : Ctl) → Some f ≡ Some g → g ≡ f
+one_goal f g same = cc
+
+module _ (law : FairGoalsAreTrue) (t : Task) (goal : ContextGoal) (made : Ctl) (is : IsTranslated goal made) where
+  by_verdict : (plan : PlainPlan) (v : Verdict) → IsTaskVerdict with_contexts t (Some made) plan v → SaysYes v → MeetsFairly (system_of t) (sets_of_goal goal) plan
+  by_verdict (table written rules) v never says = absurd never
+  by_verdict (automaton contexts rules) v (formula, same, verdict) says =
+      let plan = denoted_contexts rules in
+      let formula_is = one_goal made formula same in
+      let met = (yes_met (system_of t) plan (IsTrueAt (system_of t) plan (ctl_value formula)) v verdict).0 says in
+      record {
+        complete = met.complete;
+        has = λ x initial. (law (ctl_value made) goal is (system_of t) plan x).0 (subst (λ (f : Ctl). IsTrueAt (system_of t) plan (ctl_value f) x) formula_is (met.has x initial));
+      }
+
+-- the goal of the problem
+set_same : (goal : ContextGoal) → fair_sets (plan_sets goal) ≡ sets_of_goal goal
+set_same (Until chain) = refl
+set_same (Patrol visits) = refl
+
+most_same : (d : DomainTree) (p : ProblemTree) (goal : ContextGoal) (parts : PlainGoal FormulaTree) → plan_sets goal ≡ goal_sets d p parts → most_fair_of goal ≡ most_fair_parts parts
+most_same d p (Until chain) (plain_until parts) is = refl
+most_same d p (Until chain) (plain_patrol parts) is = absurd (cc is)
+most_same d p (Patrol visits) (plain_until parts) is = absurd (cc is)
+most_same d p (Patrol visits) (plain_patrol parts) is = refl
+
+module _ (asked : FairWords) (d : DomainTree) (p : ProblemTree) (goal : ContextGoal) (s : StandsForGoal d p goal) (t : Task) (of : IsTaskOf d p t) where
+  abbrev wanted : SetGoal
+  wanted = fair_goal_of d p s.parts
+
+  goal_is : sets_of_goal goal ≡ wanted
+  goal_is = sym (set_same goal) ∙ ap fair_sets s.sets
+
+  few_parts : count_of goal ≤ most_fair_of goal → part_count s.parts ≤ most_fair_parts s.parts
+  few_parts few = subst (λ n. part_count s.parts ≤ n) (most_same d p goal s.parts s.sets) (subst (λ n. n ≤ most_fair_of goal) s.counts.count few)
+
+  -- a plan that was judged is such a controller
+  module _ (law : FairGoalsAreTrue) (made : Ctl) (is : IsTranslated goal made) where
+    meets : (plan : PlainPlan) → MeetsFairly (system_of t) (sets_of_goal goal) plan → MeetsFairly (system d p) wanted plan
+    meets plan met = subst (λ (sys : System). MeetsFairly sys wanted plan) of.system_is (subst (λ (g : SetGoal). MeetsFairly (system_of t) g plan) goal_is met)
+
+    judged_fairly : (plan : PlainPlan) → IsJudged with_contexts t (Some made) plan → IsFairController d p wanted plan
+    judged_fairly plan judged = go judged.found where
+      go : IsFoundGood with_contexts t (Some made) plan → IsFairController d p wanted plan
+      go (inl good) = record {
+        begins = λ none. good.begins (ap (λ (sys : System). sys.initial) of.system_is ∙ none);
+        meets = meets plan (by_verdict law t goal made is plan good.good.verdict good.good.of_plan good.good.says_yes);
+        one_move = subst (λ (sys : System). HasOneMove sys plan) of.system_is good.one_move;
+        no_dead_rule = subst (λ (sys : System). HasNoDeadRule sys plan) of.system_is good.no_dead_rule;
+        contexts = judged.contexts;
+        told = judged.told;
+      }
+      go (inr (large, never)) = absurd never
+
+  shown_fairly : FairGoalsAreTrue → (a : Answer) → IsFairlyShown asked.json t goal a → IsFairShown asked d p wanted a
+  shown_fairly law a shown =
+      let text = text_shown with_contexts asked.json d p (with_goal t shown.made) a of shown.shown in
+      record {
+        plan = shown.shown.plan;
+        steps = shown.shown.steps;
+        text = record {
+          controller = judged_fairly law shown.made shown.translated shown.shown.plan shown.shown.judged;
+          spelled = text.spelled;
+          short = text.short;
+        };
+        shown = text.shown;
+      }
+
+  long_fairly : FairGoalsAreTrue → HasLongFairly t goal → HasLongFairText d p wanted
+  long_fairly law long = record {
+    plan = long.long.plan;
+    steps = long.long.steps;
+    controller = judged_fairly law long.made long.translated long.long.plan long.long.judged;
+    long = text_long with_contexts d p (with_goal t long.made) of long.long;
+  }
+
+  had : CanBeHad (system_of t) (sets_of_goal goal) → CanBeHad (system d p) wanted
+  had can = subst (λ (sys : System). CanBeHad sys wanted) of.system_is (subst (λ (g : SetGoal). CanBeHad (system_of t) g) goal_is can)
+
+  -- what is answered where a search was made
+  answered : initial_states t ≢ [] → count_of goal ≤ most_fair_of goal → (a : Answer) → IsFairResult asked d p wanted a → FairThen asked d p a
+  answered some few a result = inr (s.parts, s.is, inr (inr (inr (λ none. some (ap (λ (sys : System). sys.initial) of.system_is ∙ none), result))))
+
+  pub found_fairly : FairGoalsAreTrue → initial_states t ≢ [] → count_of goal ≤ most_fair_of goal → CanBeHad (system_of t) (sets_of_goal goal) → (r : Result Shown CodeRefusal)
+      → IfOk r (λ shown. IsFairlyShown asked.json t goal (shown_of shown)) → IfErr r (λ refusal. IsFairlyRefused t goal (refusal_of refusal))
+      → (answer_of r ≡ refused no_memory) ⊎ FairThen asked d p (answer_of r)
+  found_fairly law some few can (Ok shown) is why = inr (answered some few (shown_of shown) (inl (shown_fairly law (shown_of shown) is)))
+  found_fairly law some few can (Err refusal) is why = go (refusal_of refusal) why where
+    go : (r : Refusal) → IsFairlyRefused t goal r → (refused r ≡ refused no_memory) ⊎ FairThen asked d p (refused r)
+    go r (inl memory) = inl (ap refused memory)
+    go r (inr (inl limit)) = inr (answered some few (refused r) (inr (inr (codes "configurations", inl (refl, had can), ap refused limit))))
+    go r (inr (inr (long, limit))) = inr (answered some few (refused r) (inr (inr (codes "file", inr (refl, long_fairly law long), ap refused limit))))
+
+  pub none_fairly : initial_states t ≢ [] → count_of goal ≤ most_fair_of goal → HasNoFairPlan (system_of t) (sets_of_goal goal) → (a : Answer) → a ≡ denied no_plan_text → FairThen asked d p a
+  none_fairly some few none a is = answered some few a (inr (inl (record {
+    shown = is;
+    none = subst (λ (sys : System). HasNoFairPlan sys wanted) of.system_is (subst (λ (g : SetGoal). HasNoFairPlan (system_of t) g) goal_is none);
+  })))
+
+  pub empty_fairly : initial_states t ≡ [] → count_of goal ≤ most_fair_of goal → (a : Answer) → a ≡ refused (empty_init asked.problem p) → FairThen asked d p a
+  empty_fairly none few a is = inr (s.parts, s.is, inr (inr (inl (sym (ap (λ (sys : System). sys.initial) of.system_is) ∙ none, is))))
+
+  pub full_fairly : IsFull asked.options.nodes t → count_of goal ≤ most_fair_of goal → (a : Answer) → a ≡ refused (full asked.options.nodes) → FairThen asked d p a
+  full_fairly tight few a is = inr (s.parts, s.is, inr (inl ((t, of, tight), is)))
+
+  pub many_fairly : most_fair_of goal < count_of goal → (a : Answer) → a ≡ refused (over_limit (limit_of_goal goal)) → FairThen asked d p a
+  many_fairly many a is =
+      inr (
+        s.parts,
+        s.is,
+        inl (
+          subst (λ n. n < part_count s.parts) (most_same d p goal s.parts s.sets) (subst (λ n. most_fair_of goal < n) s.counts.count many),
+          is ∙ ap (λ (l : Bytes). refused (over_limit l)) s.counts.limit,
+        ),
+      )
+
+-- the table was full for the sets of the task, or it is left with as many nodes as it may have
+pub full_try : (nodes : ℕ) (t : Task) → IsFullTry nodes t (LacksFairRoom t) → IsFull nodes t
+full_try nodes t (inl tight) = inl tight
+full_try nodes t (inr searched) =
+    inr (filled_after nodes t searched.before searched.after searched.encoded searched.lacks_room.made searched.lacks_room.slots searched.sound searched.lacks_room.at_limit)
+
+-- what a search found
+pub found_of : {E : Type 0} (t : Task) (goal : SetGoal) (r : Result FairFound E) → IfOk r (λ found. IfNoPlan found (HasNoFairPlan (system_of t) goal))
+    → IfOk r (λ found. IfPlan found (λ plan. CanBeHad (system_of t) goal)) → IfOk r (IsFairlyFound t goal)
+found_of t goal (Ok (Plan plan)) none had = had
+found_of t goal (Ok NoPlan) none had = none
+found_of t goal (Err e) none had = none
+
+-- once the goal and the limits are found to be as they are wanted, what follows is the answer
+pub tried_then : (asked : FairWords) (d : DomainTree) (p : ProblemTree) (a : Answer) → has_goal_for with_contexts p ≡ true → first_passed d p ≡ None
+    → (a ≡ refused no_memory) ⊎ FairThen asked d p a → (a ≡ refused no_memory) ⊎ IsTried asked d p a
+tried_then asked d p a goal within (inl memory) = inl memory
+tried_then asked d p a goal within (inr then) = inr (inr (goal, inr (within, then)))
+
+-- after both files were read
+pub after_tried : (held : Bytes → Held) (failed : Bytes → Type 0) (asked : FairWords) (d : DomainTree) (p : ProblemTree) (a : Answer) → HoldBoth held asked.domain asked.problem d p
+    → (a ≡ refused no_memory) ⊎ IsTried asked d p a → (a ≡ refused no_memory) ⊎ IsFairAnswer held failed asked a
+after_tried held failed asked d p a both (inl memory) = inl memory
+after_tried held failed asked d p a both (inr then) = inr (inr (d, both.holds_domain, inr (p, both.holds_problem, then)))
+
+-- the conditions of a goal are such as a search takes
+shallow_within : (cond : Cond) → depth cond ≤ 200 → is_shallow cond ≡ true
+shallow_within cond deep = le-leb (depth cond) 200 deep
+
+module _ (n : ℕ) where
+  abbrev Named : Cond → Type 0
+  Named c = ids_below n c ≡ true
+
+  abbrev Deep : Cond → Type 0
+  Deep c = depth c ≤ 200
+
+  cond_over : (c : Cond) → Named c → Deep c → IsConditionOver n c
+  cond_over c names deep = record { names = names; shallow = shallow_within c deep }
+
+  stage_over : (s : UntilStage) → EachInStage Named s → EachInStage Deep s → EachInStage (IsConditionOver n) s
+  stage_over s names deep = record { guard = cond_over s.guard names.guard deep.guard; target = cond_over s.target names.target deep.target }
+
+  all_over : {X : Type 0} (P Q R : X → Type 0) → ((x : X) → P x → Q x → R x) → (xs : List X) → All P xs → All Q xs → All R xs
+  all_over P Q R both [] ps qs = All-nil R
+  all_over P Q R both (x ∷ xs) ps qs = All-cons R x xs (both x (All-head P x xs ps) (All-head Q x xs qs)) (all_over P Q R both xs (All-tail P x xs ps) (All-tail Q x xs qs))
+
+  pub goal_over : (goal : ContextGoal) → count_of goal ≤ most_fair_of goal → HasSomeVisit goal → GoalNamesBelow n goal → GoalIsAtMostDeep 200 goal → IsFairGoalOver n goal
+  goal_over (Until chain) few some names deep = record {
+    few = omega (arith, few);
+    each = record {
+      stages = all_over (EachInStage Named) (EachInStage Deep) (EachInStage (IsConditionOver n)) stage_over chain.stages.items names.stages deep.stages;
+      keep = cond_over chain.keep names.keep deep.keep;
+    };
+  }
+  goal_over (Patrol visits) few some names deep = record {
+    some = some;
+    few = few;
+    each = all_over Named Deep (IsConditionOver n) cond_over visits.items names deep;
+  }
+
+-- what is judged by the goal that stands for another
+pub can_be_judged : (nodes : ℕ) (t : Task) (goal : ContextGoal) (made : Ctl) (g : Grounded) → g ≡ with_goal t made → IsNodeLimit nodes → IsTranslated goal made → GoalNamesBelow (fluent_count t) goal
+    → CanBeJudged with_contexts nodes g
+can_be_judged nodes t goal made g is room translated names =
+    subst (CanBeJudged with_contexts nodes) (sym is) (record { room = room; goal = refl; names = translated_names (fluent_count t) goal made translated names })
+
+pub fairly_shown : (json : Bool) (t : Task) (goal : ContextGoal) (made : Ctl) (g : Grounded) (a : Answer) → g ≡ with_goal t made → IsTranslated goal made → IsJudgedShown with_contexts json g a
+    → IsFairlyShown json t goal a
+fairly_shown json t goal made g a is translated shown =
+    record { made = made; translated = translated; shown = subst (λ (h : Grounded). IsJudgedShown with_contexts json h a) is shown }
+
+pub some_fairly_shown : (json : Bool) (t : Task) (goal : ContextGoal) (made : Ctl) (g : Grounded) (found : Option Shown) (shown : Shown) → g ≡ with_goal t made → IsTranslated goal made → found ≡ Some shown
+    → IfSome found (λ s. IsJudgedShown with_contexts json g (shown_of s)) → IsFairlyShown json t goal (shown_of shown)
+some_fairly_shown json t goal made g found shown is translated some judged =
+    fairly_shown json t goal made g (shown_of shown) is translated (subst (λ (o : Option Shown). IfSome o (λ s. IsJudgedShown with_contexts json g (shown_of s))) some judged)
+
+pub fairly_refused : (t : Task) (goal : ContextGoal) (made : Ctl) (g : Grounded) (r : Refusal) → g ≡ with_goal t made → IsTranslated goal made → IsMadeRefusal with_contexts g r → IsFairlyRefused t goal r
+fairly_refused t goal made g r is translated (inl memory) = inl memory
+fairly_refused t goal made g r is translated (inr (long, limit)) =
+    inr (inr (record { made = made; translated = translated; long = subst (HasLongJudged with_contexts) is long }, limit))
