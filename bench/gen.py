@@ -11,18 +11,19 @@
 import sys
 from pathlib import Path
 
-PUSHED = {"corridor": "(open ?d)", "jammed": "(oneof (open ?d) (and))"}
+PUSHED = {"corridor": "(open ?a)", "jammed": "(oneof (open ?a) (and))"}
 
 
 def domain(family):
     """The text of the domain."""
     return f"""(define (domain {family})
-  (:predicates (at ?r) (open ?d) (door ?d ?a ?b))
-  (:action push :parameters (?d ?a ?b)
-    :precondition (and (at ?a) (door ?d ?a ?b) (not (open ?d)))
+  (:predicates (at ?r) (open ?r) (next ?a ?b))
+  ; The door after a room is named by the room.
+  (:action push :parameters (?a ?b)
+    :precondition (and (at ?a) (next ?a ?b) (not (open ?a)))
     :effect {PUSHED[family]})
-  (:action pass :parameters (?d ?a ?b)
-    :precondition (and (at ?a) (door ?d ?a ?b) (open ?d))
+  (:action pass :parameters (?a ?b)
+    :precondition (and (at ?a) (next ?a ?b) (open ?a))
     :effect (and (not (at ?a)) (at ?b))))
 """
 
@@ -30,11 +31,10 @@ def domain(family):
 def problem(family, size):
     """The text of the problem with so many doors."""
     rooms = [f"r{number}" for number in range(size + 1)]
-    doors = [f"d{number}" for number in range(1, size + 1)]
-    links = [f"(door {door} {start} {end})" for door, start, end in zip(doors, rooms, rooms[1:])]
-    unknown = [f"(unknown (open {door}))" for door in doors]
+    links = [f"(next {start} {end})" for start, end in zip(rooms, rooms[1:])]
+    unknown = [f"(unknown (open {room}))" for room in rooms[:-1]]
     return f"""(define (problem {family}-{size}) (:domain {family})
-  (:objects {' '.join(rooms + doors)})
+  (:objects {' '.join(rooms)})
   (:init (at r0) {' '.join(links + unknown)})
   (:goal (at r{size})))
 """
