@@ -61,6 +61,7 @@ use crate::words::ControlWords;
 use command_base::{Limit, PlanKind, Refusal, Shown, Text, check_goal, ground_both, read_both};
 use controller_rules::good_rules_control;
 use ground_task::Grounded;
+use guided_plan::shorter_rules;
 use pddl_ast::{Domain, Problem};
 use pddl_system::grounded_goals_are_true;
 use plan_certs::{Certificate, accepted_certificates_mean_no_plan};
@@ -573,7 +574,69 @@ fn made_of_good_plan(
 {
     match follow_found(alloc, &grounded.task, plan)? {
         Some(followed) => followed_controller(alloc, asked, domain, problem, grounded, &followed),
-        None => shown_as_found(alloc, asked, domain, problem, grounded, text, plan),
+        None => unlisted_controller(alloc, asked, domain, problem, grounded, text, plan),
+    }
+}
+
+/// The controller for a plan that reaches too much to be followed: with its rules made shorter, or with
+/// its own.
+fn unlisted_controller(
+    alloc: Global,
+    asked: &ControlWords,
+    domain: &Domain,
+    problem: &Problem,
+    grounded: &Grounded,
+    text: &[u8],
+    plan: &Plan,
+) -> Result<Option<Shown>, Refusal>
+    requires room { IsNodeLimit asked.now.plan.options.nodes }
+    requires goal { has_goal_for (kind_of asked.now.plan.kind) (problem_value problem.now)
+        ≡ true }
+    requires grounded { IsGroundedOf (domain_value domain.now) (problem_value problem.now)
+        grounded.now }
+    requires found { PlanThen (plan_words_of asked.now.plan) (domain_value domain.now)
+        (problem_value problem.now) (affirmed text.now) }
+    requires spelled { SpellsPlain (fluent_names grounded.now.task)
+        (action_names grounded.now.task) text.now (plain_of plan.now) }
+    ensures shown { IfOk result (λ found. IfSome found (λ shown.
+        IsControllerShown (control_words_of asked.now)
+        (domain_value domain.now) (problem_value problem.now) (shown_of shown))) }
+    ensures refused { IfErr result (λ refusal. IsControlRefusal (control_words_of asked.now)
+        (domain_value domain.now) (problem_value problem.now) (refusal_of refusal)) }
+{
+    let shorter = shorter_controller(alloc, asked, domain, problem, grounded, plan)?;
+    if shorter.is_some() {
+        return Ok(shorter);
+    }
+    shown_as_found(alloc, asked, domain, problem, grounded, text, plan)
+}
+
+/// The controller with the rules of a table made shorter, if they make one.
+fn shorter_controller(
+    alloc: Global,
+    asked: &ControlWords,
+    domain: &Domain,
+    problem: &Problem,
+    grounded: &Grounded,
+    plan: &Plan,
+) -> Result<Option<Shown>, Refusal>
+    requires room { IsNodeLimit asked.now.plan.options.nodes }
+    requires goal { has_goal_for (kind_of asked.now.plan.kind) (problem_value problem.now)
+        ≡ true }
+    requires grounded { IsGroundedOf (domain_value domain.now) (problem_value problem.now)
+        grounded.now }
+    ensures shown { IfOk result (λ found. IfSome found (λ shown.
+        IsControllerShown (control_words_of asked.now)
+        (domain_value domain.now) (problem_value problem.now) (shown_of shown))) }
+    ensures refused { IfErr result (λ refusal. IsControlRefusal (control_words_of asked.now)
+        (domain_value domain.now) (problem_value problem.now) (refusal_of refusal)) }
+{
+    match plan {
+        Plan::Table(table) => {
+            let rules = shorter_rules(alloc, &grounded.task, &table.rules)?;
+            table_controller(alloc, asked, domain, problem, grounded, rules)
+        }
+        Plan::Auto(_) => Ok(None),
     }
 }
 
