@@ -26,7 +26,7 @@ ghost use Rattle.patrol_plan.specs.Scenes.{sys_of};
 ghost use Rattle.std.specs.Prelude.{true};
 
 use crate::found::FoundAuto;
-use crate::patrol_rules::list_visits;
+use crate::patrol_rules::{Patrol, list_visits};
 use crate::places::places;
 use crate::visits::{LEFT, find_left, take_visits};
 use dd_sets::SetErr;
@@ -61,7 +61,7 @@ fn write_visits(
 {
     take_visits(enc, board, actions, visits)?;
     let mut rules = Vec::new(alloc);
-    list_visits(enc, board, &mut rules, actions, visits)?;
+    list_visits(enc, board, &mut rules, Patrol { actions, visits })?;
     Ok(AutoPlan {
         contexts: visits,
         rules,

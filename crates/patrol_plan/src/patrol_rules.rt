@@ -12,7 +12,7 @@ ghost use Rattle.patrol_plan.specs.PatrolSteps.{visit_place};
 ghost use Rattle.patrol_plan.specs.Scenes.{Left, Start, sys_of, takers_place};
 
 use crate::places::{HITS, takers_at};
-use crate::rules::list_at;
+use crate::rules::{Move, list_at};
 use crate::visits::visit_at;
 use dd_sets::SetErr;
 use encode_task::Enc;
@@ -29,6 +29,22 @@ pub(crate) enum Part {
     Made,
     /// The others.
     Others,
+}
+
+/// How many actions a task has, and how many visits are to be made.
+#[derive(Clone, Copy, Debug)]
+pub(crate) struct Patrol {
+    pub(crate) actions: u32,
+    pub(crate) visits: u32,
+}
+
+/// A turn from a context to a next one: which of the states turn to it that take an action in the
+/// context of this visit. Visits are counted from 0, contexts from 1.
+#[derive(Clone, Copy, Debug)]
+pub(crate) struct Turn {
+    pub(crate) visit: u32,
+    pub(crate) part: Part,
+    pub(crate) next: u32,
 }
 
 /// Puts a part of the states that take an action.
@@ -63,30 +79,33 @@ fn list_taken(
     enc: &mut Enc,
     board: &mut Board,
     rules: &mut Vec<AutoRule>,
-    part: Part,
-    visit: u32,
+    turn: Turn,
     takers: usize,
-    next: u32,
     action: ActionId,
 ) -> Result<(), SetErr>
-    requires ready { (start : Start) × (conds : List CondOf) × (visit < start.stages)
-        × (takers ≡ takers_place (action_count start.task) start.stages visit)
+    requires ready { (start : Start) × (conds : List CondOf) × (turn.visit < start.stages)
+        × (takers ≡ takers_place (action_count start.task) start.stages turn.visit)
         × HasPatrolTable start conds (enc.old, board.old.slots.items) }
-    requires few { visit < most_visits }
+    requires few { turn.visit < most_visits }
     requires action { action.0 < length enc.old.actions }
-    ensures { (start : Start) (conds : List CondOf) → visit < start.stages
-        → takers ≡ takers_place (action_count start.task) start.stages visit
-        → GoesOn (visit_sets conds) part (suc visit) next
+    ensures { (start : Start) (conds : List CondOf) → turn.visit < start.stages
+        → takers ≡ takers_place (action_count start.task) start.stages turn.visit
+        → GoesOn (visit_sets conds) turn.part (suc turn.visit) turn.next
         → HasPatrolTable start conds (enc.old, board.old.slots.items)
         → Left start (enc.new, board.new.slots.items)
         (ListsPatrol start conds (enc.new, board.new.slots.items)
         (map context_rule_of rules.old.items) (map context_rule_of rules.new.items)
         (action_rules (sys_of start) (patrol_states (sys_of start) (visit_sets conds))
-        (suc visit) next action.0)) result }
+        (suc turn.visit) turn.next action.0)) result }
 {
     let taker = takers + action.0 as usize;
-    put_part(enc, board, part, taker, visit_at(visit))?;
-    list_at(enc, board, rules, visit + 1, next, action, HITS)
+    put_part(enc, board, turn.part, taker, visit_at(turn.visit))?;
+    let given = Move {
+        context: turn.visit + 1,
+        action,
+        next: turn.next,
+    };
+    list_at(enc, board, rules, given, HITS)
 }
 
 /// The rules of a context towards a next one, the actions in rising number.
@@ -94,30 +113,27 @@ fn list_part(
     enc: &mut Enc,
     board: &mut Board,
     rules: &mut Vec<AutoRule>,
-    actions: u32,
-    visits: u32,
-    part: Part,
-    visit: u32,
-    next: u32,
+    patrol: Patrol,
+    turn: Turn,
 ) -> Result<(), SetErr>
-    requires ready { (start : Start) × (conds : List CondOf) × (start.stages ≡ visits)
-        × GoesOn (visit_sets conds) part (suc visit) next
+    requires ready { (start : Start) × (conds : List CondOf) × (start.stages ≡ patrol.visits)
+        × GoesOn (visit_sets conds) turn.part (suc turn.visit) turn.next
         × HasPatrolTable start conds (enc.old, board.old.slots.items) }
-    requires actions { actions ≡ length enc.old.actions }
-    requires few { visits ≤ most_visits }
-    requires visit { visit < visits }
-    ensures { (start : Start) (conds : List CondOf) → start.stages ≡ visits
-        → GoesOn (visit_sets conds) part (suc visit) next
+    requires actions { patrol.actions ≡ length enc.old.actions }
+    requires few { patrol.visits ≤ most_visits }
+    requires visit { turn.visit < patrol.visits }
+    ensures { (start : Start) (conds : List CondOf) → start.stages ≡ patrol.visits
+        → GoesOn (visit_sets conds) turn.part (suc turn.visit) turn.next
         → HasPatrolTable start conds (enc.old, board.old.slots.items)
         → Left start (enc.new, board.new.slots.items)
         (ListsPatrol start conds (enc.new, board.new.slots.items)
         (map context_rule_of rules.old.items) (map context_rule_of rules.new.items)
         (next_rules (sys_of start) (patrol_states (sys_of start) (visit_sets conds))
-        (suc visit) next)) result }
+        (suc turn.visit) turn.next)) result }
 {
-    let takers = takers_at(actions, visits, visit);
-    for a in 0..actions {
-        list_taken(enc, board, rules, part, visit, takers, next, ActionId(a))?;
+    let takers = takers_at(patrol.actions, patrol.visits, turn.visit);
+    for a in 0..patrol.actions {
+        list_taken(enc, board, rules, turn, takers, ActionId(a))?;
     }
     Ok(())
 }
@@ -127,34 +143,31 @@ fn list_two(
     enc: &mut Enc,
     board: &mut Board,
     rules: &mut Vec<AutoRule>,
-    actions: u32,
-    visits: u32,
-    visit: u32,
-    first: Part,
-    early: u32,
-    second: Part,
-    late: u32,
+    patrol: Patrol,
+    first: Turn,
+    second: Turn,
 ) -> Result<(), SetErr>
-    requires ready { (start : Start) × (conds : List CondOf) × (start.stages ≡ visits)
-        × GoesOn (visit_sets conds) first (suc visit) early
-        × GoesOn (visit_sets conds) second (suc visit) late
+    requires ready { (start : Start) × (conds : List CondOf) × (start.stages ≡ patrol.visits)
+        × GoesOn (visit_sets conds) first.part (suc first.visit) first.next
+        × GoesOn (visit_sets conds) second.part (suc second.visit) second.next
         × HasPatrolTable start conds (enc.old, board.old.slots.items) }
-    requires actions { actions ≡ length enc.old.actions }
-    requires few { visits ≤ most_visits }
-    requires visit { visit < visits }
-    ensures { (start : Start) (conds : List CondOf) → start.stages ≡ visits
-        → GoesOn (visit_sets conds) first (suc visit) early
-        → GoesOn (visit_sets conds) second (suc visit) late
-        → patrol_nexts visits (suc visit) ≡ early ∷ late ∷ []
+    requires actions { patrol.actions ≡ length enc.old.actions }
+    requires few { patrol.visits ≤ most_visits }
+    requires visit { first.visit < patrol.visits }
+    requires same { second.visit ≡ first.visit }
+    ensures { (start : Start) (conds : List CondOf) → start.stages ≡ patrol.visits
+        → GoesOn (visit_sets conds) first.part (suc first.visit) first.next
+        → GoesOn (visit_sets conds) second.part (suc second.visit) second.next
+        → patrol_nexts patrol.visits (suc first.visit) ≡ first.next ∷ second.next ∷ []
         → HasPatrolTable start conds (enc.old, board.old.slots.items)
         → Left start (enc.new, board.new.slots.items)
         (ListsPatrol start conds (enc.new, board.new.slots.items)
         (map context_rule_of rules.old.items) (map context_rule_of rules.new.items)
         (rules_in_context (sys_of start) (patrol_states (sys_of start) (visit_sets conds))
-        (patrol_nexts visits) (suc visit))) result }
+        (patrol_nexts patrol.visits) (suc first.visit))) result }
 {
-    list_part(enc, board, rules, actions, visits, first, visit, early)?;
-    list_part(enc, board, rules, actions, visits, second, visit, late)
+    list_part(enc, board, rules, patrol, first)?;
+    list_part(enc, board, rules, patrol, second)
 }
 
 /// The rules of a context, the next contexts in rising number.
@@ -162,53 +175,55 @@ fn list_visit(
     enc: &mut Enc,
     board: &mut Board,
     rules: &mut Vec<AutoRule>,
-    actions: u32,
-    visits: u32,
+    patrol: Patrol,
     visit: u32,
 ) -> Result<(), SetErr>
-    requires ready { (start : Start) × (conds : List CondOf) × (start.stages ≡ visits)
+    requires ready { (start : Start) × (conds : List CondOf) × (start.stages ≡ patrol.visits)
         × HasPatrolTable start conds (enc.old, board.old.slots.items) }
-    requires actions { actions ≡ length enc.old.actions }
-    requires few { visits ≤ most_visits }
-    requires visit { visit < visits }
-    ensures { (start : Start) (conds : List CondOf) → start.stages ≡ visits
+    requires actions { patrol.actions ≡ length enc.old.actions }
+    requires few { patrol.visits ≤ most_visits }
+    requires visit { visit < patrol.visits }
+    ensures { (start : Start) (conds : List CondOf) → start.stages ≡ patrol.visits
         → HasPatrolTable start conds (enc.old, board.old.slots.items)
         → Left start (enc.new, board.new.slots.items)
         (ListsPatrol start conds (enc.new, board.new.slots.items)
         (map context_rule_of rules.old.items) (map context_rule_of rules.new.items)
         (rules_in_context (sys_of start) (patrol_states (sys_of start) (visit_sets conds))
-        (patrol_nexts visits) (suc visit))) result }
+        (patrol_nexts patrol.visits) (suc visit))) result }
 {
     let context = visit + 1;
-    if context < visits {
-        return list_two(
-            enc,
-            board,
-            rules,
-            actions,
-            visits,
+    if context < patrol.visits {
+        let others = Turn {
             visit,
-            Part::Others,
-            context,
-            Part::Made,
-            context + 1,
-        );
+            part: Part::Others,
+            next: context,
+        };
+        let made = Turn {
+            visit,
+            part: Part::Made,
+            next: context + 1,
+        };
+        return list_two(enc, board, rules, patrol, others, made);
     }
-    if visits == 1 {
-        return list_part(enc, board, rules, actions, visits, Part::Whole, visit, 1);
+    if patrol.visits == 1 {
+        let whole = Turn {
+            visit,
+            part: Part::Whole,
+            next: 1,
+        };
+        return list_part(enc, board, rules, patrol, whole);
     }
-    list_two(
-        enc,
-        board,
-        rules,
-        actions,
-        visits,
+    let made = Turn {
         visit,
-        Part::Made,
-        1,
-        Part::Others,
-        context,
-    )
+        part: Part::Made,
+        next: 1,
+    };
+    let others = Turn {
+        visit,
+        part: Part::Others,
+        next: context,
+    };
+    list_two(enc, board, rules, patrol, made, others)
 }
 
 /// The rules of all contexts, in rising number.
@@ -216,22 +231,21 @@ pub(crate) fn list_visits(
     enc: &mut Enc,
     board: &mut Board,
     rules: &mut Vec<AutoRule>,
-    actions: u32,
-    visits: u32,
+    patrol: Patrol,
 ) -> Result<(), SetErr>
-    requires ready { (start : Start) × (conds : List CondOf) × (start.stages ≡ visits)
+    requires ready { (start : Start) × (conds : List CondOf) × (start.stages ≡ patrol.visits)
         × HasPatrolTable start conds (enc.old, board.old.slots.items) }
-    requires actions { actions ≡ length enc.old.actions }
-    requires few { visits ≤ most_visits }
-    ensures { (start : Start) (conds : List CondOf) → start.stages ≡ visits
+    requires actions { patrol.actions ≡ length enc.old.actions }
+    requires few { patrol.visits ≤ most_visits }
+    ensures { (start : Start) (conds : List CondOf) → start.stages ≡ patrol.visits
         → HasPatrolTable start conds (enc.old, board.old.slots.items)
         → Left start (enc.new, board.new.slots.items)
         (ListsPatrol start conds (enc.new, board.new.slots.items)
         (map context_rule_of rules.old.items) (map context_rule_of rules.new.items)
         (patrol_rules (sys_of start) (visit_sets conds))) result }
 {
-    for visit in 0..visits {
-        list_visit(enc, board, rules, actions, visits, visit)?;
+    for visit in 0..patrol.visits {
+        list_visit(enc, board, rules, patrol, visit)?;
     }
     Ok(())
 }

@@ -21,24 +21,40 @@ use slot_board::{Board, Operation};
 use std::alloc::AllocError;
 use task_core::{ActionId, Lit};
 
+/// What rules give: a context, an action, and the next context. Contexts are counted from 1.
+#[derive(Clone, Copy, Debug)]
+pub(crate) struct Move {
+    pub(crate) context: u32,
+    pub(crate) action: ActionId,
+    pub(crate) next: u32,
+}
+
+/// How many actions a task has, and how many stages a chain.
+#[derive(Clone, Copy, Debug)]
+pub(crate) struct Chain {
+    pub(crate) actions: u32,
+    pub(crate) stages: u32,
+}
+
+/// From the context of a stage to that of a next one. Stages are counted from 0.
+#[derive(Clone, Copy, Debug)]
+pub(crate) struct Advance {
+    pub(crate) stage: u32,
+    pub(crate) next: u32,
+}
+
 /// A rule for each cube.
-fn add_rules(
-    rules: &mut Vec<AutoRule>,
-    context: u32,
-    next: u32,
-    action: ActionId,
-    cubes: Vec<Vec<Lit>>,
-) -> Result<(), AllocError>
+fn add_rules(rules: &mut Vec<AutoRule>, given: Move, cubes: Vec<Vec<Lit>>) -> Result<(), AllocError>
     ensures { OnOk result (map context_rule_of rules.new.items
         ≡ map context_rule_of rules.old.items
-        ++ map (rule_for context next action.0) (map (λ cube. cube.items) cubes.items)) }
+        ++ map (rule_for given.context given.next given.action.0) (map (λ cube. cube.items) cubes.items)) }
 {
     for cube in cubes {
         rules.push(AutoRule {
-            context,
+            context: given.context,
             cube,
-            action,
-            next: Next::One(next),
+            action: given.action,
+            next: Next::One(given.next),
         })?;
     }
     Ok(())
@@ -49,9 +65,7 @@ pub(crate) fn list_at(
     enc: &Enc,
     board: &Board,
     rules: &mut Vec<AutoRule>,
-    context: u32,
-    next: u32,
-    action: ActionId,
+    given: Move,
     place: usize,
 ) -> Result<(), SetErr>
     requires ready { (start : Start) × IsReady start (enc.now, board.now.slots.items) }
@@ -59,11 +73,11 @@ pub(crate) fn list_at(
     ensures never_full { IfErr result (λ e. e ≡ SetErr.Memory) }
     ensures listed { (start : Start) → IsReady start (enc.now, board.now.slots.items)
         → OnOk result (map context_rule_of rules.new.items
-        ≡ map context_rule_of rules.old.items ++ rules_for (fluent_count start.task) context next
-        action.0 (states_at (enc.now, board.now.slots.items) place)) }
+        ≡ map context_rule_of rules.old.items ++ rules_for (fluent_count start.task) given.context
+        given.next given.action.0 (states_at (enc.now, board.now.slots.items) place)) }
 {
     match board.only_cubes(enc, place) {
-        Ok(cubes) => match add_rules(rules, context, next, action, cubes) {
+        Ok(cubes) => match add_rules(rules, given, cubes) {
             Ok(()) => Ok(()),
             Err(_) => Err(SetErr::Memory),
         },
@@ -127,27 +141,32 @@ fn list_action(
     board: &mut Board,
     rules: &mut Vec<AutoRule>,
     takers: usize,
-    stage: u32,
-    next: u32,
+    advance: Advance,
     action: ActionId,
 ) -> Result<(), SetErr>
     requires ready { (start : Start) × (chain : UntilSets)
-        × (takers ≡ takers_place (action_count start.task) start.stages next)
-        × HasTurning start (enc.old, board.old.slots.items) chain stage next }
+        × (takers ≡ takers_place (action_count start.task) start.stages advance.next)
+        × HasTurning start (enc.old, board.old.slots.items) chain advance.stage advance.next }
     requires action { action.0 < length enc.old.actions }
-    requires stage { stage ≤ next }
-    requires next { next ≤ most_stages }
+    requires stage { advance.stage ≤ advance.next }
+    requires next { advance.next ≤ most_stages }
     ensures { (start : Start) (chain : UntilSets)
-        → takers ≡ takers_place (action_count start.task) start.stages next
-        → HasTurning start (enc.old, board.old.slots.items) chain stage next
+        → takers ≡ takers_place (action_count start.task) start.stages advance.next
+        → HasTurning start (enc.old, board.old.slots.items) chain advance.stage advance.next
         → Left start (enc.new, board.new.slots.items)
         (ListsTurning start (enc.new, board.new.slots.items) chain
-        (map context_rule_of rules.old.items) (map context_rule_of rules.new.items) stage next
-        (action_rules (sys_of start) (until_states (sys_of start) chain) (suc stage) (suc next) action.0)) result }
+        (map context_rule_of rules.old.items) (map context_rule_of rules.new.items)
+        advance.stage advance.next (action_rules (sys_of start) (until_states (sys_of start) chain)
+        (suc advance.stage) (suc advance.next) action.0)) result }
 {
     let place = takers + action.0 as usize;
     board.combine(enc, HITS, Operation::Meet, NEW, place)?;
-    list_at(enc, board, rules, stage + 1, next + 1, action, HITS)
+    let given = Move {
+        context: advance.stage + 1,
+        action,
+        next: advance.next + 1,
+    };
+    list_at(enc, board, rules, given, HITS)
 }
 
 /// The rules of a context, counted from 0, towards a next one, the actions in rising number.
@@ -157,25 +176,25 @@ fn list_actions(
     rules: &mut Vec<AutoRule>,
     actions: u32,
     takers: usize,
-    stage: u32,
-    next: u32,
+    advance: Advance,
 ) -> Result<(), SetErr>
     requires ready { (start : Start) × (chain : UntilSets)
-        × (takers ≡ takers_place (action_count start.task) start.stages next)
-        × HasTurning start (enc.old, board.old.slots.items) chain stage next }
+        × (takers ≡ takers_place (action_count start.task) start.stages advance.next)
+        × HasTurning start (enc.old, board.old.slots.items) chain advance.stage advance.next }
     requires actions { actions ≡ length enc.old.actions }
-    requires stage { stage ≤ next }
-    requires next { next ≤ most_stages }
+    requires stage { advance.stage ≤ advance.next }
+    requires next { advance.next ≤ most_stages }
     ensures { (start : Start) (chain : UntilSets)
-        → takers ≡ takers_place (action_count start.task) start.stages next
-        → HasTurning start (enc.old, board.old.slots.items) chain stage next
+        → takers ≡ takers_place (action_count start.task) start.stages advance.next
+        → HasTurning start (enc.old, board.old.slots.items) chain advance.stage advance.next
         → Left start (enc.new, board.new.slots.items)
         (ListsTurning start (enc.new, board.new.slots.items) chain
-        (map context_rule_of rules.old.items) (map context_rule_of rules.new.items) stage next
-        (next_rules (sys_of start) (until_states (sys_of start) chain) (suc stage) (suc next))) result }
+        (map context_rule_of rules.old.items) (map context_rule_of rules.new.items)
+        advance.stage advance.next (next_rules (sys_of start) (until_states (sys_of start) chain)
+        (suc advance.stage) (suc advance.next))) result }
 {
     for a in 0..actions {
-        list_action(enc, board, rules, takers, stage, next, ActionId(a))?;
+        list_action(enc, board, rules, takers, advance, ActionId(a))?;
     }
     Ok(())
 }
@@ -185,29 +204,27 @@ fn list_stage(
     enc: &mut Enc,
     board: &mut Board,
     rules: &mut Vec<AutoRule>,
-    actions: u32,
-    stages: u32,
-    stage: u32,
-    next: u32,
+    counts: Chain,
+    advance: Advance,
 ) -> Result<(), SetErr>
     requires ready { (start : Start) × (chain : UntilSets) × (before : List ContextRule)
-        × (start.stages ≡ stages) × ListsStages start (enc.old, board.old.slots.items) chain
-        before (map context_rule_of rules.old.items) stage next }
-    requires actions { actions ≡ length enc.old.actions }
-    requires few { stages ≤ most_stages }
-    requires stage { stage ≤ next }
-    requires next { next ≤ stages }
+        × (start.stages ≡ counts.stages) × ListsStages start (enc.old, board.old.slots.items) chain
+        before (map context_rule_of rules.old.items) advance.stage advance.next }
+    requires actions { counts.actions ≡ length enc.old.actions }
+    requires few { counts.stages ≤ most_stages }
+    requires stage { advance.stage ≤ advance.next }
+    requires next { advance.next ≤ counts.stages }
     ensures { (start : Start) (chain : UntilSets) (before : List ContextRule)
-        → start.stages ≡ stages
+        → start.stages ≡ counts.stages
         → ListsStages start (enc.old, board.old.slots.items) chain before
-        (map context_rule_of rules.old.items) stage next
+        (map context_rule_of rules.old.items) advance.stage advance.next
         → Left start (enc.new, board.new.slots.items)
         (ListsStages start (enc.new, board.new.slots.items) chain before
-        (map context_rule_of rules.new.items) stage (next + 1)) result }
+        (map context_rule_of rules.new.items) advance.stage (advance.next + 1)) result }
 {
-    let takers = takers_at(actions, stages, next);
-    turn_states(enc, board, stages, stage, next)?;
-    list_actions(enc, board, rules, actions, takers, stage, next)
+    let takers = takers_at(counts.actions, counts.stages, advance.next);
+    turn_states(enc, board, counts.stages, advance.stage, advance.next)?;
+    list_actions(enc, board, rules, counts.actions, takers, advance)
 }
 
 /// The rules of a context, the next contexts in rising number.
@@ -215,24 +232,23 @@ fn list_context(
     enc: &mut Enc,
     board: &mut Board,
     rules: &mut Vec<AutoRule>,
-    actions: u32,
-    stages: u32,
+    counts: Chain,
     stage: u32,
 ) -> Result<(), SetErr>
-    requires ready { (start : Start) × (chain : UntilSets) × (start.stages ≡ stages)
+    requires ready { (start : Start) × (chain : UntilSets) × (start.stages ≡ counts.stages)
         × HasTable start (enc.old, board.old.slots.items) chain }
-    requires actions { actions ≡ length enc.old.actions }
-    requires few { stages ≤ most_stages }
-    requires stage { stage ≤ stages }
-    ensures { (start : Start) (chain : UntilSets) → start.stages ≡ stages
+    requires actions { counts.actions ≡ length enc.old.actions }
+    requires few { counts.stages ≤ most_stages }
+    requires stage { stage ≤ counts.stages }
+    ensures { (start : Start) (chain : UntilSets) → start.stages ≡ counts.stages
         → HasTable start (enc.old, board.old.slots.items) chain
         → Left start (enc.new, board.new.slots.items)
         (Lists start (enc.new, board.new.slots.items) chain (map context_rule_of rules.old.items)
         (map context_rule_of rules.new.items)
         (rules_in_context (sys_of start) (until_states (sys_of start) chain) (until_nexts chain) (suc stage))) result }
 {
-    for next in stage..stages + 1 {
-        list_stage(enc, board, rules, actions, stages, stage, next)?;
+    for next in stage..counts.stages + 1 {
+        list_stage(enc, board, rules, counts, Advance { stage, next })?;
     }
     Ok(())
 }
@@ -242,21 +258,20 @@ pub(crate) fn list_all(
     enc: &mut Enc,
     board: &mut Board,
     rules: &mut Vec<AutoRule>,
-    actions: u32,
-    stages: u32,
+    counts: Chain,
 ) -> Result<(), SetErr>
-    requires ready { (start : Start) × (chain : UntilSets) × (start.stages ≡ stages)
+    requires ready { (start : Start) × (chain : UntilSets) × (start.stages ≡ counts.stages)
         × HasTable start (enc.old, board.old.slots.items) chain }
-    requires actions { actions ≡ length enc.old.actions }
-    requires few { stages ≤ most_stages }
-    ensures { (start : Start) (chain : UntilSets) → start.stages ≡ stages
+    requires actions { counts.actions ≡ length enc.old.actions }
+    requires few { counts.stages ≤ most_stages }
+    ensures { (start : Start) (chain : UntilSets) → start.stages ≡ counts.stages
         → HasTable start (enc.old, board.old.slots.items) chain
         → Left start (enc.new, board.new.slots.items)
         (Lists start (enc.new, board.new.slots.items) chain (map context_rule_of rules.old.items)
         (map context_rule_of rules.new.items) (until_rules (sys_of start) chain)) result }
 {
-    for stage in 0..stages + 1 {
-        list_context(enc, board, rules, actions, stages, stage)?;
+    for stage in 0..counts.stages + 1 {
+        list_context(enc, board, rules, counts, stage)?;
     }
     Ok(())
 }

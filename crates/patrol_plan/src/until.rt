@@ -27,7 +27,7 @@ ghost use Rattle.patrol_plan.specs.WorkingSets.{BoundsUntilSets};
 
 use crate::found::FoundAuto;
 use crate::places::{places, win_at};
-use crate::rules::list_all;
+use crate::rules::{Chain, list_all};
 use crate::takers::take_all;
 use crate::wins::win_all;
 use ctl_syntax::UntilChain;
@@ -142,7 +142,7 @@ fn write(
         → IfOk result (IsPlanOf start.task chain) }
 {
     let mut rules = Vec::new(alloc);
-    list_all(enc, board, &mut rules, actions, stages)?;
+    list_all(enc, board, &mut rules, Chain { actions, stages })?;
     Ok(AutoPlan {
         contexts: stages + 1,
         rules,

@@ -10,5 +10,5 @@ use Rattle.patrol_plan.specs.Scenes.{Start, sys_of}
 use Rattle.patrol_plan.proofs.patrol_rules.list_part.Given as goal
 
 abbrev pub invariant-loop-a : goal.invariant-loop-a
-invariant-loop-a l = (start : Start) (conds : List Cond) → start.stages ≡ l.fn.visits → GoesOn (visit_sets conds) l.fn.part (suc l.fn.visit) l.fn.next → HasPatrolTable start conds (l.fn.enc, l.fn.board.slots.items)
-    → ListsPatrol start conds (l.enc, l.board.slots.items) (map context_rule_of l.fn.rules.items) (map context_rule_of l.rules.items) (flat_map (action_rules (sys_of start) (patrol_states (sys_of start) (visit_sets conds)) (suc l.fn.visit) l.fn.next) (range_with_len 0 l.a))
+invariant-loop-a l = (start : Start) (conds : List Cond) → start.stages ≡ l.fn.patrol.visits → GoesOn (visit_sets conds) l.fn.turn.part (suc l.fn.turn.visit) l.fn.turn.next → HasPatrolTable start conds (l.fn.enc, l.fn.board.slots.items)
+    → ListsPatrol start conds (l.enc, l.board.slots.items) (map context_rule_of l.fn.rules.items) (map context_rule_of l.rules.items) (flat_map (action_rules (sys_of start) (patrol_states (sys_of start) (visit_sets conds)) (suc l.fn.turn.visit) l.fn.turn.next) (range_with_len 0 l.a))

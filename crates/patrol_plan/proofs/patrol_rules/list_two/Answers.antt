@@ -1,4 +1,4 @@
-use Rattle.std.proofs.Common.{◌≡◌, arith, length, map, suc}
+use Rattle.std.proofs.Common.{◌≡◌, ℕ, arith, length, map, subst, suc}
 use Rattle.std.proofs.lemmas.Result.{err_from_is_err_and}
 use Rattle.slot_board.proofs.BoardSlots.{left_with, passed, same_actions, went}
 use Rattle.patrol_plan.specs.Scenes.{board_of}
@@ -6,7 +6,8 @@ use Rattle.plan_rules.specs.Rules.{context_rule_of}
 use Rattle.plan_theory.specs.ContextRules.{next_rules}
 use Rattle.plan_theory.specs.PatrolPrinted.{patrol_nexts, patrol_states}
 use Rattle.patrol_plan.specs.Chains.{visit_sets}
-use Rattle.patrol_plan.specs.Scenes.{sys_of}
+use Rattle.patrol_plan.specs.PatrolSteps.{ListsPatrol}
+use Rattle.patrol_plan.specs.Scenes.{Left, sys_of}
 use Rattle.patrol_plan.proofs.VisitRules.{two_listed}
 use Rattle.patrol_plan.proofs.patrol_rules.list_two.Goals as goal
 
@@ -47,6 +48,9 @@ list_part-requires-2-clause-actions c =
 pub returns : goal.returns
 returns c start conds n early late nexts h =
     let one = went (board_of start) c.list_part.new.enc c.list_part.new.board.slots.items _ c.list_part.result _ c.in_ok-list_part.was (c.list_part.ensures start conds n early h) in
+    let after = subst (λ (visit : ℕ). Left start (c.list_part-2.new.enc, c.list_part-2.new.board.slots.items)
+    (ListsPatrol start conds (c.list_part-2.new.enc, c.list_part-2.new.board.slots.items) (map context_rule_of c.list_part.new.rules.items) (map context_rule_of c.list_part-2.new.rules.items)
+    (next_rules (sys_of start) (patrol_states (sys_of start) (visit_sets conds)) (suc visit) c.args.second.next)) c.list_part-2.result) c.requires.same (c.list_part-2.ensures start conds n late one.table) in
     left_with (board_of start) c.list_part-2.new.enc c.list_part-2.new.board.slots.items _ _ c.list_part-2.result
-    (λ z. two_listed start conds (c.list_part.new.enc, c.list_part.new.board.slots.items) (c.list_part-2.new.enc, c.list_part-2.new.board.slots.items) (map context_rule_of c.args.rules.now.items) (map context_rule_of c.list_part.new.rules.items) (map context_rule_of c.list_part-2.new.rules.items) (next_rules (sys_of start) (patrol_states (sys_of start) (visit_sets conds)) (suc c.args.visit)) (patrol_nexts c.args.visits (suc c.args.visit)) c.args.early c.args.late nexts one z)
-    (c.list_part-2.ensures start conds n late one.table)
+    (λ z. two_listed start conds (c.list_part.new.enc, c.list_part.new.board.slots.items) (c.list_part-2.new.enc, c.list_part-2.new.board.slots.items) (map context_rule_of c.args.rules.now.items) (map context_rule_of c.list_part.new.rules.items) (map context_rule_of c.list_part-2.new.rules.items) (next_rules (sys_of start) (patrol_states (sys_of start) (visit_sets conds)) (suc c.args.first.visit)) (patrol_nexts c.args.patrol.visits (suc c.args.first.visit)) c.args.first.next c.args.second.next nexts one z)
+    after

@@ -15,11 +15,11 @@ list_two-requires-clause-ready c =
     let conds = c.requires.ready.1 in
     let n = c.requires.ready.2 in
     let h = c.requires.ready.3 in
-    (start, conds, n, inner_others start conds c.args.visits c.args.visit (c.args.visit + 1) n h (let e : c.args.visit + 1 ≡ suc c.args.visit = omega arith in e) (let l : suc c.args.visit < c.args.visits = omega (arith, c.if-context-visits.true) in l), inner_made start conds c.args.visits c.args.visit (c.args.visit + 1 + 1) n h (let e : c.args.visit + 1 + 1 ≡ suc (suc c.args.visit) = omega arith in e) (let l : suc c.args.visit < c.args.visits = omega (arith, c.if-context-visits.true) in l), h)
+    (start, conds, n, inner_others start conds c.args.patrol.visits c.args.visit (c.args.visit + 1) n h (let e : c.args.visit + 1 ≡ suc c.args.visit = omega arith in e) (let l : suc c.args.visit < c.args.patrol.visits = omega (arith, c.if-context-patrol.true) in l), inner_made start conds c.args.patrol.visits c.args.visit (c.args.visit + 1 + 1) n h (let e : c.args.visit + 1 + 1 ≡ suc (suc c.args.visit) = omega arith in e) (let l : suc c.args.visit < c.args.patrol.visits = omega (arith, c.if-context-patrol.true) in l), h)
 
-pub returns-then-context-visits : goal.returns-then-context-visits
-returns-then-context-visits c start conds n h =
-    c.list_two.ensures start conds n (inner_others start conds c.args.visits c.args.visit (c.args.visit + 1) n h (let e : c.args.visit + 1 ≡ suc c.args.visit = omega arith in e) (let l : suc c.args.visit < c.args.visits = omega (arith, c.if-context-visits.true) in l)) (inner_made start conds c.args.visits c.args.visit (c.args.visit + 1 + 1) n h (let e : c.args.visit + 1 + 1 ≡ suc (suc c.args.visit) = omega arith in e) (let l : suc c.args.visit < c.args.visits = omega (arith, c.if-context-visits.true) in l)) (inner_nexts c.args.visits c.args.visit (c.args.visit + 1) (c.args.visit + 1 + 1) (let e : c.args.visit + 1 ≡ suc c.args.visit = omega arith in e) (let e : c.args.visit + 1 + 1 ≡ suc (suc c.args.visit) = omega arith in e) (let l : suc c.args.visit < c.args.visits = omega (arith, c.if-context-visits.true) in l)) h
+pub returns-then-context-patrol : goal.returns-then-context-patrol
+returns-then-context-patrol c start conds n h =
+    c.list_two.ensures start conds n (inner_others start conds c.args.patrol.visits c.args.visit (c.args.visit + 1) n h (let e : c.args.visit + 1 ≡ suc c.args.visit = omega arith in e) (let l : suc c.args.visit < c.args.patrol.visits = omega (arith, c.if-context-patrol.true) in l)) (inner_made start conds c.args.patrol.visits c.args.visit (c.args.visit + 1 + 1) n h (let e : c.args.visit + 1 + 1 ≡ suc (suc c.args.visit) = omega arith in e) (let l : suc c.args.visit < c.args.patrol.visits = omega (arith, c.if-context-patrol.true) in l)) (inner_nexts c.args.patrol.visits c.args.visit (c.args.visit + 1) (c.args.visit + 1 + 1) (let e : c.args.visit + 1 ≡ suc c.args.visit = omega arith in e) (let e : c.args.visit + 1 + 1 ≡ suc (suc c.args.visit) = omega arith in e) (let l : suc c.args.visit < c.args.patrol.visits = omega (arith, c.if-context-patrol.true) in l)) h
 
 pub list_part-requires-clause-ready : goal.list_part-requires-clause-ready
 list_part-requires-clause-ready c =
@@ -27,13 +27,13 @@ list_part-requires-clause-ready c =
     let conds = c.requires.ready.1 in
     let n = c.requires.ready.2 in
     let h = c.requires.ready.3 in
-    (start, conds, n, only_goes start conds c.args.visits c.args.visit n h (let e : suc c.args.visit ≡ c.args.visits = omega (arith, c.if-context-visits.false, c.requires.visit) in e) (let e : c.args.visits ≡ 1 = omega (arith, c.if-visits-eq1.true) in e), h)
+    (start, conds, n, only_goes start conds c.args.patrol.visits c.args.visit n h (let e : suc c.args.visit ≡ c.args.patrol.visits = omega (arith, c.if-context-patrol.false, c.requires.visit) in e) (let e : c.args.patrol.visits ≡ 1 = omega (arith, c.if-patrol-eq1.true) in e), h)
 
-pub returns-then-visits-eq1 : goal.returns-then-visits-eq1
-returns-then-visits-eq1 c start conds n h =
+pub returns-then-patrol-eq1 : goal.returns-then-patrol-eq1
+returns-then-patrol-eq1 c start conds n h =
     left_with (board_of start) c.list_part.new.enc c.list_part.new.board.slots.items _ _ c.list_part.result
-    (λ z. one_listed start conds (c.list_part.new.enc, c.list_part.new.board.slots.items) (map context_rule_of c.args.rules.now.items) (map context_rule_of c.list_part.new.rules.items) (next_rules (sys_of start) (patrol_states (sys_of start) (visit_sets conds)) (suc c.args.visit)) (patrol_nexts c.args.visits (suc c.args.visit)) 1 (only_nexts c.args.visits c.args.visit (let e : suc c.args.visit ≡ c.args.visits = omega (arith, c.if-context-visits.false, c.requires.visit) in e) (let e : c.args.visits ≡ 1 = omega (arith, c.if-visits-eq1.true) in e)) z)
-    (c.list_part.ensures start conds n (only_goes start conds c.args.visits c.args.visit n h (let e : suc c.args.visit ≡ c.args.visits = omega (arith, c.if-context-visits.false, c.requires.visit) in e) (let e : c.args.visits ≡ 1 = omega (arith, c.if-visits-eq1.true) in e)) h)
+    (λ z. one_listed start conds (c.list_part.new.enc, c.list_part.new.board.slots.items) (map context_rule_of c.args.rules.now.items) (map context_rule_of c.list_part.new.rules.items) (next_rules (sys_of start) (patrol_states (sys_of start) (visit_sets conds)) (suc c.args.visit)) (patrol_nexts c.args.patrol.visits (suc c.args.visit)) 1 (only_nexts c.args.patrol.visits c.args.visit (let e : suc c.args.visit ≡ c.args.patrol.visits = omega (arith, c.if-context-patrol.false, c.requires.visit) in e) (let e : c.args.patrol.visits ≡ 1 = omega (arith, c.if-patrol-eq1.true) in e)) z)
+    (c.list_part.ensures start conds n (only_goes start conds c.args.patrol.visits c.args.visit n h (let e : suc c.args.visit ≡ c.args.patrol.visits = omega (arith, c.if-context-patrol.false, c.requires.visit) in e) (let e : c.args.patrol.visits ≡ 1 = omega (arith, c.if-patrol-eq1.true) in e)) h)
 
 pub list_two-requires-2-clause-ready : goal.list_two-requires-2-clause-ready
 list_two-requires-2-clause-ready c =
@@ -41,8 +41,8 @@ list_two-requires-2-clause-ready c =
     let conds = c.requires.ready.1 in
     let n = c.requires.ready.2 in
     let h = c.requires.ready.3 in
-    (start, conds, n, last_made start conds c.args.visits c.args.visit n h (let e : suc c.args.visit ≡ c.args.visits = omega (arith, c.if-context-visits.false, c.requires.visit) in e) (λ z. absurd (let e : c.args.visits ≡ 1 = z in omega (arith, c.if-visits-eq1.false))), last_others start conds c.args.visits c.args.visit (c.args.visit + 1) n h (let e : c.args.visit + 1 ≡ suc c.args.visit = omega arith in e) (let e : suc c.args.visit ≡ c.args.visits = omega (arith, c.if-context-visits.false, c.requires.visit) in e) (λ z. absurd (let e : c.args.visits ≡ 1 = z in omega (arith, c.if-visits-eq1.false))), h)
+    (start, conds, n, last_made start conds c.args.patrol.visits c.args.visit n h (let e : suc c.args.visit ≡ c.args.patrol.visits = omega (arith, c.if-context-patrol.false, c.requires.visit) in e) (λ z. absurd (let e : c.args.patrol.visits ≡ 1 = z in omega (arith, c.if-patrol-eq1.false))), last_others start conds c.args.patrol.visits c.args.visit (c.args.visit + 1) n h (let e : c.args.visit + 1 ≡ suc c.args.visit = omega arith in e) (let e : suc c.args.visit ≡ c.args.patrol.visits = omega (arith, c.if-context-patrol.false, c.requires.visit) in e) (λ z. absurd (let e : c.args.patrol.visits ≡ 1 = z in omega (arith, c.if-patrol-eq1.false))), h)
 
 pub returns : goal.returns
 returns c start conds n h =
-    c.list_two-2.ensures start conds n (last_made start conds c.args.visits c.args.visit n h (let e : suc c.args.visit ≡ c.args.visits = omega (arith, c.if-context-visits.false, c.requires.visit) in e) (λ z. absurd (let e : c.args.visits ≡ 1 = z in omega (arith, c.if-visits-eq1.false)))) (last_others start conds c.args.visits c.args.visit (c.args.visit + 1) n h (let e : c.args.visit + 1 ≡ suc c.args.visit = omega arith in e) (let e : suc c.args.visit ≡ c.args.visits = omega (arith, c.if-context-visits.false, c.requires.visit) in e) (λ z. absurd (let e : c.args.visits ≡ 1 = z in omega (arith, c.if-visits-eq1.false)))) (last_nexts c.args.visits c.args.visit (c.args.visit + 1) (let e : c.args.visit + 1 ≡ suc c.args.visit = omega arith in e) (let e : suc c.args.visit ≡ c.args.visits = omega (arith, c.if-context-visits.false, c.requires.visit) in e) (λ z. absurd (let e : c.args.visits ≡ 1 = z in omega (arith, c.if-visits-eq1.false)))) h
+    c.list_two-2.ensures start conds n (last_made start conds c.args.patrol.visits c.args.visit n h (let e : suc c.args.visit ≡ c.args.patrol.visits = omega (arith, c.if-context-patrol.false, c.requires.visit) in e) (λ z. absurd (let e : c.args.patrol.visits ≡ 1 = z in omega (arith, c.if-patrol-eq1.false)))) (last_others start conds c.args.patrol.visits c.args.visit (c.args.visit + 1) n h (let e : c.args.visit + 1 ≡ suc c.args.visit = omega arith in e) (let e : suc c.args.visit ≡ c.args.patrol.visits = omega (arith, c.if-context-patrol.false, c.requires.visit) in e) (λ z. absurd (let e : c.args.patrol.visits ≡ 1 = z in omega (arith, c.if-patrol-eq1.false)))) (last_nexts c.args.patrol.visits c.args.visit (c.args.visit + 1) (let e : c.args.visit + 1 ≡ suc c.args.visit = omega arith in e) (let e : suc c.args.visit ≡ c.args.patrol.visits = omega (arith, c.if-context-patrol.false, c.requires.visit) in e) (λ z. absurd (let e : c.args.patrol.visits ≡ 1 = z in omega (arith, c.if-patrol-eq1.false)))) h

@@ -12,7 +12,7 @@ use Rattle.patrol_plan.proofs.patrol_rules.list_visits.Goals as goal
 
 pub loop-visit-init : goal.loop-visit-init
 loop-visit-init c start conds n h =
-    lists_none start conds (c.args.enc.now, c.args.board.now.slots.items) (map context_rule_of c.args.rules.now.items) (rules_in_context (sys_of start) (patrol_states (sys_of start) (visit_sets conds)) (patrol_nexts c.args.visits)) 1 h
+    lists_none start conds (c.args.enc.now, c.args.board.now.slots.items) (map context_rule_of c.args.rules.now.items) (rules_in_context (sys_of start) (patrol_states (sys_of start) (visit_sets conds)) (patrol_nexts c.args.patrol.visits)) 1 h
 
 pub list_visit-requires-clause-ready : goal.list_visit-requires-clause-ready
 list_visit-requires-clause-ready c =
@@ -40,9 +40,9 @@ returns-in_err-list_visit c start conds n h =
 pub loop-visit-preserved : goal.loop-visit-preserved
 loop-visit-preserved c start conds n h =
     let inv = c.loop-visit.invariant start conds n h in
-    lists_more start conds (c.loop-visit.enc, c.loop-visit.board.slots.items) (c.list_visit.new.enc, c.list_visit.new.board.slots.items) (map context_rule_of c.args.rules.now.items) (map context_rule_of c.loop-visit.rules.items) (map context_rule_of c.list_visit.new.rules.items) (rules_in_context (sys_of start) (patrol_states (sys_of start) (visit_sets conds)) (patrol_nexts c.args.visits)) 1 c.loop-visit.visit (suc c.loop-visit.visit) (let e : suc c.loop-visit.visit ≡ 1 + c.loop-visit.visit = omega arith in e) inv (went (board_of start) c.list_visit.new.enc c.list_visit.new.board.slots.items _ c.list_visit.result _ c.in_ok-list_visit.was (c.list_visit.ensures start conds n inv.table))
+    lists_more start conds (c.loop-visit.enc, c.loop-visit.board.slots.items) (c.list_visit.new.enc, c.list_visit.new.board.slots.items) (map context_rule_of c.args.rules.now.items) (map context_rule_of c.loop-visit.rules.items) (map context_rule_of c.list_visit.new.rules.items) (rules_in_context (sys_of start) (patrol_states (sys_of start) (visit_sets conds)) (patrol_nexts c.args.patrol.visits)) 1 c.loop-visit.visit (suc c.loop-visit.visit) (let e : suc c.loop-visit.visit ≡ 1 + c.loop-visit.visit = omega arith in e) inv (went (board_of start) c.list_visit.new.enc c.list_visit.new.board.slots.items _ c.list_visit.result _ c.in_ok-list_visit.was (c.list_visit.ensures start conds n inv.table))
 
 pub returns : goal.returns
 returns c start conds n h =
     let inv = c.loop-visit.invariant start conds n h in
-    patrol_listed start conds (c.loop-visit.enc, c.loop-visit.board.slots.items) (map context_rule_of c.args.rules.now.items) (map context_rule_of c.loop-visit.rules.items) c.args.visits c.loop-visit.visit n (omega arith) inv
+    patrol_listed start conds (c.loop-visit.enc, c.loop-visit.board.slots.items) (map context_rule_of c.args.rules.now.items) (map context_rule_of c.loop-visit.rules.items) c.args.patrol.visits c.loop-visit.visit n (omega arith) inv

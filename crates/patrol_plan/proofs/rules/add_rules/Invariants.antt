@@ -4,4 +4,4 @@ use Rattle.patrol_plan.specs.Listing.{rule_for}
 use Rattle.patrol_plan.proofs.rules.add_rules.Given as goal
 
 abbrev pub invariant-loop-cube : goal.invariant-loop-cube
-invariant-loop-cube l = map context_rule_of l.rules.items ≡ map context_rule_of l.fn.rules.items ++ map (rule_for l.fn.context l.fn.next l.fn.action.0) (map (λ cube. cube.items) l.yielded)
+invariant-loop-cube l = map context_rule_of l.rules.items ≡ map context_rule_of l.fn.rules.items ++ map (rule_for l.fn.given.context l.fn.given.next l.fn.given.action.0) (map (λ cube. cube.items) l.yielded)

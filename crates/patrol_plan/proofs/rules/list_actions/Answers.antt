@@ -8,7 +8,7 @@ use Rattle.task_core.specs.Tasks.{action_count}
 use Rattle.patrol_plan.proofs.rules.list_actions.Goals as goal
 
 pub loop-a-init : goal.loop-a-init
-loop-a-init c start chain place h = actions_none start (c.args.enc.now, c.args.board.now.slots.items) chain (map context_rule_of c.args.rules.now.items) c.args.stage c.args.next h
+loop-a-init c start chain place h = actions_none start (c.args.enc.now, c.args.board.now.slots.items) chain (map context_rule_of c.args.rules.now.items) c.args.advance.stage c.args.advance.next h
 
 pub list_action-requires-clause-ready : goal.list_action-requires-clause-ready
 list_action-requires-clause-ready c =
@@ -34,10 +34,10 @@ returns-in_err-list_action c start chain place h =
 
 pub loop-a-preserved : goal.loop-a-preserved
 loop-a-preserved c start chain place h =
-    actions_more start (c.loop-a.enc, c.loop-a.board.slots.items) (c.list_action.new.enc, c.list_action.new.board.slots.items) chain (map context_rule_of c.args.rules.now.items) (map context_rule_of c.loop-a.rules.items) (map context_rule_of c.list_action.new.rules.items) c.args.stage c.args.next c.loop-a.a (c.loop-a.invariant start chain place h)
+    actions_more start (c.loop-a.enc, c.loop-a.board.slots.items) (c.list_action.new.enc, c.list_action.new.board.slots.items) chain (map context_rule_of c.args.rules.now.items) (map context_rule_of c.loop-a.rules.items) (map context_rule_of c.list_action.new.rules.items) c.args.advance.stage c.args.advance.next c.loop-a.a (c.loop-a.invariant start chain place h)
     (went (board_of start) c.list_action.new.enc c.list_action.new.board.slots.items _ c.list_action.result _ c.in_ok-list_action.was (c.list_action.ensures start chain place (c.loop-a.invariant start chain place h).turning))
 
 pub returns : goal.returns
 returns c start chain place h =
     let e : length c.args.enc.now.actions ≡ action_count start.task = (made_at (board_of start) c.args.enc.now c.args.board.now.slots.items h.table.takers.ready.at).actions in
-    actions_all start (c.loop-a.enc, c.loop-a.board.slots.items) chain (map context_rule_of c.args.rules.now.items) (map context_rule_of c.loop-a.rules.items) c.args.stage c.args.next c.loop-a.a (omega (arith, c.requires.actions)) (c.loop-a.invariant start chain place h)
+    actions_all start (c.loop-a.enc, c.loop-a.board.slots.items) chain (map context_rule_of c.args.rules.now.items) (map context_rule_of c.loop-a.rules.items) c.args.advance.stage c.args.advance.next c.loop-a.a (omega (arith, c.requires.actions)) (c.loop-a.invariant start chain place h)

@@ -10,5 +10,5 @@ use Rattle.patrol_plan.specs.Tables.{HasTable}
 use Rattle.patrol_plan.proofs.rules.list_all.Given as goal
 
 abbrev pub invariant-loop-stage : goal.invariant-loop-stage
-invariant-loop-stage l = (start : Start) (chain : UntilSets) → start.stages ≡ l.fn.stages → HasTable start (l.fn.enc, l.fn.board.slots.items) chain
+invariant-loop-stage l = (start : Start) (chain : UntilSets) → start.stages ≡ l.fn.counts.stages → HasTable start (l.fn.enc, l.fn.board.slots.items) chain
     → Lists start (l.enc, l.board.slots.items) chain (map context_rule_of l.fn.rules.items) (map context_rule_of l.rules.items) (flat_map (rules_in_context (sys_of start) (until_states (sys_of start) chain) (until_nexts chain)) (range_with_len 1 l.stage))

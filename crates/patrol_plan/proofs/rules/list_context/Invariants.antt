@@ -7,5 +7,5 @@ use Rattle.patrol_plan.specs.Tables.{HasTable}
 use Rattle.patrol_plan.proofs.rules.list_context.Given as goal
 
 abbrev pub invariant-loop-next : goal.invariant-loop-next
-invariant-loop-next l = (start : Start) (chain : UntilSets) → start.stages ≡ l.fn.stages → HasTable start (l.fn.enc, l.fn.board.slots.items) chain
+invariant-loop-next l = (start : Start) (chain : UntilSets) → start.stages ≡ l.fn.counts.stages → HasTable start (l.fn.enc, l.fn.board.slots.items) chain
     → ListsStages start (l.enc, l.board.slots.items) chain (map context_rule_of l.fn.rules.items) (map context_rule_of l.rules.items) l.fn.stage l.next

@@ -30,7 +30,7 @@ list_actions-requires-clause-ready c =
     let h = c.requires.ready.4 in
     let r = went (board_of start) c.turn_states.new.enc c.turn_states.new.board.slots.items _ c.turn_states.result _ c.in_ok-turn_states.was (c.turn_states.ensures start chain n h.table) in
     let e : length c.args.enc.now.actions ≡ action_count start.task = (made_at (board_of start) c.args.enc.now c.args.board.now.slots.items h.table.takers.ready.at).actions in
-    let takers : c.takers_at-takers.result ≡ takers_place (action_count start.task) start.stages c.args.next = c.takers_at-takers.ensures ∙ ap (λ k. takers_place k c.args.stages c.args.next) (c.requires.actions ∙ e) ∙ ap (λ k. takers_place (action_count start.task) k c.args.next) (sym n) in
+    let takers : c.takers_at-takers.result ≡ takers_place (action_count start.task) start.stages c.args.advance.next = c.takers_at-takers.ensures ∙ ap (λ k. takers_place k c.args.counts.stages c.args.advance.next) (c.requires.actions ∙ e) ∙ ap (λ k. takers_place (action_count start.task) k c.args.advance.next) (sym n) in
     (start, chain, takers, r)
 
 pub list_actions-requires-clause-actions : goal.list_actions-requires-clause-actions
@@ -47,7 +47,7 @@ pub returns : goal.returns
 returns c start chain before n h =
     let r = went (board_of start) c.turn_states.new.enc c.turn_states.new.board.slots.items _ c.turn_states.result _ c.in_ok-turn_states.was (c.turn_states.ensures start chain n h.table) in
     let e : length c.args.enc.now.actions ≡ action_count start.task = (made_at (board_of start) c.args.enc.now c.args.board.now.slots.items h.table.takers.ready.at).actions in
-    let takers : c.takers_at-takers.result ≡ takers_place (action_count start.task) start.stages c.args.next = c.takers_at-takers.ensures ∙ ap (λ k. takers_place k c.args.stages c.args.next) (c.requires.actions ∙ e) ∙ ap (λ k. takers_place (action_count start.task) k c.args.next) (sym n) in
+    let takers : c.takers_at-takers.result ≡ takers_place (action_count start.task) start.stages c.args.advance.next = c.takers_at-takers.ensures ∙ ap (λ k. takers_place k c.args.counts.stages c.args.advance.next) (c.requires.actions ∙ e) ∙ ap (λ k. takers_place (action_count start.task) k c.args.advance.next) (sym n) in
     left_with (board_of start) c.list_actions.new.enc c.list_actions.new.board.slots.items _ _ c.list_actions.result
-    (λ more. stages_more start (c.list_actions.new.enc, c.list_actions.new.board.slots.items) chain before (map context_rule_of c.args.rules.now.items) (map context_rule_of c.list_actions.new.rules.items) c.args.stage c.args.next c.requires.stage h.listed more)
+    (λ more. stages_more start (c.list_actions.new.enc, c.list_actions.new.board.slots.items) chain before (map context_rule_of c.args.rules.now.items) (map context_rule_of c.list_actions.new.rules.items) c.args.advance.stage c.args.advance.next c.requires.stage h.listed more)
     (c.list_actions.ensures start chain takers r)
