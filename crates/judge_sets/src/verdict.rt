@@ -1,12 +1,15 @@
 //! The verdict on rules as they are run.
 
 ghost use Rattle.std.specs.Prelude.{◌≡◌, ◌↔◌, ℕ, ◌+◌, ◌<◌, [], All, IfOk, IsErrOf, IsSome, IsTrue, length, map, true};
+ghost use Rattle.std.specs.List.{list_all};
 ghost use Rattle.dd_nodes.specs.Subfunctions.{Function};
 ghost use Rattle.dd_sets.specs.Frames.{Owns};
 ghost use Rattle.dd_sets.specs.Rooms.{NoRoom};
 ghost use Rattle.encode_task.specs.Made.{MadeOf};
-ghost use Rattle.slot_board.specs.Board.{Ends, HasNothing, set_at};
-ghost use Rattle.task_core.specs.Tasks.{action_count, fluent_count, system_of};
+ghost use Rattle.slot_board.specs.Board.{At, Ends, HasNothing, IsWorking, Left, Start, Stayed};
+ghost use Rattle.slot_board.specs.Board.{TestFits, set_at};
+ghost use Rattle.task_core.specs.Tasks.{action_count, fluent_count, initial_states, system_of};
+ghost use Rattle.task_core.specs.Vectors.{value_of};
 ghost use Rattle.task_core.specs.declared.tasks.Task.{Task as TaskOf};
 ghost use Rattle.plan_rules.specs.Plans.{IsRuleOf};
 ghost use Rattle.plan_rules.specs.Rules.{rule_of};
@@ -51,6 +54,22 @@ fn outcomes_of(class: Class) -> Outcomes
     }
 }
 
+/// Whether each initial state is one from which following the rules is good.
+fn begin_well(enc: &mut Enc, board: &Board) -> Result<bool, SetErr>
+    requires working { IsWorking enc.old board.now.slots.items }
+    requires place { 4 < length board.now.slots.items }
+    ensures left { (start : Start) → At start enc.old board.now.slots.items
+        → TestFits start (set_at enc.old.sets board.now.slots.items 4)
+        → Left start enc.new board.now.slots.items
+        (Stayed start enc.old.sets enc.new board.now.slots.items) result }
+    ensures answer { (start : Start) → At start enc.old board.now.slots.items
+        → IfOk result (λ good. good
+        ≡ list_all (λ state. set_at enc.old.sets board.now.slots.items 4 (value_of state))
+        (initial_states start.task)) }
+{
+    board.covers_initial(enc, GOOD)
+}
+
 /// Whether following the rules is good from each initial state.
 fn leads_to_end(
     enc: &mut Enc,
@@ -67,7 +86,7 @@ fn leads_to_end(
         × (good ≡ has_initial scene grown.set)) result }
 {
     grow(enc, board, outcomes, order)?;
-    board.covers_initial(enc, GOOD)
+    begin_well(enc, board)
 }
 
 /// Whether what is reached from the initial states stays in the set at a place.
