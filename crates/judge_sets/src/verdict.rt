@@ -238,7 +238,7 @@ pub fn judge_table(
     ensures made { (task : TaskOf) → MadeOf task enc.old → MadeOf task enc.new }
 {
     let actions = task.actions.len() as u32;
-    let order = order_of(alloc, rules, actions);
+    let order = order_of(alloc, task, rules, actions);
     let mut board = Board::new(alloc, enc, places(actions))?;
     let judged = judge(enc, &mut board, class, rules, &order);
     board.close(enc);

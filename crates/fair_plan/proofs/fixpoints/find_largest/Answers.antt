@@ -12,13 +12,13 @@ keep_round-requires-clause-ready c = let r = c.requires.ready in (r.0, r.2)
 pub returns-in_err-keep_round : goal.returns-in_err-keep_round
 returns-in_err-keep_round c origin asked there begins =
     passed origin.start c.keep_round.new.enc c.keep_round.new.board.slots.items _ _ c.keep_round.result c.from_residual.result _ c.in_err-keep_round.was (err_from_is_err_and c.from_residual.result c.from_residual.ensures.1)
-    (c.keep_round.ensures origin asked there begins.staying begins.long (begun_on origin asked c.args.stays c.args.first c.args.count (c.args.enc.now, c.args.board.now.slots.items) begins))
+    (c.keep_round.ensures origin asked there begins.staying begins.long (begun_on origin asked c.args.wanted.stays c.args.wanted.first c.args.wanted.count (c.args.enc.now, c.args.board.now.slots.items) begins))
 
 pub loop-enc-init : goal.loop-enc-init
 loop-enc-init c origin asked there begins =
     let y : Scene = (c.keep_round.new.enc, c.keep_round.new.board.slots.items) in
     let first = done origin y _ c.keep_round.result _ c.in_ok-keep_round.was
-    (c.keep_round.ensures origin asked there begins.staying begins.long (begun_on origin asked c.args.stays c.args.first c.args.count (c.args.enc.now, c.args.board.now.slots.items) begins)) in
+    (c.keep_round.ensures origin asked there begins.staying begins.long (begun_on origin asked c.args.wanted.stays c.args.wanted.first c.args.wanted.count (c.args.enc.now, c.args.board.now.slots.items) begins)) in
     (first.0, first.1.1)
 
 pub is_same-requires-clause-working : goal.is_same-requires-clause-working
@@ -43,7 +43,7 @@ keep_round-requires-in-loop-enc-clause-actions c =
 pub keep_round-requires-in-loop-enc-clause-targets : goal.keep_round-requires-in-loop-enc-clause-targets
 keep_round-requires-in-loop-enc-clause-targets c =
     let r = c.requires.ready in
-    le_length r.0 (c.loop-enc.enc, c.loop-enc.board.slots.items) (c.loop-enc.invariant r.0 r.1 r.2 r.3).0 (c.args.first + c.args.count) (le_start r.0 (c.args.enc.now, c.args.board.now.slots.items) r.2 (c.args.first + c.args.count) c.requires.targets)
+    le_length r.0 (c.loop-enc.enc, c.loop-enc.board.slots.items) (c.loop-enc.invariant r.0 r.1 r.2 r.3).0 (c.args.wanted.first + c.args.wanted.count) (le_start r.0 (c.args.enc.now, c.args.board.now.slots.items) r.2 (c.args.wanted.first + c.args.wanted.count) c.requires.targets)
 
 pub returns-in_err-keep_round-2 : goal.returns-in_err-keep_round-2
 returns-in_err-keep_round-2 c origin asked there begins =
@@ -71,4 +71,4 @@ loop-enc-preserved c origin asked there begins =
 pub returns : goal.returns
 returns c origin asked there begins =
     let k = c.loop-enc.invariant origin asked there begins in
-    (k.0, is_largest origin asked c.args.first (c.loop-enc.enc, c.loop-enc.board.slots.items) k.1 (c.is_same.ensures.0 (let f = c.loop-enc-test.false in cc)))
+    (k.0, is_largest origin asked c.args.wanted.first (c.loop-enc.enc, c.loop-enc.board.slots.items) k.1 (c.is_same.ensures.0 (let f = c.loop-enc-test.false in cc)))

@@ -7,8 +7,8 @@ use Rattle.fair_plan.proofs.fixpoints.find_largest.Given as goal
 
 abbrev pub invariant-loop-enc : goal.invariant-loop-enc
 invariant-loop-enc l = (origin : Origin) (asked : Asked) → IsThere origin (l.fn.enc, l.fn.board.slots.items)
-    → Begins origin asked l.fn.stays l.fn.first l.fn.count (l.fn.enc, l.fn.board.slots.items)
-    → IsThere origin (l.enc, l.board.slots.items) × HasRound origin asked l.fn.first (l.enc, l.board.slots.items)
+    → Begins origin asked l.fn.wanted.stays l.fn.wanted.first l.fn.wanted.count (l.fn.enc, l.fn.board.slots.items)
+    → IsThere origin (l.enc, l.board.slots.items) × HasRound origin asked l.fn.wanted.first (l.enc, l.board.slots.items)
 
 -- how many states the last round began with
 abbrev pub decreases-loop-enc : goal.decreases-loop-enc
