@@ -108,7 +108,8 @@ impl Walk {
         if let Some(place) = self.followers.get_mut(action.0 as usize) {
             *place = list;
         }
-        self.way.push(action)
+        self.way.push(action)?;
+        Ok(())
     }
 
     /// Marks an action as met. Tells whether it wasn't, and is an action of the task.
