@@ -40,11 +40,11 @@ loop-i-init c origin there count =
     let won = done origin y _ c.win_end.result _ c.in_ok-win_end.was (c.win_end.ensures origin there) in
     (won.0, chain_last origin (states_of c.args.chain.now.keep) c.args.chain.now.stages.items y c.args.count c.win_at.result c.requires.count (let w : c.win_at.result ≡ win_place (actions_of origin) c.args.count = omega (arith, c.win_at.ensures) in w) won.1)
 
-pub stage_places-requires-clause-count : goal.stage_places-requires-clause-count
-stage_places-requires-clause-count c = omega (arith, c.requires.chain.few, c.requires.count)
+pub stage_places-at-requires-clause-count : goal.stage_places-at-requires-clause-count
+stage_places-at-requires-clause-count c = omega (arith, c.requires.chain.few, c.requires.count)
 
-pub stage_places-requires-clause-stage : goal.stage_places-requires-clause-stage
-stage_places-requires-clause-stage c = omega arith
+pub stage_places-at-requires-clause-stage : goal.stage_places-at-requires-clause-stage
+stage_places-at-requires-clause-stage c = omega arith
 
 pub win_stage-requires-clause-ready : goal.win_stage-requires-clause-ready
 win_stage-requires-clause-ready c = let r = c.requires.ready in (r.0, (c.loop-i.invariant r.0 r.1 r.2).0)

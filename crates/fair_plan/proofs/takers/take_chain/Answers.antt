@@ -10,11 +10,11 @@ use Rattle.fair_plan.proofs.takers.take_chain.Goals as goal
 pub loop-i-init : goal.loop-i-init
 loop-i-init c origin there = there
 
-pub stage_places-requires-clause-count : goal.stage_places-requires-clause-count
-stage_places-requires-clause-count c = omega (arith, c.requires.chain.few, c.requires.count)
+pub stage_places-at-requires-clause-count : goal.stage_places-at-requires-clause-count
+stage_places-at-requires-clause-count c = omega (arith, c.requires.chain.few, c.requires.count)
 
-pub stage_places-requires-clause-stage : goal.stage_places-requires-clause-stage
-stage_places-requires-clause-stage c = omega (arith, c.requires.chain.few, c.requires.count)
+pub stage_places-at-requires-clause-stage : goal.stage_places-at-requires-clause-stage
+stage_places-at-requires-clause-stage c = omega (arith, c.requires.chain.few, c.requires.count)
 
 pub take_stage-requires-clause-ready : goal.take_stage-requires-clause-ready
 take_stage-requires-clause-ready c = let r = c.requires.ready in (r.0, c.loop-i.invariant r.0 r.1)
