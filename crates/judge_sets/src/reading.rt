@@ -1,7 +1,8 @@
 //! Reads rules: where each action is taken, the first rule that matches counting.
 
-ghost use Rattle.std.specs.Prelude.{◌≡◌, ◌↔◌, ◌++◌, ◌<◌, ◌&&◌, [], ◌∷◌, IsTrue, List, map};
-ghost use Rattle.slot_board.specs.Board.{Ends, HasNothing, IsSmall, Left};
+ghost use Rattle.std.specs.Prelude.{◌≡◌, ◌↔◌, ◌++◌, ◌<◌, ◌&&◌, [], ◌∷◌, IsTrue, List, length, map};
+ghost use Rattle.dd_sets.specs.LiveSets.{nothing};
+ghost use Rattle.slot_board.specs.Board.{Ends, HasNothing, IsSmall, IsWorking, Left, set_at};
 ghost use Rattle.task_core.specs.Cubes.{Cube};
 ghost use Rattle.task_core.specs.Tasks.{fluent_count, system_of};
 ghost use Rattle.plan_rules.specs.Rules.{PlanRule, rule_of};
@@ -126,6 +127,15 @@ fn add_taken(enc: &mut Enc, board: &mut Board, a: ActionId) -> Result<(), SetErr
     )
 }
 
+/// Whether none of the states in which the rule counts is left.
+fn is_none_left(enc: &Enc, board: &Board) -> bool
+    requires working { IsWorking enc.now board.now.slots.items }
+    requires place { 3 < length board.now.slots.items }
+    ensures { IsTrue result ↔ (set_at enc.now.sets board.now.slots.items 3 ≡ nothing) }
+{
+    board.is_empty(enc, PART)
+}
+
 /// Whether some of the states in which the rule counts is a state of the task.
 fn counts(enc: &mut Enc, board: &mut Board) -> Result<bool, SetErr>
     requires { (scene : Scene) × (before : List PlanRule) × (rule : PlanRule)
@@ -147,7 +157,7 @@ fn counts(enc: &mut Enc, board: &mut Board) -> Result<bool, SetErr>
             Step::Combine(PART, Operation::Meet, PART, CUBE),
         ],
     )?;
-    Ok(!board.is_empty(enc, PART))
+    Ok(!is_none_left(enc, board))
 }
 
 /// Reads the next rule: whether it counts in some state.
