@@ -1,3 +1,5 @@
 mod Answers
 mod Explaining
+mod Fairness
 mod Finding
+mod Said

@@ -1,30 +1,37 @@
 -- Which answer explains the verdict on a plan.
-use Rattle.std.specs.Prelude.{◌≡◌, ◌++◌, [], Option, None, Some}
-use Rattle.check_command.specs.CheckCommand.{ExploreThen, IsVerdictOf, verdict_answer}
+use Rattle.std.specs.Prelude.{◌≡◌, ◌++◌, ⊤, ℕ, [], Bool, IsSome, List, Option, None, Some, codes, decimal}
+use Rattle.std.specs.Prelude.{false, true}
+use Rattle.check_command.specs.CheckCommand.{ExploreThen, reason_word, verdict_answer}
 use Rattle.check_command.specs.Judged.{IsTaskVerdict}
 use Rattle.command_base.specs.Answers.{Answer, affirmed, denied, refused}
 use Rattle.command_base.specs.Following.{HasTooManyStates}
 use Rattle.command_base.specs.Grounding.{GoalThen, GroundThen}
 use Rattle.command_base.specs.InitialStates.{InitialThen, empty_init}
 use Rattle.command_base.specs.PddlTexts.{ReadBoth}
-use Rattle.command_base.specs.PlanFiles.{IsFaultyPlan, KindThen, SpellsPlaced}
+use Rattle.command_base.specs.PlanFiles.{IsFaultyPlan, KindThen}
 use Rattle.command_base.specs.Reading.{ReadThen}
-use Rattle.command_base.specs.Words.{Bytes, CheckWords, PlanKind, of_class, with_contexts}
+use Rattle.command_base.specs.Words.{Bytes, PlanKind, of_class, with_contexts}
 use Rattle.ctl_syntax.specs.declared.goals.Ctl.{Ctl}
+use Rattle.finding_document.specs.Documents.{document_text}
 use Rattle.pddl_ast.specs.Trees.{DomainTree, ProblemTree}
 use Rattle.pddl_system.specs.Systems.{action_names, fluent_names, system}
 use Rattle.pddl_system.specs.Tasks.{task_of}
 use Rattle.pddl_system.specs.Values.{task_value}
+use Rattle.plan_check.specs.declared.verdicts.Reason.TheVariants.{Formula}
 use Rattle.plan_check.specs.declared.verdicts.Verdict.{Verdict}
+use Rattle.plan_check.specs.declared.verdicts.Verdict.TheVariants.{No, Yes}
 use Rattle.plan_finding.specs.Aims.{IsAimAt, class_aim, context_aim}
 use Rattle.plan_finding.specs.Findings.{IsFound, PlainFound}
-use Rattle.plan_finding.specs.Texts.{found_text}
+use Rattle.plan_finding.specs.Texts.{Source, found_text}
 use Rattle.plan_finding.specs.declared.aims.Aim.{Aim}
 use Rattle.plan_io.specs.Held.{Held}
 use Rattle.plan_rules.specs.Rules.{PlainPlan}
 use Rattle.plan_witness.specs.Runs.{NoneReached}
 use Rattle.task_core.specs.Tasks.{action_names as actions_in, fluent_names as fluents_in, system_of}
 use Rattle.task_core.specs.declared.tasks.Task.{Task}
+use Rattle.explain_plan.specs.Fairly.{FairThen, IsJudgedAs}
+use Rattle.explain_plan.specs.Lined.{LinedPlan, SpellsLined}
+use Rattle.explain_plan.specs.Words.{ExplainWords}
 
 -- what a run is to show for a verdict on a plan of the kind
 abbrev pub aim_of : PlanKind → Verdict → Aim
@@ -37,6 +44,18 @@ with_more (affirmed text) more = affirmed (text ++ more)
 with_more (denied text) more = denied (text ++ more)
 with_more (refused refusal) more = refused refusal
 
+-- an answer with another text
+abbrev pub with_text : Answer → Bytes → Answer
+with_text (affirmed old) text = affirmed text
+with_text (denied old) text = denied text
+with_text (refused refusal) text = refused refusal
+
+-- the words of a verdict: the line of `check` without its line feed
+abbrev pub verdict_words : Verdict → Bytes
+verdict_words (Yes None) = codes "yes"
+verdict_words (Yes (Some bound)) = codes "yes bound " ++ decimal bound
+verdict_words (No reason) = codes "no " ++ reason_word reason
+
 -- there is a run, with what is the matter at its end, to the aim, and no shorter one; or there is none,
 -- since the plan may reach no configuration that is the aim
 abbrev pub IsFinding : Aim → Task → PlainPlan → Option PlainFound → Type 0
@@ -44,59 +63,88 @@ IsFinding aim task plan (Some found) = IsFound aim task plan found
 IsFinding aim task plan None =
     NoneReached (system_of task) plan (IsAimAt aim (system_of task) plan)
 
--- the text of the run, where there is one
-abbrev pub finding_text : Task → PlainPlan → Option PlainFound → Bytes
-finding_text task plan None = []
-finding_text task plan (Some found) = found_text (fluents_in task) (actions_in task) plan found
+-- there is a run for a no: of a class, and of a plan with contexts but where its goal is missed
+abbrev pub IsShownFor : PlanKind → Verdict → Option PlainFound → Type 0
+IsShownFor kind (Yes bound) finding = ⊤
+IsShownFor (of_class class) (No reason) finding = IsSome finding
+IsShownFor with_contexts (No reason) finding = (reason ≡ Formula → ⊥) → IsSome finding
 
--- the answer is that of `check` for the verdict, and after it a shortest run that shows it
-pub record ExplainsIn (kind : PlanKind) (task : Task) (goal : Option Ctl) (plan : PlainPlan)
+-- the text of the run, where there is one
+abbrev pub finding_text : Source → Option PlainFound → Bytes
+finding_text source None = []
+finding_text source (Some found) = found_text source found
+
+-- what names and lines are taken from
+abbrev pub source_in : Task → PlainPlan → List ℕ → Source
+source_in task plan lines =
+    record { fluents = fluents_in task; actions = actions_in task; plan = plan; lines = lines }
+
+-- what is shown of a verdict and a run: the line of `check`, and the text of the run after it; or the
+-- document of both
+abbrev pub shown_answer : Bool → Source → Verdict → Option PlainFound → Answer
+shown_answer false source verdict finding =
+    with_more (verdict_answer verdict) (finding_text source finding)
+shown_answer true source verdict finding =
+    with_text (verdict_answer verdict) (document_text source (verdict_words verdict) finding)
+
+-- what is shown is a verdict on the plan of a task for this goal, and a shortest run that shows it
+pub record ExplainsIn (asked : ExplainWords) (task : Task) (lined : LinedPlan) (goal : Option Ctl)
     (answer : Answer) : Type 0 where
   pub verdict : Verdict
-  pub judged : IsTaskVerdict kind task goal plan verdict
+  pub judged : IsTaskVerdict asked.check.kind task goal lined.placed.plan verdict
   pub finding : Option PlainFound
-  pub found : IsFinding (aim_of kind verdict) task plan finding
-  pub shown : answer ≡ with_more (verdict_answer verdict) (finding_text task plan finding)
+  pub found : IsFinding (aim_of asked.check.kind verdict) task lined.placed.plan finding
+  pub some : IsShownFor asked.check.kind verdict finding
+  pub shown : answer
+      ≡ shown_answer asked.json (source_in task lined.placed.plan lined.lines) verdict finding
 
 -- the same for a domain and a problem, over the task that they are grounded to
-pub record Explains (kind : PlanKind) (domain : DomainTree) (problem : ProblemTree) (plan : PlainPlan)
-    (answer : Answer) : Type 0 where
+pub record Explains (asked : ExplainWords) (domain : DomainTree) (problem : ProblemTree)
+    (lined : LinedPlan) (answer : Answer) : Type 0 where
   pub verdict : Verdict
-  pub judged : IsVerdictOf kind domain problem plan verdict
+  pub judged : IsJudgedAs asked.fair asked.check.kind domain problem lined.placed.plan verdict
   pub task : Task
   pub grounded : task_value task ≡ task_of domain problem
   pub same : system_of task ≡ system domain problem
   pub finding : Option PlainFound
-  pub found : IsFinding (aim_of kind verdict) task plan finding
-  pub shown : answer ≡ with_more (verdict_answer verdict) (finding_text task plan finding)
+  pub found : IsFinding (aim_of asked.check.kind verdict) task lined.placed.plan finding
+  pub some : IsShownFor asked.check.kind verdict finding
+  pub shown : answer
+      ≡ shown_answer asked.json (source_in task lined.placed.plan lined.lines) verdict finding
 
 -- what follows once a plan of the kind was followed: there is no initial state, so that it reached
 -- nothing; or there is one, and the plan is judged and the verdict explained
-abbrev pub ExplainedThen : CheckWords → DomainTree → ProblemTree → PlainPlan → Answer → Type 0
-ExplainedThen asked domain problem plan =
-    InitialThen (empty_init asked.problem problem) (system domain problem).initial
-    (Explains asked.kind domain problem plan)
+abbrev pub ExplainedThen : ExplainWords → DomainTree → ProblemTree → LinedPlan → Answer → Type 0
+ExplainedThen asked domain problem lined =
+    InitialThen (empty_init asked.check.problem problem) (system domain problem).initial
+    (Explains asked domain problem lined)
 
--- what follows once both are read and within the limits: the plan is read, it is of the kind, it is
--- followed, judged and the verdict explained
-abbrev pub PlanThen : (Bytes → Held) → (Bytes → Type 0) → CheckWords → DomainTree → ProblemTree
+-- what follows once a plan of the kind was read: it is judged by some goal, it is followed, judged and the
+-- verdict explained
+abbrev pub FollowedThen : ExplainWords → DomainTree → ProblemTree → LinedPlan → Answer → Type 0
+FollowedThen asked domain problem lined =
+    FairThen asked.fair asked.check.problem domain problem
+    (ExploreThen (HasTooManyStates domain problem) (system domain problem) lined.placed.plan
+    (ExplainedThen asked domain problem lined))
+
+-- what follows once both are read and within the limits: the plan is read, and it is of the kind
+abbrev pub PlanThen : (Bytes → Held) → (Bytes → Type 0) → ExplainWords → DomainTree → ProblemTree
     → Answer → Type 0
 PlanThen held failed asked domain problem =
-    ReadThen held failed asked.plan
-    (SpellsPlaced (fluent_names domain problem) (action_names domain problem))
-    (IsFaultyPlan (fluent_names domain problem) (action_names domain problem)) (λ placed.
-    KindThen asked.kind asked.plan placed.place placed.plan
-    (ExploreThen (HasTooManyStates domain problem) (system domain problem) placed.plan
-    (ExplainedThen asked domain problem placed.plan)))
+    ReadThen held failed asked.check.plan
+    (SpellsLined (fluent_names domain problem) (action_names domain problem))
+    (IsFaultyPlan (fluent_names domain problem) (action_names domain problem)) (λ lined.
+    KindThen asked.check.kind asked.check.plan lined.placed.place lined.placed.plan
+    (FollowedThen asked domain problem lined))
 
 -- what follows once both are read
-abbrev pub IsExplained : (Bytes → Held) → (Bytes → Type 0) → CheckWords → DomainTree
+abbrev pub IsExplained : (Bytes → Held) → (Bytes → Type 0) → ExplainWords → DomainTree
     → ProblemTree → Answer → Type 0
 IsExplained held failed asked domain problem =
-    GoalThen asked.kind asked.problem problem
+    GoalThen asked.check.kind asked.check.problem problem
     (GroundThen domain problem (PlanThen held failed asked domain problem))
 
 -- the answer
-abbrev pub IsExplainAnswer : (Bytes → Held) → (Bytes → Type 0) → CheckWords → Answer → Type 0
+abbrev pub IsExplainAnswer : (Bytes → Held) → (Bytes → Type 0) → ExplainWords → Answer → Type 0
 IsExplainAnswer held failed asked =
-    ReadBoth held failed asked.domain asked.problem (IsExplained held failed asked)
+    ReadBoth held failed asked.check.domain asked.check.problem (IsExplained held failed asked)

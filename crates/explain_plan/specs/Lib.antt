@@ -1,4 +1,6 @@
 pub mod Explained
+pub mod Fairly
+pub mod Lined
 pub mod Runs
 pub mod Values
 pub mod Words

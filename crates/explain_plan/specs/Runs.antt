@@ -7,13 +7,19 @@ use Rattle.answer_help.specs.HelpedRuns.{IsHelpedRunOf}
 use Rattle.command_base.specs.Frame.{FailedIn, HasCauseOf, Run}
 use Rattle.command_base.specs.Words.{Bytes}
 use Rattle.explain_plan.specs.Explained.{IsExplainAnswer}
-use Rattle.explain_plan.specs.Words.{SaysExplain, wrong_explain}
+use Rattle.explain_plan.specs.Words.{ExplainWords, SaysExplain, wrong_explain}
 
 -- the words ask for nothing; or they ask for a verdict to be explained, and the answer is the one to
 -- that, or want of memory, which has no further cause
 abbrev pub HasExplainCause : (Bytes → Held) → (Bytes → Type 0) → List Bytes → Answer → Type 0
 HasExplainCause held failed words answer =
     HasCauseOf SaysExplain (IsExplainAnswer held failed) words answer
+
+-- the fetches for this answer: those of `check`
+abbrev pub FetchesToExplain : {S : Type 0} → (Bytes → Held) → (Bytes → Type 0)
+    → (S → Bytes → S → Type 0) → ExplainWords → Answer → S → S → Type 0
+FetchesToExplain {S} held failed fetched asked =
+    FetchesToCheck held failed fetched asked.check
 
 -- a run: nothing is handed in besides
 abbrev pub ExplainRun : Type 0 → Type 0
@@ -27,5 +33,5 @@ abbrev pub HasExplained : {S : Type 0} → (S → Bytes → Held) → (S → ℕ
     → ExplainRun S → Type 0
 HasExplained {S} held faults fetched run =
     IsHelpedRunOf SaysExplain (IsExplainAnswer (held run.shelf) (FailedIn faults fetched run))
-    (FetchesToCheck (held run.shelf) (FailedIn faults fetched run) fetched) wrong_explain held
+    (FetchesToExplain (held run.shelf) (FailedIn faults fetched run) fetched) wrong_explain held
     faults run

@@ -1,9 +1,13 @@
--- Private: what the code's own types stand for, over n fluents.
-use Rattle.std.specs.Prelude.{ℕ, Option}
-use Rattle.std.specs.Option.{option_map}
-use Rattle.plan_finding.specs.Findings.{PlainFound}
-use Rattle.plan_finding.specs.Values.{found_value}
-use Rattle.plan_finding.specs.declared.findings.Found.{Found}
+-- Private: what the code's own types stand for.
+use Rattle.command_base.specs.Values.{check_words_of, placed_of}
+use Rattle.explain_plan.specs.Lined.{LinedPlan}
+use Rattle.explain_plan.specs.Words.{ExplainWords}
+use Rattle.explain_plan.specs.declared.lined.Lined.{Lined as CodeLined}
+use Rattle.explain_plan.specs.declared.words.ExplainWords.{ExplainWords as CodeExplainWords}
 
-abbrev pub finding_value : ℕ → Option Found → Option PlainFound
-finding_value n = option_map (found_value n)
+abbrev pub explain_words_of : CodeExplainWords → ExplainWords
+explain_words_of asked =
+    record { check = check_words_of asked.check; fair = asked.fair; json = asked.json }
+
+abbrev pub lined_of : CodeLined → LinedPlan
+lined_of lined = record { placed = placed_of lined.read; lines = lined.lines.items }

@@ -1,15 +1,15 @@
 //! From the words to the answer.
 
-ghost use Rattle.check_command.specs.CheckCommand.{FetchesToCheck};
 ghost use Rattle.command_base.specs.Answers.{no_memory, refused};
 ghost use Rattle.command_base.specs.Faults.{IsQuietAt};
 ghost use Rattle.command_base.specs.Fetching.{Stops};
 ghost use Rattle.command_base.specs.Grounding.{GoalThen, GroundThen, has_goal_for};
-ghost use Rattle.command_base.specs.Values.{answer_of, check_words_of};
-ghost use Rattle.command_base.specs.Words.{CheckWords as AskedWords};
+ghost use Rattle.command_base.specs.Values.{answer_of, kind_of};
+ghost use Rattle.command_base.specs.Words.{with_contexts};
 ghost use Rattle.explain_plan.specs.Explained.{IsExplainAnswer, IsExplained};
-ghost use Rattle.explain_plan.specs.Runs.{HasExplainCause};
-ghost use Rattle.explain_plan.specs.Words.{AskNothing, SaysExplain};
+ghost use Rattle.explain_plan.specs.Runs.{FetchesToExplain, HasExplainCause};
+ghost use Rattle.explain_plan.specs.Values.{explain_words_of};
+ghost use Rattle.explain_plan.specs.Words.{AskNothing, ExplainWords as AskedWords, SaysExplain};
 ghost use Rattle.pddl_ast.specs.Fits.{FitsDomain, FitsProblem};
 ghost use Rattle.pddl_ast.specs.Values.{domain_value, problem_value};
 ghost use Rattle.pddl_system.specs.Names.{NamesAreWords};
@@ -29,11 +29,11 @@ ghost use Rattle.std.specs.Prelude.{
   ℕ,
 };
 
+use crate::lined::read_lined;
 use crate::verdicts::explain_read;
-use crate::words::read_words;
-use command_base::{
-    CheckWords, Refusal, Shown, check_goal, ground_both, read_both, read_plan_file,
-};
+use crate::words::{ExplainWords, read_words};
+use command_base::{Refusal, Shown, check_goal, ground_both, read_both};
+use fair_theory::fair_goals_are_true;
 use pddl_ast::{Domain, Problem};
 use pddl_system::grounded_goals_are_true;
 use plan_io::Shelf;
@@ -50,7 +50,7 @@ pub(crate) fn answer<S: Shelf>(
         (answer_of result) }
     ensures fetches { let failed = FailedLast S.fetched S.faults shelf.old shelf.new in
         (asked : AskedWords) → SaysExplain (map string_bytes words.now) asked
-        → FetchesToCheck (S.held shelf.old) failed S.fetched asked (answer_of result)
+        → FetchesToExplain (S.held shelf.old) failed S.fetched asked (answer_of result)
         shelf.old shelf.new }
     ensures no_fetch { AskNothing (map string_bytes words.now) → shelf.new ≡ shelf.old }
     ensures quiet_at { IsQuietAt (answer_of result) (S.faults shelf.old) (S.faults shelf.new) }
@@ -67,19 +67,20 @@ pub(crate) fn answer<S: Shelf>(
 fn explain_files<S: Shelf>(
     alloc: Global,
     shelf: &mut S,
-    asked: &CheckWords,
+    asked: &ExplainWords,
 ) -> Result<Shown, Refusal>
+    requires fair { asked.now.fair ≡ true → kind_of asked.now.check.kind ≡ with_contexts }
     ensures answer { let failed = FailedLast S.fetched S.faults shelf.old shelf.new in
         (answer_of result ≡ refused no_memory)
-        ⊎ IsExplainAnswer (S.held shelf.old) failed (check_words_of asked.now) (answer_of result) }
+        ⊎ IsExplainAnswer (S.held shelf.old) failed (explain_words_of asked.now) (answer_of result) }
     ensures fetches { let failed = FailedLast S.fetched S.faults shelf.old shelf.new in
-        FetchesToCheck (S.held shelf.old) failed S.fetched (check_words_of asked.now)
+        FetchesToExplain (S.held shelf.old) failed S.fetched (explain_words_of asked.now)
         (answer_of result) shelf.old shelf.new }
     ensures quiet_at { IsQuietAt (answer_of result) (S.faults shelf.old) (S.faults shelf.new) }
     ensures kept { (file : List ℕ) → S.held shelf.new file ≡ S.held shelf.old file }
     ensures later { S.faults shelf.old ≤ S.faults shelf.new }
 {
-    let (domain, problem) = read_both(alloc, shelf, asked.domain, asked.problem)?;
+    let (domain, problem) = read_both(alloc, shelf, asked.check.domain, asked.check.problem)?;
     explain_problem(alloc, shelf, asked, &domain, &problem)
 }
 
@@ -87,18 +88,19 @@ fn explain_files<S: Shelf>(
 fn explain_problem<S: Shelf>(
     alloc: Global,
     shelf: &mut S,
-    asked: &CheckWords,
+    asked: &ExplainWords,
     domain: &Domain,
     problem: &Problem,
 ) -> Result<Shown, Refusal>
+    requires fair { asked.now.fair ≡ true → kind_of asked.now.check.kind ≡ with_contexts }
     requires fits_domain { FitsDomain (domain_value domain.now) }
     requires fits_problem { FitsProblem (domain_value domain.now) (problem_value problem.now) }
     requires names { NamesAreWords (domain_value domain.now) (problem_value problem.now) }
     ensures answer { let failed = FailedLast S.fetched S.faults shelf.old shelf.new in
         (answer_of result ≡ refused no_memory)
-        ⊎ IsExplained (S.held shelf.old) failed (check_words_of asked.now)
+        ⊎ IsExplained (S.held shelf.old) failed (explain_words_of asked.now)
         (domain_value domain.now) (problem_value problem.now) (answer_of result) }
-    ensures fetches { let asked = check_words_of asked.now in
+    ensures fetches { let asked = (explain_words_of asked.now).check in
         (Stops (GoalThen asked.kind asked.problem (problem_value problem.now)
         (GroundThen (domain_value domain.now) (problem_value problem.now) (λ answer. ⊥)))
         (answer_of result) × (shelf.new ≡ shelf.old))
@@ -109,11 +111,12 @@ fn explain_problem<S: Shelf>(
     ensures kept { (file : List ℕ) → S.held shelf.new file ≡ S.held shelf.old file }
     ensures later { S.faults shelf.old ≤ S.faults shelf.new }
 {
-    // This does nothing: that the task's goal is true where the problem's is rests on what it
-    // promises.
+    // These do nothing: that the task's goal is true where the problem's is, and the one that stands for it
+    // where it is had fairly, rests on what they promise.
     grounded_goals_are_true();
-    check_goal(alloc, asked.kind, asked.problem, problem)?;
+    fair_goals_are_true();
+    check_goal(alloc, asked.check.kind, asked.check.problem, problem)?;
     let grounded = ground_both(alloc, domain, problem)?;
-    let read = read_plan_file(alloc, shelf, asked.plan, &grounded.task)?;
-    explain_read(alloc, asked, problem, &grounded, &read)
+    let lined = read_lined(alloc, shelf, asked.check.plan, &grounded.task)?;
+    explain_read(alloc, asked, problem, grounded, &lined)
 }

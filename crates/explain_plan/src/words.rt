@@ -1,36 +1,116 @@
-//! The words: which verdict is to be explained.
+//! The words: which verdict is to be explained, and how.
 
 ghost use Rattle.answer_help.specs.Values.{wrong_of};
-ghost use Rattle.command_base.specs.Values.{check_words_of, kind_of};
+ghost use Rattle.command_base.specs.Values.{kind_of};
 ghost use Rattle.command_base.specs.Words.{PlanKind as AskedKind, kind_word};
+ghost use Rattle.explain_plan.specs.Values.{explain_words_of};
 ghost use Rattle.explain_plan.specs.Words.{
   AskNothing,
+  ExplainWords as Asked,
+  IsJudge,
   SaysExplain,
   names_kind as is_kind,
   wrong_after_kind as wrong_in_rest,
+  wrong_after_plan as wrong_option,
   wrong_explain as wrong_in,
 };
 ghost use Rattle.plan_rules.specs.Texts.{class_word};
-ghost use Rattle.std.specs.Prelude.{◌≡◌, MatchOption, map, string_bytes};
+ghost use Rattle.std.specs.Prelude.{◌≡◌, ◌∷◌, Bool, List, MatchOption, false, map, string_bytes, true, ℕ};
 ghost use Rattle.task_core.specs.declared.classes.Class.{Class as AskedClass};
 
-use answer_help::{NO_KIND, ONE_TOO_MANY, WrongWords};
+use answer_help::{ONE_TOO_MANY, WrongWords};
 use command_base::{CheckWords, PlanKind};
 use plan_rules::Class;
 
-/// What the words ask: `CLASS DOMAIN PROBLEM PLAN`, or `ctl DOMAIN PROBLEM PLAN`.
-pub(crate) fn read_words<'a>(words: &'a [String]) -> Option<CheckWords<'a>>
+/// What is asked: the verdict on a plan, by the goal as it is written, or by the one that stands in its
+/// place where actions may be tried again; as text, or as a JSON document.
+#[derive(Clone, Copy)]
+pub(crate) struct ExplainWords<'a> {
+    pub(crate) check: CheckWords<'a>,
+    pub(crate) fair: bool,
+    pub(crate) json: bool,
+}
+
+/// What the words ask: `CLASS DOMAIN PROBLEM PLAN`, `ctl DOMAIN PROBLEM PLAN` or
+/// `fair DOMAIN PROBLEM PLAN`, and then `--json` or nothing.
+pub(crate) fn read_words<'a>(words: &'a [String]) -> Option<ExplainWords<'a>>
     ensures { let said = map string_bytes words.now in
-        MatchOption result (AskNothing said) (λ asked. SaysExplain said (check_words_of asked)) }
+        MatchOption result (AskNothing said) (λ asked. SaysExplain said (explain_words_of asked)) }
 {
-    match words {
-        [kind, domain, problem, plan] => Some(CheckWords {
-            kind: kind_named(kind)?,
+    match text_words(words) {
+        Some(asked) => Some(asked),
+        None => document_words(words),
+    }
+}
+
+/// What the words ask that ask for a text.
+fn text_words<'a>(words: &'a [String]) -> Option<ExplainWords<'a>>
+    ensures { let said = map string_bytes words.now in
+        MatchOption result ((asked : Asked) → asked.json ≡ false → SaysExplain said asked → ⊥)
+        (λ asked. SaysExplain said (explain_words_of asked)) }
+{
+    let [judge, domain, problem, plan] = words else {
+        return None;
+    };
+    let judge = judge_named(judge)?;
+    Some(ExplainWords {
+        check: CheckWords {
+            kind: judge.kind,
             domain,
             problem,
             plan,
-        }),
-        _ => None,
+        },
+        fair: judge.fair,
+        json: false,
+    })
+}
+
+/// What the words ask that ask for a document.
+fn document_words<'a>(words: &'a [String]) -> Option<ExplainWords<'a>>
+    ensures { let said = map string_bytes words.now in
+        MatchOption result ((asked : Asked) → asked.json ≡ true → SaysExplain said asked → ⊥)
+        (λ asked. SaysExplain said (explain_words_of asked)) }
+{
+    let [judge, domain, problem, plan, option] = words else {
+        return None;
+    };
+    if option.as_str() != "--json" {
+        return None;
+    }
+    let judge = judge_named(judge)?;
+    Some(ExplainWords {
+        check: CheckWords {
+            kind: judge.kind,
+            domain,
+            problem,
+            plan,
+        },
+        fair: judge.fair,
+        json: true,
+    })
+}
+
+/// By what a plan is judged.
+#[derive(Clone, Copy)]
+struct Judge {
+    kind: PlanKind,
+    fair: bool,
+}
+
+/// What a plan is judged by that this word names.
+fn judge_named(word: &str) -> Option<Judge>
+    ensures { MatchOption result ((kind : AskedKind) (fair : Bool) → IsJudge word.now kind fair → ⊥)
+        (λ judge. IsJudge word.now (kind_of judge.kind) judge.fair) }
+{
+    if word == "fair" {
+        return Some(Judge {
+            kind: PlanKind::Contexts,
+            fair: true,
+        });
+    }
+    match kind_named(word) {
+        Some(kind) => Some(Judge { kind, fair: false }),
+        None => None,
     }
 }
 
@@ -77,26 +157,54 @@ pub(crate) fn wrong_explain<'a>(words: &'a [String]) -> WrongWords<'a>
     }
     WrongWords::Word {
         word: kind,
-        why: NO_KIND,
+        why: "none of `weak`, `strong`, `cyclic`, `ctl` and `fair`",
     }
 }
 
-/// Whether a word names a class, or is `ctl`.
+/// Whether a word names a class, or is `ctl` or `fair`.
 fn names_kind(word: &str) -> bool
     ensures { result ≡ is_kind word.now }
 {
-    word == "weak" || word == "strong" || word == "cyclic" || word == "ctl"
+    word == "weak" || word == "strong" || word == "cyclic" || word == "ctl" || word == "fair"
 }
 
 /// What is wrong with the words after the class.
 fn wrong_after_kind<'a>(words: &'a [String]) -> WrongWords<'a>
     ensures { wrong_of result ≡ wrong_in_rest (map string_bytes words.now) }
 {
-    let [_domain, _problem, _plan, word, ..] = words else {
+    let [_domain, _problem, _plan, rest @ ..] = words else {
         return WrongWords::TooFew;
     };
+    wrong_after_plan(rest)
+}
+
+/// What is wrong with the words after the plan.
+fn wrong_after_plan<'a>(words: &'a [String]) -> WrongWords<'a>
+    ensures { wrong_of result ≡ wrong_option (map string_bytes words.now) }
+{
+    match words {
+        [] => WrongWords::TooFew,
+        [option] => WrongWords::Word {
+            word: option,
+            why: ONE_TOO_MANY,
+        },
+        [option, word, ..] => one_too_many(option, word),
+    }
+}
+
+/// The word that is too many: the second, after `--json`, and else the first.
+fn one_too_many<'a>(option: &'a str, word: &'a str) -> WrongWords<'a>
+    ensures { (words : List (List ℕ))
+        → wrong_of result ≡ wrong_option (option.now ∷ word.now ∷ words) }
+{
+    if option == "--json" {
+        return WrongWords::Word {
+            word,
+            why: ONE_TOO_MANY,
+        };
+    }
     WrongWords::Word {
-        word,
+        word: option,
         why: ONE_TOO_MANY,
     }
 }

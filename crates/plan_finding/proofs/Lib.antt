@@ -1,4 +1,7 @@
 mod Ends
+mod Failures
 mod FalseParts
 mod Placed
 mod Pushed
+mod Stems
+mod Stuck

@@ -1,9 +1,9 @@
 -- The text of a run with what is the matter at its end: what is printed, byte for byte.
-use Rattle.std.specs.Prelude.{◌==◌, ◌&&◌, ℕ, suc, Bool, true, List, [], ◌∷◌, ◌++◌, codes, decimal}
-use Rattle.std.specs.Prelude.{if◌then◌else◌, map, false}
+use Rattle.std.specs.Prelude.{◌==◌, ◌&&◌, ◌+◌, ℕ, suc, Bool, true, List, [], ◌∷◌, ◌++◌, codes, decimal}
+use Rattle.std.specs.Prelude.{if◌then◌else◌, map, false, None, Option, Some, slice_index_or}
 use Rattle.std.specs.List.{flat_map}
-use Rattle.plan_finding.specs.Findings.{Ending, PlainFound, comes_back, in_goal, never_ending, never_in_goal}
-use Rattle.plan_finding.specs.Findings.{not_executable, outside_goal, without_next, without_rule}
+use Rattle.plan_finding.specs.Findings.{Ending, PlainFound, again_from, comes_back, in_goal, never_ending}
+use Rattle.plan_finding.specs.Findings.{never_in_goal, not_executable, outside_goal, without_next, without_rule}
 use Rattle.plan_rules.specs.Rules.{PlainPlan, PlanRule, automaton, table}
 use Rattle.plan_rules.specs.Texts.{atom_text, line_feed, name_at}
 use Rattle.plan_witness.specs.Runs.{PlainRun, PlainStep}
@@ -18,28 +18,50 @@ abbrev pub initial_line : List Name → ℕ → Vector → List ℕ
 initial_line fluents number state =
     codes "initial " ++ decimal number ++ codes ":" ++ true_text fluents state ++ line_feed
 
+-- what a text takes its words from: the names of fluents and actions, the plan, and the line of each of
+-- its rules
+pub record Source : Type 0 where
+  pub fluents : List Name
+  pub actions : List Name
+  pub plan : PlainPlan
+  pub lines : List ℕ
+
+-- the line in which a rule begins
+abbrev pub line_of : Source → ℕ → ℕ
+line_of source rule = slice_index_or source.lines rule 0
+
+-- a rule, as rule 2 (line 4)
+abbrev pub rule_text : Source → ℕ → List ℕ
+rule_text source rule =
+    codes "rule " ++ decimal rule ++ codes " (line " ++ decimal (line_of source rule) ++ codes ")"
+
 -- the context to which a step leads, where the plan has contexts
 abbrev pub context_note : PlainPlan → ℕ → List ℕ
 context_note (table class rules) context = []
 context_note (automaton contexts rules) context = codes ", context " ++ decimal context
 
--- the rule, the action and the outcome of a step, as rule 2: (go a b), outcome 0
-abbrev pub move_text : List Name → PlainStep → List ℕ
-move_text actions step =
-    codes "rule " ++ decimal step.rule ++ codes ": " ++ atom_text (name_at actions step.action)
+-- the rule, the action and the outcome of a step, as rule 2 (line 4): (go a b), outcome 0
+abbrev pub move_text : Source → PlainStep → List ℕ
+move_text source step =
+    rule_text source step.rule ++ codes ": " ++ atom_text (name_at source.actions step.action)
     ++ codes ", outcome " ++ decimal step.outcome
 
--- the lines of a step from a state: what it is, and a line for each change
-abbrev pub step_lines : List Name → List Name → PlainPlan → Vector → PlainStep → List ℕ
-step_lines fluents actions plan before step =
-    move_text actions step ++ context_note plan step.after.context ++ line_feed
-    ++ changes_text fluents before step.after.state
+-- the number of a step, counted from 1, as step 3,
+abbrev pub number_text : ℕ → List ℕ
+number_text number = codes "step " ++ decimal number ++ codes ", "
 
-abbrev pub steps_text : List Name → List Name → PlainPlan → Vector → List PlainStep → List ℕ
-steps_text fluents actions plan before [] = []
-steps_text fluents actions plan before (step ∷ steps) =
-    step_lines fluents actions plan before step
-    ++ steps_text fluents actions plan step.after.state steps
+-- the lines of a step from a state: what it is, and a line for each change
+abbrev pub step_lines : Source → ℕ → Vector → PlainStep → List ℕ
+step_lines source number before step =
+    number_text number ++ move_text source step ++ context_note source.plan step.after.context
+    ++ line_feed ++ changes_text source.fluents before step.after.state
+
+-- the lines of steps, of which the first has this number
+abbrev pub steps_text : Source → ℕ → Vector → List PlainStep → List ℕ
+steps_text source number before [] = []
+steps_text source number before (step ∷ steps) =
+    step_lines source number before step
+    ++ steps_text source (number + 1) step.after.state steps
 
 -- conditions, each after a space
 abbrev pub conditions_text : List Name → List Cond → List ℕ
@@ -51,22 +73,32 @@ refusal_note fluents [] = codes "though its precondition holds"
 refusal_note fluents (part ∷ parts) =
     codes "false is" ++ conditions_text fluents (part ∷ parts)
 
+-- that a run is back where it was before the step of this number, counted from 1
+abbrev pub back_text : Option ℕ → List ℕ
+back_text None = codes "some run from here comes back here"
+back_text (Some number) =
+    codes "the run is back where it was before step " ++ decimal number
+    ++ codes ", and may go on so for ever"
+
 -- what is the matter at the end of a run
-abbrev pub sentence : List Name → List Name → Ending → List ℕ
-sentence fluents actions in_goal = codes "the plan ends here, in the goal"
-sentence fluents actions (outside_goal parts) =
-    codes "the plan ends here, outside the goal: false is" ++ conditions_text fluents parts
-sentence fluents actions (not_executable rule action parts) =
-    codes "rule " ++ decimal rule ++ codes " counts here, but "
-    ++ atom_text (name_at actions action) ++ codes " can't be executed: "
-    ++ refusal_note fluents parts
-sentence fluents actions without_rule = codes "the context has no rule for this state"
-sentence fluents actions (without_next rule action) =
-    codes "rule " ++ decimal rule ++ codes " counts here, but has no next context for an outcome of "
-    ++ atom_text (name_at actions action)
-sentence fluents actions comes_back = codes "some run from here comes back here"
-sentence fluents actions never_in_goal = codes "no run from here ends in the goal"
-sentence fluents actions never_ending = codes "no run from here ends"
+abbrev pub ending_text : Source → Option ℕ → Ending → List ℕ
+ending_text source again in_goal = codes "the plan ends here, in the goal"
+ending_text source again (outside_goal parts) =
+    codes "the plan ends here, outside the goal: false is" ++ conditions_text source.fluents parts
+ending_text source again (not_executable rule action parts) =
+    rule_text source rule ++ codes " counts here, but "
+    ++ atom_text (name_at source.actions action) ++ codes " can't be executed: "
+    ++ refusal_note source.fluents parts
+ending_text source again without_rule = codes "the context has no rule for this state"
+ending_text source again (without_next rule action outcome) =
+    rule_text source rule ++ codes " counts here, but has no next context for outcome "
+    ++ decimal outcome ++ codes " of " ++ atom_text (name_at source.actions action)
+ending_text source again comes_back = back_text again
+ending_text source again never_in_goal = codes "no run from here ends in the goal"
+ending_text source again never_ending = codes "no run from here ends"
+
+abbrev pub sentence : Source → PlainFound → List ℕ
+sentence source found = ending_text source (again_from found) found.ending
 
 -- the number of the first rule that matches a state
 abbrev pub first_match : List PlanRule → Vector → ℕ
@@ -97,9 +129,9 @@ record_line plan number run =
     else codes "no record: some step takes a rule that isn't the first that matches") ++ line_feed
 
 -- the whole text: the initial state, the steps, what is the matter at the end, and the record
-abbrev pub found_text : List Name → List Name → PlainPlan → PlainFound → List ℕ
-found_text fluents actions plan found =
-    initial_line fluents found.number found.run.start.state
-    ++ steps_text fluents actions plan found.run.start.state found.run.steps
-    ++ sentence fluents actions found.ending ++ line_feed
-    ++ record_line plan found.number found.run
+abbrev pub found_text : Source → PlainFound → List ℕ
+found_text source found =
+    initial_line source.fluents found.number found.run.start.state
+    ++ steps_text source 1 found.run.start.state found.run.steps
+    ++ sentence source found ++ line_feed
+    ++ record_line source.plan found.number found.run

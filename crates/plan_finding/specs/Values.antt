@@ -1,5 +1,6 @@
 -- Private: what the code's own types stand for, over n fluents.
-use Rattle.std.specs.Prelude.{ℕ, map}
+use Rattle.std.specs.Prelude.{ℕ, Option, map}
+use Rattle.std.specs.Option.{option_map}
 use Rattle.plan_finding.specs.Findings.{Ending, PlainFound, comes_back, in_goal, never_ending, never_in_goal}
 use Rattle.plan_finding.specs.Findings.{not_executable, outside_goal, without_next, without_rule}
 use Rattle.plan_finding.specs.declared.endings.Ending.{Ending as CodeEnding}
@@ -8,7 +9,11 @@ use Rattle.plan_finding.specs.declared.endings.Ending.TheVariants.{NeverEnding, 
 use Rattle.plan_finding.specs.declared.endings.Ending.TheVariants.{NotExecutable, WithoutNext}
 use Rattle.plan_finding.specs.declared.endings.Ending.TheVariants.{WithoutRule}
 use Rattle.plan_finding.specs.declared.findings.Found.{Found}
+use Rattle.plan_finding.specs.Texts.{Source}
+use Rattle.plan_finding.specs.declared.sources.Source.{Source as CodeSource}
+use Rattle.plan_rules.specs.Rules.{plain_of}
 use Rattle.plan_witness.specs.Values.{run_value}
+use Rattle.task_core.specs.Tasks.{action_names, fluent_names}
 
 abbrev pub ending_value : CodeEnding → Ending
 ending_value InGoal = in_goal
@@ -16,7 +21,7 @@ ending_value (OutsideGoal parts) = outside_goal (map (λ part. part.now) parts.i
 ending_value (NotExecutable rule action parts) =
     not_executable rule action.0 (map (λ part. part.now) parts.items)
 ending_value WithoutRule = without_rule
-ending_value (WithoutNext rule action) = without_next rule action.0
+ending_value (WithoutNext rule action outcome) = without_next rule action.0 outcome
 ending_value ComesBack = comes_back
 ending_value NeverInGoal = never_in_goal
 ending_value NeverEnding = never_ending
@@ -25,5 +30,17 @@ abbrev pub found_value : ℕ → Found → PlainFound
 found_value n found = record {
   number = found.number;
   run = run_value n found.run;
+  stem = found.stem;
   ending = ending_value found.ending;
 }
+
+abbrev pub source_value : CodeSource → Source
+source_value source = record {
+  fluents = fluent_names source.task.now;
+  actions = action_names source.task.now;
+  plan = plain_of source.plan.now;
+  lines = source.lines.now;
+}
+
+abbrev pub finding_value : ℕ → Option Found → Option PlainFound
+finding_value n = option_map (found_value n)

@@ -1,7 +1,7 @@
 //! What a run is to show.
 
 ghost use Rattle.plan_finding.specs.Aims.{class_aim as aim_of_class, context_aim as aim_of_contexts};
-ghost use Rattle.std.specs.Prelude.{◌≡◌};
+ghost use Rattle.std.specs.Prelude.{◌≡◌, ◌↔◌, true};
 
 use plan_check::{Reason, Verdict};
 use task_core::Class;
@@ -53,4 +53,11 @@ pub fn context_aim(verdict: &Verdict) -> Aim
         Verdict::No(Reason::Stuck) => Aim::Unfinished,
         _ => Aim::Nothing,
     }
+}
+
+/// Whether a run is to come back to where it was.
+pub(crate) fn is_round(aim: Aim) -> bool
+    ensures { (result ≡ true) ↔ (aim ≡ Aim.Round) }
+{
+    aim == Aim::Round
 }

@@ -4,16 +4,19 @@ ghost use Rattle.exec_graph.specs.Executions.{IsStuckAt, IsUnexecutableAt};
 ghost use Rattle.plan_finding.specs.Aims.{HasGoalFor, IsAimAt};
 ghost use Rattle.plan_finding.specs.Findings.{HasFalseGoal, HasFalsePrecondition, IsEndingAt};
 ghost use Rattle.plan_finding.specs.Values.{ending_value};
+ghost use Rattle.plan_guide.specs.RunRules.{IsRunRuleOf};
 ghost use Rattle.plan_rules.specs.Plans.{IsPlanOf};
-ghost use Rattle.plan_rules.specs.Rules.{plain_of};
-ghost use Rattle.std.specs.Prelude.{◌<◌, IfOk, IsSome, map};
+ghost use Rattle.plan_rules.specs.Rules.{automaton, context_rule_of, plain_of};
+ghost use Rattle.plan_witness.specs.Ends.{IsLostAt, LosesOutcome};
+ghost use Rattle.std.specs.Prelude.{◌<◌, All, IfOk, IsSome, map, ℕ};
 ghost use Rattle.task_core.specs.States.{IsWithin, vector};
 ghost use Rattle.task_core.specs.Tasks.{action_count, fluent_count, system_of};
 
 use crate::aims::Aim;
-use crate::rules::{bad_rule, context_rule};
+use crate::rules::bad_rule;
 use condition_parts::false_parts;
-use plan_rules::Plan;
+use plan_rules::{AutoRule, Plan};
+use plan_witness::{counting_rule, lost_outcome};
 use std::alloc::{AllocError, Global};
 use task_core::{ActionId, Cond, State, Task};
 
@@ -29,8 +32,8 @@ pub enum Ending<'a> {
     NotExecutable(usize, ActionId, Vec<&'a Cond>),
     /// The context has no rule there.
     WithoutRule,
-    /// The rule of this number counts there, and has no next context for an outcome of its action.
-    WithoutNext(usize, ActionId),
+    /// The rule of this number counts there, and has no next context for this outcome of its action.
+    WithoutNext(usize, ActionId, u32),
     /// Some run from there comes back.
     ComesBack,
     /// No run from there ends in the goal.
@@ -124,6 +127,7 @@ fn false_precondition<'a>(
 /// Why a plan with contexts doesn't go on in a state and a context.
 fn unfinished<'a>(task: &Task, plan: &Plan, state: &State, context: u32) -> Ending<'a>
     requires plan { IsPlanOf (fluent_count task.now) (action_count task.now) plan.now }
+    requires inside { IsWithin (fluent_count task.now) state.now }
     requires aim { let v = vector (fluent_count task.now) state.now in
         IsStuckAt (system_of task.now) (plain_of plan.now)
         (record { state = v; context = context }) }
@@ -133,9 +137,41 @@ fn unfinished<'a>(task: &Task, plan: &Plan, state: &State, context: u32) -> Endi
 {
     match plan {
         Plan::Table(_) => Ending::NeverEnding,
-        Plan::Auto(auto) => match context_rule(task, &auto.rules, state, context) {
-            Some(chosen) => Ending::WithoutNext(chosen.number, chosen.action),
-            None => Ending::WithoutRule,
-        },
+        Plan::Auto(auto) => unfinished_by(task, &auto.rules, state, context),
     }
+}
+
+/// Why the rules of a plan with contexts don't go on in a state and a context.
+fn unfinished_by<'a>(task: &Task, rules: &[AutoRule], state: &State, context: u32) -> Ending<'a>
+    requires rules { let n = fluent_count task.now in let m = action_count task.now in
+        All (λ rule. IsRunRuleOf n m (context_rule_of rule)) rules.now }
+    requires inside { IsWithin (fluent_count task.now) state.now }
+    requires aim { let v = vector (fluent_count task.now) state.now in
+        IsStuckAt (system_of task.now) (automaton 0 (map context_rule_of rules.now))
+        (record { state = v; context = context }) }
+    ensures { let v = vector (fluent_count task.now) state.now in (contexts : ℕ)
+        → IsEndingAt task.now (automaton contexts (map context_rule_of rules.now))
+        (record { state = v; context = context }) (ending_value result) }
+{
+    match counting_rule(task, rules, state, context) {
+        Some(number) => {
+            let rule = &rules[number];
+            let outcome = lost_number(task, rule, state);
+            Ending::WithoutNext(number, rule.action, outcome)
+        }
+        None => Ending::WithoutRule,
+    }
+}
+
+/// The first outcome of a rule's action for which the rule has no next context, where there is one.
+fn lost_number(task: &Task, rule: &AutoRule, state: &State) -> u32
+    requires rule { let n = fluent_count task.now in let m = action_count task.now in
+        IsRunRuleOf n m (context_rule_of rule.now) }
+    requires inside { IsWithin (fluent_count task.now) state.now }
+    requires loses { let v = vector (fluent_count task.now) state.now in
+        LosesOutcome (system_of task.now) (context_rule_of rule.now) v }
+    ensures { let v = vector (fluent_count task.now) state.now in
+        IsLostAt (system_of task.now) (context_rule_of rule.now) v result }
+{
+    lost_outcome(task, rule, state).unwrap()
 }

@@ -1,5 +1,6 @@
 //! What speaks for a verdict on a plan: a shortest run that shows it, the number of the initial state
-//! in which it begins, and what is the matter at its end; and the text of that.
+//! in which it begins, and what is the matter at its end; and the text of that. A run that comes back is
+//! shown with a shortest way back.
 //!
 //! `specs/Aims.antt` says what shows which verdict, `specs/Findings.antt` what is said of a run, and
 //! `specs/Texts.antt` what is printed, byte for byte.
@@ -8,12 +9,16 @@
 mod aims;
 mod endings;
 mod findings;
+mod laws;
 mod numbers;
 mod rules;
 mod runs;
+mod sources;
 mod texts;
 
 pub use aims::{Aim, class_aim, context_aim};
 pub use endings::Ending;
-pub use findings::{Found, find};
-pub use texts::found_text;
+pub use findings::{Found, cycle_from, find};
+pub use laws::failures_are_shown;
+pub use sources::{Source, line_at};
+pub use texts::{ending_sentence, found_text};

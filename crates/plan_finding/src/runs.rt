@@ -4,12 +4,12 @@ ghost use Rattle.exec_graph.specs.Values.{IsWithinFluents};
 ghost use Rattle.plan_finding.specs.Aims.{HasGoalFor, IsAimAt};
 ghost use Rattle.plan_rules.specs.Plans.{IsPlanOf};
 ghost use Rattle.plan_rules.specs.Rules.{plain_of};
-ghost use Rattle.plan_witness.specs.Lassos.{ComesBack};
+ghost use Rattle.plan_witness.specs.Lassos.{ComesBack, IsLasso};
 ghost use Rattle.plan_witness.specs.Marked.{IsGraphIn};
 ghost use Rattle.plan_witness.specs.Runs.{IsShortestRun, NoneReached, end_of};
-ghost use Rattle.plan_witness.specs.Values.{run_value};
+ghost use Rattle.plan_witness.specs.Values.{lasso_value, run_value};
 ghost use Rattle.plan_witness.specs.Within.{IsRunWithin};
-ghost use Rattle.std.specs.Prelude.{◌≡◌, ◌<◌, IfNone, IfOk, IfSome, ℕ};
+ghost use Rattle.std.specs.Prelude.{◌≡◌, ◌<◌, ◌++◌, IfNone, IfOk, IfSome, ℕ};
 ghost use Rattle.task_core.specs.States.{IsWithin, vector};
 ghost use Rattle.task_core.specs.Tasks.{action_count, fluent_count, system_of};
 
@@ -17,14 +17,16 @@ use crate::aims::Aim;
 use exec_graph::{Graph, Steps};
 use plan_rules::Plan;
 use plan_witness::{
-    Run, cycle_run, endless_run, goal_run, lost_run, stuck_run, terminal_run, unexecutable_run,
+    Lasso, Run, cycle_run, endless_run, goal_run, lost_run, stuck_run, terminal_run,
+    unexecutable_run,
 };
 use std::alloc::{AllocError, Global};
 use std::marker::Brand;
 use std::sync::ledger::{Blank, Ledger};
 use task_core::{State, Task};
 
-/// A shortest run of a plan to an aim, read off its graph; `None` where the plan may reach none.
+/// A shortest run of a plan to an aim, other than to come back, read off its graph; `None` where the plan
+/// may reach none.
 pub(crate) fn run_to(
     alloc: Global,
     task: &Task,
@@ -33,6 +35,7 @@ pub(crate) fn run_to(
     aim: Aim,
 ) -> Result<Option<Run>, AllocError>
     requires goal { HasGoalFor aim task.now }
+    requires other { aim ≡ Aim.Round → ⊥ }
     requires plan { IsPlanOf (fluent_count task.now) (action_count task.now) plan.now }
     requires graph { IsGraphIn task.now plan.now graph.now }
     requires inside { IsWithinFluents (fluent_count task.now) graph.now }
@@ -56,6 +59,7 @@ fn run_in<L: Ledger>(
     blank: Blank,
 ) -> Result<Option<Run>, AllocError>
     requires goal { HasGoalFor aim task.now }
+    requires other { aim ≡ Aim.Round → ⊥ }
     requires plan { IsPlanOf (fluent_count task.now) (action_count task.now) plan.now }
     requires graph { IsGraphIn task.now plan.now graph.now }
     requires inside { IsWithinFluents (fluent_count task.now) graph.now }
@@ -76,34 +80,68 @@ fn run_in<L: Ledger>(
         Aim::Outside => terminal_run(alloc, task, plan, graph, &mut steps),
         Aim::Bad => unexecutable_run(alloc, task, plan, graph, &mut steps),
         Aim::Unfinished => stuck_run(alloc, task, plan, graph, &mut steps),
-        Aim::Round => back_run(alloc, task, plan, graph, &mut steps),
+        // What comes back is looked for by `lasso_to`.
+        Aim::Round => Ok(None),
         Aim::Lost => lost_run(alloc, task, plan, graph, &mut steps),
         Aim::Endless => endless_run(alloc, task, plan, graph, &mut steps),
     }
 }
 
-/// A shortest run to a configuration from which the plan may come back to it.
-fn back_run<L: Ledger>(
+/// A shortest run that comes back, read off the graph of a plan; `None` where none does.
+pub(crate) fn lasso_to(
     alloc: Global,
     task: &Task,
     plan: &Plan,
     graph: &Graph,
-    steps: &mut Steps<L>,
-) -> Result<Option<Run>, AllocError>
+) -> Result<Option<Lasso>, AllocError>
     requires plan { IsPlanOf (fluent_count task.now) (action_count task.now) plan.now }
     requires graph { IsGraphIn task.now plan.now graph.now }
     requires inside { IsWithinFluents (fluent_count task.now) graph.now }
-    ensures shortest { let n = fluent_count task.now in let sys = system_of task.now in
-        IfOk result (λ found. IfSome found (λ run. IsShortestRun sys (plain_of plan.now)
-        (ComesBack sys (plain_of plan.now)) (run_value n run))) }
-    ensures within { IfOk result (λ found. IfSome found (IsRunWithin (fluent_count task.now))) }
+    ensures lasso { let n = fluent_count task.now in IfOk result (λ found. IfSome found (λ lasso.
+        IsLasso (system_of task.now) (plain_of plan.now) (lasso_value n lasso))) }
+    ensures within { IfOk result (λ found. IfSome found (λ lasso.
+        IsRunWithin (fluent_count task.now) lasso.stem)) }
     ensures none { let sys = system_of task.now in IfOk result (λ found.
         IfNone found (NoneReached sys (plain_of plan.now) (ComesBack sys (plain_of plan.now)))) }
 {
-    match cycle_run(alloc, task, plan, graph, steps)? {
-        Some(lasso) => Ok(Some(lasso.stem)),
-        None => Ok(None),
-    }
+    lasso_in::<Brand>(alloc, task, plan, graph, Blank::new(1))
+}
+
+/// The same, with the steps counted in a new ledger.
+fn lasso_in<L: Ledger>(
+    alloc: Global,
+    task: &Task,
+    plan: &Plan,
+    graph: &Graph,
+    blank: Blank,
+) -> Result<Option<Lasso>, AllocError>
+    requires plan { IsPlanOf (fluent_count task.now) (action_count task.now) plan.now }
+    requires graph { IsGraphIn task.now plan.now graph.now }
+    requires inside { IsWithinFluents (fluent_count task.now) graph.now }
+    requires name { blank.name ≡ L.name }
+    requires parts { blank.parts ≡ L.parts }
+    requires some { 0 < blank.parts }
+    ensures lasso { let n = fluent_count task.now in IfOk result (λ found. IfSome found (λ lasso.
+        IsLasso (system_of task.now) (plain_of plan.now) (lasso_value n lasso))) }
+    ensures within { IfOk result (λ found. IfSome found (λ lasso.
+        IsRunWithin (fluent_count task.now) lasso.stem)) }
+    ensures none { let sys = system_of task.now in IfOk result (λ found.
+        IfNone found (NoneReached sys (plain_of plan.now) (ComesBack sys (plain_of plan.now)))) }
+{
+    let mut steps = Steps::<L>::new(blank);
+    cycle_run(alloc, task, plan, graph, &mut steps)
+}
+
+/// The whole run of a lasso: its stem, and the steps back.
+pub(crate) fn joined(lasso: Lasso) -> Result<Run, AllocError>
+    ensures start { IfOk result (λ run. run.start ≡ lasso.stem.start) }
+    ensures steps { IfOk result (λ run.
+        run.steps.items ≡ lasso.stem.steps.items ++ lasso.round.items) }
+{
+    let Lasso { stem, round } = lasso;
+    let Run { start, mut steps } = stem;
+    steps.extend_from_slice(&round)?;
+    Ok(Run { start, steps })
 }
 
 /// The state in which a run ends.

@@ -1,33 +1,38 @@
 //! The text of a run and what is the matter at its end.
 
+ghost use Rattle.plan_finding.specs.Findings.{again_from as again_of};
 ghost use Rattle.plan_finding.specs.Texts.{
+  back_text,
   conditions_text,
   context_note,
+  ending_text,
   first_match as first_match_of,
   found_text as text_of,
   initial_line,
   is_recorded as is_recorded_run,
   move_text,
+  number_text,
   outcomes_text,
   record_line,
   refusal_note,
+  rule_text,
   sentence,
   step_lines,
   steps_text,
   takes_first as takes_first_of,
 };
-ghost use Rattle.plan_finding.specs.Values.{ending_value, found_value};
+ghost use Rattle.plan_finding.specs.Values.{ending_value, found_value, source_value};
 ghost use Rattle.plan_rules.specs.Plans.{IsPlanOf, IsRuleOf};
 ghost use Rattle.plan_rules.specs.Rules.{plain_of, rule_of};
-ghost use Rattle.plan_rules.specs.Texts.{atom_text, name_at};
 ghost use Rattle.plan_witness.specs.Values.{run_value, step_value, steps_value};
-ghost use Rattle.std.specs.Prelude.{◌≡◌, ◌++◌, All, IfOk, OnOk, map, string_bytes, ℕ};
+ghost use Rattle.std.specs.Prelude.{◌≡◌, ◌++◌, All, IfOk, OnOk, Some, map, string_bytes, ℕ};
 ghost use Rattle.task_core.specs.Names.{name_bytes};
 ghost use Rattle.task_core.specs.States.{vector};
-ghost use Rattle.task_core.specs.Tasks.{action_count, action_names, fluent_count, fluent_names};
+ghost use Rattle.task_core.specs.Tasks.{action_count, fluent_count, fluent_names};
 
 use crate::endings::Ending;
 use crate::findings::Found;
+use crate::sources::{Source, line_at};
 use plan_rules::{Plan, Rule, has_all, push_number};
 use plan_witness::{Run, RunStep};
 use state_text::{push_action, push_changes, push_condition, push_true};
@@ -38,21 +43,34 @@ use task_core::{Cond, State, Task};
 /// step, a sentence, and the record.
 pub fn found_text(
     alloc: Global,
-    task: &Task,
-    plan: &Plan,
+    source: &Source<'_>,
     found: &Found<'_>,
 ) -> Result<String, AllocError>
-    requires { IsPlanOf (fluent_count task.now) (action_count task.now) plan.now }
-    ensures { IfOk result (λ text. string_bytes text
-        ≡ text_of (fluent_names task.now) (action_names task.now) (plain_of plan.now)
-        (found_value (fluent_count task.now) found.now)) }
+    requires { let task = source.now.task.now in
+        IsPlanOf (fluent_count task) (action_count task) source.now.plan.now }
+    ensures { let n = fluent_count source.now.task.now in IfOk result (λ text.
+        string_bytes text ≡ text_of (source_value source.now) (found_value n found.now)) }
 {
     let mut out = String::new(alloc);
-    push_initial(&mut out, task, found.number, &found.run.start)?;
-    push_steps(&mut out, task, plan, &found.run)?;
-    push_sentence(&mut out, task, &found.ending)?;
+    push_initial(&mut out, source.task, found.number, &found.run.start)?;
+    push_steps(&mut out, source, &found.run)?;
+    push_sentence(&mut out, source, found)?;
     out.push('\n')?;
-    push_record(&mut out, task, plan, found.number, &found.run)?;
+    push_record(&mut out, source, found.number, &found.run)?;
+    Ok(out)
+}
+
+/// What is the matter at the end of a run, as a sentence.
+pub fn ending_sentence(
+    alloc: Global,
+    source: &Source<'_>,
+    found: &Found<'_>,
+) -> Result<String, AllocError>
+    ensures { let n = fluent_count source.now.task.now in IfOk result (λ text.
+        string_bytes text ≡ sentence (source_value source.now) (found_value n found.now)) }
+{
+    let mut out = String::new(alloc);
+    push_sentence(&mut out, source, found)?;
     Ok(out)
 }
 
@@ -75,50 +93,72 @@ fn push_initial(
 }
 
 /// Appends the lines of all steps.
-fn push_steps(out: &mut String, task: &Task, plan: &Plan, run: &Run) -> Result<(), AllocError>
-    ensures { let n = fluent_count task.now in
+fn push_steps(out: &mut String, source: &Source<'_>, run: &Run) -> Result<(), AllocError>
+    ensures { let n = fluent_count source.now.task.now in
         OnOk result (string_bytes out.new ≡ string_bytes out.old
-        ++ steps_text (fluent_names task.now) (action_names task.now) (plain_of plan.now)
-        (vector n run.now.start) (steps_value n run.now.steps.items)) }
+        ++ steps_text (source_value source.now) 1 (vector n run.now.start)
+        (steps_value n run.now.steps.items)) }
 {
     let mut before = run.start;
-    for step in &run.steps {
-        push_step(out, task, plan, &before, step)?;
+    for index in 0..run.steps.len() {
+        let step = &run.steps[index];
+        push_step(out, source, index + 1, &before, step)?;
         before = step.state;
     }
     Ok(())
 }
 
-/// Appends the lines of a step from a state.
+/// Appends the lines of the step of a number from a state.
 fn push_step(
     out: &mut String,
-    task: &Task,
-    plan: &Plan,
+    source: &Source<'_>,
+    number: usize,
     before: &State,
     step: &RunStep,
 ) -> Result<(), AllocError>
-    ensures { let n = fluent_count task.now in
+    ensures { let n = fluent_count source.now.task.now in
         OnOk result (string_bytes out.new ≡ string_bytes out.old
-        ++ step_lines (fluent_names task.now) (action_names task.now) (plain_of plan.now)
-        (vector n before.now) (step_value n step.now)) }
+        ++ step_lines (source_value source.now) number (vector n before.now)
+        (step_value n step.now)) }
 {
-    push_move(out, task, step)?;
-    push_context(out, plan, step.context)?;
+    push_step_number(out, number)?;
+    push_move(out, source, step)?;
+    push_context(out, source.plan, step.context)?;
     out.push_str("\n")?;
-    push_changes(out, task, before, &step.state)
+    push_changes(out, source.task, before, &step.state)
+}
+
+/// Appends the number of a step.
+fn push_step_number(out: &mut String, number: usize) -> Result<(), AllocError>
+    ensures { OnOk result (string_bytes out.new ≡ string_bytes out.old ++ number_text number) }
+{
+    out.push_str("step ")?;
+    push_number(out, number)?;
+    out.push_str(", ")
 }
 
 /// Appends the rule, the action and the outcome of a step.
-fn push_move(out: &mut String, task: &Task, step: &RunStep) -> Result<(), AllocError>
+fn push_move(out: &mut String, source: &Source<'_>, step: &RunStep) -> Result<(), AllocError>
     ensures { (n : ℕ) → OnOk result (string_bytes out.new ≡ string_bytes out.old
-        ++ move_text (action_names task.now) (step_value n step.now)) }
+        ++ move_text (source_value source.now) (step_value n step.now)) }
 {
-    out.push_str("rule ")?;
-    push_number(out, step.rule)?;
+    push_rule(out, source, step.rule)?;
     out.push_str(": ")?;
-    push_action(out, task, step.action)?;
+    push_action(out, source.task, step.action)?;
     out.push_str(", outcome ")?;
     push_number(out, step.outcome)
+}
+
+/// Appends a rule, with its line.
+fn push_rule(out: &mut String, source: &Source<'_>, rule: usize) -> Result<(), AllocError>
+    ensures { OnOk result (string_bytes out.new ≡ string_bytes out.old
+        ++ rule_text (source_value source.now) rule) }
+{
+    out.push_str("rule ")?;
+    push_number(out, rule)?;
+    out.push_str(" (line ")?;
+    push_number(out, line_at(source, rule))?;
+    out.push_str(")")
 }
 
 /// Appends a context, where the plan has contexts.
@@ -136,39 +176,78 @@ fn push_context(out: &mut String, plan: &Plan, context: u32) -> Result<(), Alloc
 }
 
 /// Appends what is the matter at the end of a run.
-pub(crate) fn push_sentence(
+fn push_sentence(out: &mut String, source: &Source<'_>, found: &Found<'_>) -> Result<(), AllocError>
+    ensures { (n : ℕ) → OnOk result (string_bytes out.new ≡ string_bytes out.old
+        ++ sentence (source_value source.now) (found_value n found.now)) }
+{
+    push_ending(out, source, again_from(found), &found.ending)
+}
+
+/// The number of the step, counted from 1, from which on a run leads back to where it was before that step.
+fn again_from(found: &Found<'_>) -> Option<usize>
+    ensures { (n : ℕ) → result ≡ again_of (found_value n found.now) }
+{
+    if found.stem < found.run.steps.len() {
+        return Some(found.stem + 1);
+    }
+    None
+}
+
+/// Appends what is the matter at the end of a run that repeats itself from this step on, if from one.
+fn push_ending(
     out: &mut String,
-    task: &Task,
+    source: &Source<'_>,
+    again: Option<usize>,
     ending: &Ending<'_>,
 ) -> Result<(), AllocError>
     ensures { OnOk result (string_bytes out.new ≡ string_bytes out.old
-        ++ sentence (fluent_names task.now) (action_names task.now) (ending_value ending.now)) }
+        ++ ending_text (source_value source.now) again (ending_value ending.now)) }
 {
     match ending {
         Ending::InGoal => out.push_str("the plan ends here, in the goal"),
         Ending::OutsideGoal(parts) => {
             out.push_str("the plan ends here, outside the goal: false is")?;
-            push_parts(out, task, parts)
+            push_parts(out, source.task, parts)
         }
         Ending::NotExecutable(rule, action, parts) => {
-            out.push_str("rule ")?;
-            push_number(out, *rule)?;
+            push_rule(out, source, *rule)?;
             out.push_str(" counts here, but ")?;
-            push_action(out, task, *action)?;
+            push_action(out, source.task, *action)?;
             out.push_str(" can't be executed: ")?;
-            push_refusal(out, task, parts)
+            push_refusal(out, source.task, parts)
         }
         Ending::WithoutRule => out.push_str("the context has no rule for this state"),
-        Ending::WithoutNext(rule, action) => {
-            out.push_str("rule ")?;
-            push_number(out, *rule)?;
-            out.push_str(" counts here, but has no next context for an outcome of ")?;
-            push_action(out, task, *action)
+        Ending::WithoutNext(rule, action, outcome) => {
+            push_rule(out, source, *rule)?;
+            out.push_str(" counts here, but has no next context for outcome ")?;
+            push_number(out, *outcome)?;
+            out.push_str(" of ")?;
+            push_action(out, source.task, *action)
         }
-        Ending::ComesBack => out.push_str("some run from here comes back here"),
+        Ending::ComesBack => push_back(out, again),
         Ending::NeverInGoal => out.push_str("no run from here ends in the goal"),
         Ending::NeverEnding => out.push_str("no run from here ends"),
     }
+}
+
+/// Appends that a run is back where it was before the step of this number.
+fn push_back(out: &mut String, again: Option<usize>) -> Result<(), AllocError>
+    ensures { OnOk result (string_bytes out.new ≡ string_bytes out.old ++ back_text again) }
+{
+    match again {
+        None => out.push_str("some run from here comes back here"),
+        Some(number) => push_again(out, number),
+    }
+}
+
+/// The same for a step with a number.
+fn push_again(out: &mut String, number: usize) -> Result<(), AllocError>
+    ensures { OnOk result
+        (string_bytes out.new ≡ string_bytes out.old ++ back_text (Some number)) }
+{
+    out.push_str("the run is back where it was before step ")?;
+    push_number(out, number)?;
+    out.push_str(", and may go on so for ever")
 }
 
 /// Appends which parts of a precondition are false.
@@ -198,16 +277,17 @@ fn push_parts(out: &mut String, task: &Task, parts: &[&Cond]) -> Result<(), Allo
 /// Appends the record of a run, or that there is none.
 fn push_record(
     out: &mut String,
-    task: &Task,
-    plan: &Plan,
+    source: &Source<'_>,
     number: usize,
     run: &Run,
 ) -> Result<(), AllocError>
-    requires { IsPlanOf (fluent_count task.now) (action_count task.now) plan.now }
+    requires { let task = source.now.task.now in
+        IsPlanOf (fluent_count task) (action_count task) source.now.plan.now }
     ensures { OnOk result (string_bytes out.new ≡ string_bytes out.old
-        ++ record_line (plain_of plan.now) number (run_value (fluent_count task.now) run.now)) }
+        ++ record_line (plain_of source.now.plan.now) number
+        (run_value (fluent_count source.now.task.now) run.now)) }
 {
-    if !is_recorded(task, plan, run) {
+    if !is_recorded(source.task, source.plan, run) {
         return out.push_str(
             "no record: some step takes a rule that isn't the first that matches\n",
         );

@@ -121,15 +121,36 @@ fn loses_outcome(task: &Task, rule: &AutoRule, state: &State) -> bool
     ensures { let sys = system_of task.now in let v = vector (fluent_count task.now) state.now in
         (result ≡ true) ↔ LosesOutcome sys (context_rule_of rule.now) v }
 {
+    match lost_outcome(task, rule, state) {
+        Some(_outcome) => true,
+        None => false,
+    }
+}
+
+/// The number of an outcome of a rule's action in a state for which the rule has no next context; the
+/// first one.
+pub fn lost_outcome(task: &Task, rule: &AutoRule, state: &State) -> Option<u32>
+    requires rule { let n = fluent_count task.now in let m = action_count task.now in
+        IsRunRuleOf n m (context_rule_of rule.now) }
+    requires within { IsWithin (fluent_count task.now) state.now }
+    ensures below { IfSome result (λ outcome.
+        outcome < (system_of task.now).outcomes rule.now.action.0) }
+    ensures lost { let sys = system_of task.now in let v = vector (fluent_count task.now) state.now in
+        IfSome result (λ outcome. IsLostAt sys (context_rule_of rule.now) v outcome) }
+    ensures loses { let sys = system_of task.now in let v = vector (fluent_count task.now) state.now in
+        IfSome result (λ outcome. LosesOutcome sys (context_rule_of rule.now) v) }
+    ensures none { let sys = system_of task.now in let v = vector (fluent_count task.now) state.now in
+        IfNone result (LosesOutcome sys (context_rule_of rule.now) v → ⊥) }
+{
     if !is_exec(task, state, rule.action) {
-        return false;
+        return None;
     }
     for outcome in 0..outcome_count(task, rule.action) {
         if is_lost_at(task, rule, state, outcome) {
-            return true;
+            return Some(outcome);
         }
     }
-    false
+    None
 }
 
 /// Whether the outcome of a number leads to a state for which the rule has no next context.

@@ -1,19 +1,19 @@
-use Rattle.std.proofs.Common.{◌≡◌, ◌∙◌, subst}
+use Rattle.std.proofs.Common.{◌≡◌, subst}
 use Rattle.task_core.specs.Tasks.{fluent_count}
-use Rattle.command_base.specs.Values.{kind_of}
+use Rattle.plan_finding.specs.Values.{finding_value}
 use Rattle.plan_finding.specs.declared.aims.Aim.{Aim}
 use Rattle.plan_rules.specs.Rules.{plain_of}
 use Rattle.explain_plan.specs.Explained.{IsFinding}
-use Rattle.explain_plan.specs.Values.{finding_value}
+use Rattle.explain_plan.specs.Values.{explain_words_of, lined_of}
 use Rattle.explain_plan.proofs.Finding.{explained_so, finding_of}
 use Rattle.explain_plan.proofs.verdicts.explain_graph.Goals as goal
 
 pub returns : goal.returns
 returns c =
     let task = c.args.grounded.now.task in
-    let plan = plain_of c.args.plan.now in
+    let plan = plain_of c.args.lined.now.read.plan in
     let n = fluent_count task in
     let finding = finding_value n c.in_ok-found.found in
     let found = subst (λ (aim : Aim). IsFinding aim task plan finding) c.aim_for-aim.ensures (finding_of n c.aim_for-aim.result task plan c.in_ok-found.found c.in_ok-found.ensures.found c.in_ok-found.ensures.none) in
-    explained_so c.shown_with.result (kind_of c.args.kind) task c.args.grounded.now.ctl plan c.in_ok-verdict.verdict finding c.deref.result.now c.in_ok-show_verdict.field-0
-    (c.in_ok-verdict.ensures plan c.requires.of_kind c.requires.graph) found c.in_ok-show_verdict.ensures (c.deref.ensures ∙ c.in_ok-more.ensures) c.shown_with.ensures
+    explained_so c.shown_as.result c.failures_are_shown.ensures.tables c.failures_are_shown.ensures.contexts (explain_words_of c.args.asked.now) task (lined_of c.args.lined.now) c.args.grounded.now.ctl c.in_ok-verdict.verdict finding
+    (c.in_ok-verdict.ensures plan c.requires.of_kind c.requires.graph) found c.shown_as.ensures

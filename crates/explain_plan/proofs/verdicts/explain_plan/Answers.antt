@@ -12,7 +12,7 @@ returns-in_ok-explain_graph-in-Ok c =
       c.in-Ok.ensures.few_initial,
       c.in-Ok.ensures.few,
       inr (
-        reaches_some (system_of task) (plain_of c.args.plan.now) _ c.in-Ok.ensures.graph (search rules),
+        reaches_some (system_of task) (plain_of c.args.lined.now.read.plan) _ c.in-Ok.ensures.graph (search rules),
         c.in_ok-explain_graph-in-Ok.ensures,
       ),
     )))
@@ -23,5 +23,5 @@ returns-then-len-eq0 c =
     inr (inr (inr (
       c.in-Ok.ensures.few_initial,
       c.in-Ok.ensures.few,
-      inl (reaches_nothing (system_of task) (plain_of c.args.plan.now) _ c.in-Ok.ensures.graph (search rules), ap refused c.in_ok-no_initial-in-Ok.ensures),
+      inl (reaches_nothing (system_of task) (plain_of c.args.lined.now.read.plan) _ c.in-Ok.ensures.graph (search rules), ap refused c.in_ok-no_initial-in-Ok.ensures),
     )))

@@ -27,3 +27,6 @@ returns-clause-none g c =
     let sys = system_of c.args.task.now in
     let plan = plain_of c.args.plan.now in
     subst (λ (aim : Aim). IfOk c.endless_run.result (λ found. IfNone found (NoneReached sys plan (IsAimAt aim sys plan)))) (sym c.in-Endless.is) c.endless_run.ensures.none
+
+pub returns-in-Round-clause-none : goal.returns-in-Round-clause-none
+returns-in-Round-clause-none g c = absurd (c.requires.other c.in-Round.is)

@@ -1,0 +1,38 @@
+-- No document has a float.
+use Rattle.std.proofs.Common.{◌≡◌, ℕ, List, [], ◌∷◌, map, false, true, Bool, Option, None, Some, refl}
+use Rattle.serde_json.specs.Data.{Data, null}
+use Rattle.serde_json.specs.View.{items_of}
+use Rattle.serde_json.specs.Written.{has_float, items_have_float}
+use Rattle.std.specs.Option.{option_map_or}
+use Rattle.task_core.specs.Names.{Name}
+use Rattle.task_core.specs.Vectors.{Vector}
+use Rattle.plan_document.specs.Documents.{count_data}
+use Rattle.plan_finding.specs.Findings.{PlainFound, cycle_from}
+use Rattle.plan_finding.specs.Texts.{Source}
+use Rattle.plan_witness.specs.Runs.{PlainStep}
+use Rattle.finding_document.specs.Documents.{changed_below, document, fluent_data, outcome_data, rule_data, step_data, steps_data}
+
+-- no item of a mapped list has one where no value has
+items_free : {X : Type 0} (f : X → Data) → ((x : X) → has_float (f x) ≡ false) → (xs : List X) → items_have_float (items_of (map f xs)) ≡ false
+items_free f free [] = refl
+items_free f free (x ∷ xs) = rw (free x, items_free f free xs) refl
+
+changed_free : (fluents : List Name) (numbers : List ℕ) → items_have_float (items_of (map (fluent_data fluents) numbers)) ≡ false
+changed_free fluents = items_free (fluent_data fluents) (λ i. refl)
+
+step_free : (source : Source) (before : Vector) (step : PlainStep) → has_float (step_data source before step) ≡ false
+step_free source before step =
+    rw (changed_free source.fluents (changed_below true before step.after.state _), changed_free source.fluents (changed_below false before step.after.state _)) refl
+
+steps_free : (source : Source) (before : Vector) (steps : List PlainStep) → items_have_float (items_of (steps_data source before steps)) ≡ false
+steps_free source before [] = refl
+steps_free source before (step ∷ steps) = rw (step_free source before step, steps_free source step.after.state steps) refl
+
+place_free : (place : Option ℕ) → has_float (option_map_or count_data place null) ≡ false
+place_free None = refl
+place_free (Some place) = refl
+
+pub document_free : (source : Source) (verdict : List ℕ) (found : Option PlainFound) → has_float (document source verdict found) ≡ false
+document_free source verdict None = refl
+document_free source verdict (Some found) =
+    rw (place_free (cycle_from found), items_free outcome_data (λ step. refl) found.run.steps, items_free rule_data (λ step. refl) found.run.steps, steps_free source found.run.start.state found.run.steps) refl

@@ -1,0 +1,14 @@
+-- Private: what the code's own types stand for.
+use Rattle.serde_json.specs.View.{view}
+use Rattle.finding_document.specs.Documents.{Told}
+use Rattle.finding_document.specs.declared.documents.Told.{Told as CodeTold}
+
+abbrev pub told_value : CodeTold → Told
+told_value told = record {
+  cycle_from = view told.cycle_from;
+  initial = view told.initial;
+  outcomes = view told.outcomes;
+  rules = view told.rules;
+  sentence = view told.sentence;
+  steps = view told.steps;
+}

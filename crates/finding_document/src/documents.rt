@@ -1,0 +1,162 @@
+//! The document of a verdict and the run that shows it.
+
+ghost use Rattle.finding_document.specs.Documents.{
+  document,
+  document_text,
+  told_object as object_of,
+  told_of as told_data,
+};
+ghost use Rattle.finding_document.specs.Values.{told_value};
+ghost use Rattle.plan_document.specs.Documents.{count_data};
+ghost use Rattle.plan_finding.specs.Texts.{Source as PlainSource};
+ghost use Rattle.plan_finding.specs.Values.{finding_value, found_value, source_value};
+ghost use Rattle.plan_rules.specs.Texts.{line_feed};
+ghost use Rattle.serde_json.specs.Data.{null};
+ghost use Rattle.serde_json.specs.View.{view};
+ghost use Rattle.serde_json.specs.Written.{compact_text, has_float};
+ghost use Rattle.std.specs.Option.{option_map_or};
+ghost use Rattle.std.specs.Prelude.{◌≡◌, ◌++◌, IfOk, None, Some, false};
+ghost use Rattle.task_core.specs.Tasks.{fluent_count};
+
+use crate::steps::{number_value, outcome_values, rule_values, step_values};
+use plan_finding::{Found, Source, cycle_from, ending_sentence};
+use serde_json::{Map, Value, put};
+use std::alloc::{AllocError, Global};
+
+/// The document of a verdict in these words, and of the run that shows it, as JSON in one line with a line
+/// feed at its end. It is an object with the members `cycle_from`, `initial`, `outcomes`, `rules`,
+/// `sentence`, `steps` and `verdict`; where there is no run, the lists are empty, and the others but the
+/// verdict are null.
+pub fn finding_document(
+    alloc: Global,
+    source: &Source<'_>,
+    verdict: &str,
+    found: &Option<Found<'_>>,
+) -> Result<Vec<u8>, AllocError>
+    ensures { let n = fluent_count source.now.task.now in IfOk result (λ text. text.items
+        ≡ document_text (source_value source.now) verdict.now (finding_value n found.now)) }
+{
+    let value = document_value(alloc, source, verdict, found)?;
+    value_text(alloc, &value)
+}
+
+/// The text of a value, with a line feed at its end.
+fn value_text(alloc: Global, value: &Value) -> Result<Vec<u8>, AllocError>
+    ensures { has_float (view value.now) ≡ false
+        → IfOk result (λ text. text.items ≡ compact_text (view value.now) ++ line_feed) }
+{
+    let mut text = value.to_string(alloc)?;
+    text.push('\n')?;
+    Ok(text.into_bytes())
+}
+
+/// The document as a value.
+fn document_value(
+    alloc: Global,
+    source: &Source<'_>,
+    verdict: &str,
+    found: &Option<Found<'_>>,
+) -> Result<Value, AllocError>
+    ensures { let n = fluent_count source.now.task.now in IfOk result (λ value. view value
+        ≡ document (source_value source.now) verdict.now (finding_value n found.now)) }
+{
+    let told = told_if_found(alloc, source, found)?;
+    told_object(alloc, verdict, told)
+}
+
+/// What is told besides the verdict.
+#[derive(Drop)]
+struct Told {
+    cycle_from: Value,
+    initial: Value,
+    outcomes: Value,
+    rules: Value,
+    sentence: Value,
+    steps: Value,
+}
+
+/// The object of a verdict and what is told besides.
+fn told_object(alloc: Global, verdict: &str, told: Told) -> Result<Value, AllocError>
+    ensures { IfOk result (λ value. view value ≡ object_of verdict.now (told_value told)) }
+{
+    let Told {
+        cycle_from,
+        initial,
+        outcomes,
+        rules,
+        sentence,
+        steps,
+    } = told;
+    let mut members = Map::new(alloc);
+    put(
+        &mut members,
+        alloc,
+        "verdict",
+        Value::try_from_str(alloc, verdict)?,
+    )?;
+    put(&mut members, alloc, "steps", steps)?;
+    put(&mut members, alloc, "sentence", sentence)?;
+    put(&mut members, alloc, "rules", rules)?;
+    put(&mut members, alloc, "outcomes", outcomes)?;
+    put(&mut members, alloc, "initial", initial)?;
+    put(&mut members, alloc, "cycle_from", cycle_from)?;
+    Ok(Value::from(members))
+}
+
+/// What is told of a run, where there is one.
+fn told_if_found(
+    alloc: Global,
+    source: &Source<'_>,
+    found: &Option<Found<'_>>,
+) -> Result<Told, AllocError>
+    ensures { let n = fluent_count source.now.task.now in IfOk result (λ told. told_value told
+        ≡ told_data (source_value source.now) (finding_value n found.now)) }
+{
+    match found {
+        Some(found) => told_of(alloc, source, found),
+        None => Ok(nothing_told(alloc)),
+    }
+}
+
+/// What is told where there is no run.
+fn nothing_told(alloc: Global) -> Told
+    ensures { (source : PlainSource) → told_value result ≡ told_data source None }
+{
+    Told {
+        cycle_from: Value::Null,
+        initial: Value::Null,
+        outcomes: Value::from(Vec::new(alloc)),
+        rules: Value::from(Vec::new(alloc)),
+        sentence: Value::Null,
+        steps: Value::from(Vec::new(alloc)),
+    }
+}
+
+/// What is told of a run.
+fn told_of(alloc: Global, source: &Source<'_>, found: &Found<'_>) -> Result<Told, AllocError>
+    ensures { let n = fluent_count source.now.task.now in IfOk result (λ told. told_value told
+        ≡ told_data (source_value source.now) (Some (found_value n found.now))) }
+{
+    let sentence = ending_sentence(alloc, source, found)?;
+    let outcomes = outcome_values(alloc, &found.run.steps)?;
+    let rules = rule_values(alloc, &found.run.steps)?;
+    let steps = step_values(alloc, source, &found.run)?;
+    Ok(Told {
+        cycle_from: place_value(cycle_from(found)),
+        initial: number_value(found.number),
+        outcomes,
+        rules,
+        sentence: Value::from(sentence),
+        steps,
+    })
+}
+
+/// A number, where there is one.
+fn place_value(place: Option<usize>) -> Value
+    ensures { view result ≡ option_map_or count_data place null }
+{
+    match place {
+        Some(place) => number_value(place),
+        None => Value::Null,
+    }
+}

@@ -1,0 +1,9 @@
+//! What speaks for a verdict on a plan, as a JSON document.
+//!
+//! `specs/Documents.antt` says which document it is.
+#![tactic(auto)]
+
+mod documents;
+mod steps;
+
+pub use documents::finding_document;

@@ -1,0 +1,19 @@
+use Rattle.std.proofs.Common.{◌≡◌, ◌∙◌, ap, arith, map}
+use Rattle.std.proofs.lemmas.List.{length-map, map-append}
+use Rattle.task_core.specs.States.{vector}
+use Rattle.task_core.specs.Tasks.{fluent_count}
+use Rattle.exec_graph.specs.Orders.{in_first}
+use Rattle.plan_rules.specs.Rules.{plain_of}
+use Rattle.plan_witness.specs.Values.{lasso_value, run_value, step_value, steps_value}
+use Rattle.plan_finding.proofs.Stems.{found_back}
+use Rattle.plan_finding.proofs.findings.back.Goals as goal
+
+pub returns : goal.returns
+returns c =
+    let n = fluent_count c.args.task.now in
+    let lasso = c.args.lasso in
+    found_back c.args.task.now (plain_of c.args.plan.now) c.in_ok-number.number _ (lasso_value n lasso) (run_value n c.in_ok-run.run')
+    (ap (λ s. in_first (vector n s)) c.in_ok-run.ensures.start)
+    (ap (steps_value n) c.in_ok-run.ensures.steps ∙ map-append (step_value n) lasso.stem.steps.items lasso.round.items)
+    (omega (arith, lasso.stem.steps.ok.0, c.len-stem.ensures, length-map lasso.stem.steps.items (step_value n)))
+    c.in_ok-number.ensures c.requires.lasso
