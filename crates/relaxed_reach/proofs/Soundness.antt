@@ -156,8 +156,8 @@ module _ (task : Task) (set : LiteralSet) (relaxed : IsRelaxed task set) where
       given : (f : ℕ) (value : Bool) → list_any (change_makes value (value_of v) f) o.changes.items ≡ true → set f value ≡ true
       given f value h =
           let by_outcome : outcome_gives set f value o ≡ true = any_weaker (change_makes value (value_of v) f) (change_gives set f value) o.changes.items (λ c g.
-              let gs = and_parts (names_it value f c.lits.items) (holds c.cond (value_of v)) g in
-              and_from (names_it value f c.lits.items) (can_be c.cond set true) gs.0 (subst (λ b. can_be c.cond set b ≡ true) gs.1 (can_be_sound c.cond set (value_of v) is))) h in
+          let gs = and_parts (names_it value f c.lits.items) (holds c.cond (value_of v)) g in
+          and_from (names_it value f c.lits.items) (can_be c.cond set true) gs.0 (subst (λ b. can_be c.cond set b ≡ true) gs.1 (can_be_sound c.cond set (value_of v) is))) h in
           relaxed.closed f value
           (list_any-from (action_gives set f value) task.actions.items x listed
           (and_from (can_be x.exec set true) (list_any (outcome_gives set f value) x.outcomes.items)
