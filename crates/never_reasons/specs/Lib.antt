@@ -1,0 +1,4 @@
+pub mod Blocked
+pub mod Makers
+pub mod Texts
+pub mod Values

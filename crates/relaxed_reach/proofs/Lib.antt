@@ -1,0 +1,4 @@
+pub mod Lacks
+pub mod Monotone
+pub mod Soundness
+pub mod Widened

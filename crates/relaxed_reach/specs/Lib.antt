@@ -1,0 +1,4 @@
+pub mod Lacking
+pub mod Literals
+pub mod Reached
+pub mod Relaxed
