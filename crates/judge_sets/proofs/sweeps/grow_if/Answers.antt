@@ -1,4 +1,3 @@
-use Rattle.board_steps.proofs.StepLemmas.{ends_with}
 use Rattle.judge_sets.proofs.sweeps.grow_if.Goals as goal
 
 pub grow_by-requires-clause-ready : goal.grow_by-requires-clause-ready

@@ -1,4 +1,3 @@
-use Rattle.board_steps.proofs.StepLemmas.{ends_with}
 use Rattle.judge_sets.proofs.sweeps.shrink_if.Goals as goal
 
 pub shrink_by-requires-clause-ready : goal.shrink_by-requires-clause-ready
