@@ -89,6 +89,12 @@ pub record HasGrown (scene : Scene) (outcomes : Outcomes) (now : Encoded) (slots
   pub good : set_at now.sets slots 4 ≡ set
   pub grown : IsGrown outcomes scene.start.task scene.rules set
 
+-- what grows has come to some set
+pub record GrowsStill (scene : Scene) (outcomes : Outcomes) (now : Encoded) (slots : List SetId)
+    : Type 0 where
+  pub set : Function
+  pub has : HasGrown scene outcomes now slots set
+
 -- what shrinks has come to this set
 pub record HasShrunk (scene : Scene) (now : Encoded) (slots : List SetId) (from set : Function)
     : Type 0 where
@@ -96,6 +102,12 @@ pub record HasShrunk (scene : Scene) (now : Encoded) (slots : List SetId) (from 
   pub stays : set_at now.sets slots 6 ≡ set
   pub begin : IsBegin scene.start.task scene.rules from
   pub shrunk : IsShrunk scene.start.task scene.rules from set
+
+-- what shrinks has come to some set
+pub record ShrinksStill (scene : Scene) (now : Encoded) (slots : List SetId) (from : Function)
+    : Type 0 where
+  pub set : Function
+  pub has : HasShrunk scene now slots from set
 
 -- a set has all that another has over n fluents, and a vector more
 pub record HasMore (n : ℕ) (before after : Function) : Type 0 where

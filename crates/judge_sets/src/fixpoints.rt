@@ -16,7 +16,7 @@ use slot_board::{Board, Operation, Outcomes};
 use task_core::ActionId;
 
 /// Whether one of two things is so.
-fn either(a: bool, b: bool) -> bool
+pub(crate) fn either(a: bool, b: bool) -> bool
     ensures { result ≡ (a || b) }
 {
     a || b
@@ -86,7 +86,7 @@ fn join_hits(enc: &mut Enc, board: &mut Board, a: ActionId) -> Result<(), SetErr
 }
 
 /// Joins to what has grown the steps of an action that lead into it: whether there are new ones.
-fn grow_by(
+pub(crate) fn grow_by(
     enc: &mut Enc,
     board: &mut Board,
     outcomes: Outcomes,
@@ -135,7 +135,7 @@ fn grow_once(
 }
 
 /// Does that until there are none.
-pub(crate) fn grow(
+pub(crate) fn grow_to_end(
     enc: &mut Enc,
     board: &mut Board,
     outcomes: Outcomes,
@@ -214,7 +214,7 @@ fn drop_lost(enc: &mut Enc, board: &mut Board, a: ActionId) -> Result<(), SetErr
 }
 
 /// Takes from what is left the steps of an action that may lead out of it: whether there are any.
-fn shrink_by(enc: &mut Enc, board: &mut Board, a: ActionId) -> Result<bool, SetErr>
+pub(crate) fn shrink_by(enc: &mut Enc, board: &mut Board, a: ActionId) -> Result<bool, SetErr>
     requires ready { (scene : Scene) × (from : Function) × (set : Function)
         × HasShrunk scene enc.old board.old.slots.items from set }
     requires action { a.0 < length enc.old.actions }
@@ -253,7 +253,7 @@ fn shrink_once(enc: &mut Enc, board: &mut Board, actions: u32) -> Result<bool, S
 }
 
 /// Does that until there are none.
-pub(crate) fn shrink(enc: &mut Enc, board: &mut Board, actions: u32) -> Result<(), SetErr>
+pub(crate) fn shrink_to_end(enc: &mut Enc, board: &mut Board, actions: u32) -> Result<(), SetErr>
     requires ready { (scene : Scene) × (from : Function) × (set : Function)
         × HasShrunk scene enc.old board.old.slots.items from set }
     requires actions { actions ≡ length enc.old.actions }

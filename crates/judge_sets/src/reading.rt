@@ -1,7 +1,10 @@
 //! Reads rules: where each action is taken, the first rule that matches counting.
 
-ghost use Rattle.std.specs.Prelude.{◌≡◌, ◌↔◌, ◌++◌, ◌<◌, ◌&&◌, [], ◌∷◌, IsTrue, List, map};
-ghost use Rattle.slot_board.specs.Board.{Ends, HasNothing, IsSmall, Left};
+ghost use Rattle.std.specs.Prelude.{◌≡◌, ◌↔◌, ◌++◌, ◌<◌, ◌&&◌, [], ◌∷◌, IsTrue, List, length, map};
+ghost use Rattle.dd_sets.specs.LiveSets.{nothing};
+ghost use Rattle.dd_ops.specs.Operations.{minus_of};
+ghost use Rattle.slot_board.specs.Board.{At, Ends, Fits, HasNothing, IsSmall, IsWorking, Left, Moved};
+ghost use Rattle.slot_board.specs.Board.{Start, set_at};
 ghost use Rattle.task_core.specs.Cubes.{Cube};
 ghost use Rattle.task_core.specs.Tasks.{fluent_count, system_of};
 ghost use Rattle.plan_rules.specs.Rules.{PlanRule, rule_of};
@@ -103,6 +106,21 @@ fn add_differ(enc: &mut Enc, board: &mut Board, a: ActionId) -> Result<(), SetEr
     )
 }
 
+/// Looks at those of the cube's states that no rule before matches.
+fn look_at_new(enc: &mut Enc, board: &mut Board) -> Result<(), SetErr>
+    requires working { IsWorking enc.old board.old.slots.items }
+    requires place { 3 < length board.old.slots.items }
+    ensures { (start : Start) → At start enc.old board.old.slots.items
+        → Fits start 3 (minus_of (set_at enc.old.sets board.old.slots.items 2)
+        (set_at enc.old.sets board.old.slots.items 0))
+        → Left start enc.new board.new.slots.items
+        (Moved start enc.old.sets board.old.slots.items enc.new board.new.slots.items 3
+        (minus_of (set_at enc.old.sets board.old.slots.items 2)
+        (set_at enc.old.sets board.old.slots.items 0))) result }
+{
+    board.combine(enc, PART, Operation::Minus, CUBE, MATCHED)
+}
+
 /// Has the action taken in those of the cube's states that no rule before matches.
 fn add_taken(enc: &mut Enc, board: &mut Board, a: ActionId) -> Result<(), SetErr>
     requires { (scene : Scene) × (before : List PlanRule) × (rule : PlanRule)
@@ -115,15 +133,24 @@ fn add_taken(enc: &mut Enc, board: &mut Board, a: ActionId) -> Result<(), SetErr
         (HasJoined scene enc.new board.new.slots.items before rule) result }
 {
     let taken = taken_at(a);
+    look_at_new(enc, board)?;
     make_all(
         enc,
         board,
         &[
-            Step::Combine(PART, Operation::Minus, CUBE, MATCHED),
             Step::Combine(taken, Operation::Join, taken, PART),
             Step::Combine(MATCHED, Operation::Join, MATCHED, CUBE),
         ],
     )
+}
+
+/// Whether none of the states in which the rule counts is left.
+fn is_none_left(enc: &Enc, board: &Board) -> bool
+    requires working { IsWorking enc.now board.now.slots.items }
+    requires place { 3 < length board.now.slots.items }
+    ensures { IsTrue result ↔ (set_at enc.now.sets board.now.slots.items 3 ≡ nothing) }
+{
+    board.is_empty(enc, PART)
 }
 
 /// Whether some of the states in which the rule counts is a state of the task.
@@ -147,7 +174,7 @@ fn counts(enc: &mut Enc, board: &mut Board) -> Result<bool, SetErr>
             Step::Combine(PART, Operation::Meet, PART, CUBE),
         ],
     )?;
-    Ok(!board.is_empty(enc, PART))
+    Ok(!is_none_left(enc, board))
 }
 
 /// Reads the next rule: whether it counts in some state.

@@ -1,12 +1,15 @@
 //! The verdict on rules as they are run.
 
 ghost use Rattle.std.specs.Prelude.{◌≡◌, ◌↔◌, ℕ, ◌+◌, ◌<◌, [], All, IfOk, IsErrOf, IsSome, IsTrue, length, map, true};
+ghost use Rattle.std.specs.List.{list_all};
 ghost use Rattle.dd_nodes.specs.Subfunctions.{Function};
 ghost use Rattle.dd_sets.specs.Frames.{Owns};
 ghost use Rattle.dd_sets.specs.Rooms.{NoRoom};
 ghost use Rattle.encode_task.specs.Made.{MadeOf};
-ghost use Rattle.slot_board.specs.Board.{Ends, HasNothing, set_at};
-ghost use Rattle.task_core.specs.Tasks.{action_count, fluent_count, system_of};
+ghost use Rattle.slot_board.specs.Board.{At, Ends, HasNothing, IsWorking, Left, Start, Stayed};
+ghost use Rattle.slot_board.specs.Board.{TestFits, set_at};
+ghost use Rattle.task_core.specs.Tasks.{action_count, fluent_count, initial_states, system_of};
+ghost use Rattle.task_core.specs.Vectors.{value_of};
 ghost use Rattle.task_core.specs.declared.tasks.Task.{Task as TaskOf};
 ghost use Rattle.plan_rules.specs.Plans.{IsRuleOf};
 ghost use Rattle.plan_rules.specs.Rules.{rule_of};
@@ -16,10 +19,11 @@ ghost use Rattle.judge_sets.specs.Places.{HasAllGrown, HasPart, HasSteps, HoldsA
 ghost use Rattle.judge_sets.specs.Places.{IsJudged, Scene, has_initial};
 ghost use Rattle.judge_sets.specs.WorkingSets.{BoundsTableSets};
 
-use crate::fixpoints::{grow, shrink};
+use crate::order::{Order, order_of};
 use crate::places::{DIFFER, FOLLOWED, GOOD, PART, STAYS, places};
 use crate::reading::{read_none, read_rules};
 use crate::settling::settle;
+use crate::sweeps::{grow, shrink};
 use board_steps::{Step, make_all};
 use dd_sets::SetErr;
 use encode_task::Enc;
@@ -50,33 +54,49 @@ fn outcomes_of(class: Class) -> Outcomes
     }
 }
 
+/// Whether each initial state is one from which following the rules is good.
+fn begin_well(enc: &mut Enc, board: &Board) -> Result<bool, SetErr>
+    requires working { IsWorking enc.old board.now.slots.items }
+    requires place { 4 < length board.now.slots.items }
+    ensures left { (start : Start) → At start enc.old board.now.slots.items
+        → TestFits start (set_at enc.old.sets board.now.slots.items 4)
+        → Left start enc.new board.now.slots.items
+        (Stayed start enc.old.sets enc.new board.now.slots.items) result }
+    ensures answer { (start : Start) → At start enc.old board.now.slots.items
+        → IfOk result (λ good. good
+        ≡ list_all (λ state. set_at enc.old.sets board.now.slots.items 4 (value_of state))
+        (initial_states start.task)) }
+{
+    board.covers_initial(enc, GOOD)
+}
+
 /// Whether following the rules is good from each initial state.
 fn leads_to_end(
     enc: &mut Enc,
     board: &mut Board,
     outcomes: Outcomes,
-    actions: u32,
+    order: &Order,
 ) -> Result<bool, SetErr>
     requires ready { (scene : Scene) × HasPart scene enc.old board.old.slots.items
         (action_count scene.start.task) }
-    requires actions { actions ≡ length enc.old.actions }
+    requires actions { order.now.actions ≡ length enc.old.actions }
     ensures { (scene : Scene) → HasPart scene enc.old board.old.slots.items
         (action_count scene.start.task) → Ends scene.start enc.new board.new.slots.items
         (λ good. (grown : HasAllGrown scene outcomes enc.new board.new.slots.items)
         × (good ≡ has_initial scene grown.set)) result }
 {
-    grow(enc, board, outcomes, actions)?;
-    board.covers_initial(enc, GOOD)
+    grow(enc, board, outcomes, order)?;
+    begin_well(enc, board)
 }
 
 /// Whether what is reached from the initial states stays in the set at a place.
-fn stays_in(enc: &mut Enc, board: &mut Board, place: usize, actions: u32) -> Result<bool, SetErr>
+fn stays_in(enc: &mut Enc, board: &mut Board, place: usize, order: &Order) -> Result<bool, SetErr>
     requires ready { (scene : Scene) × (from : Function)
         × HasSteps scene enc.old board.old.slots.items
         × IsBegin scene.start.task scene.rules from
         × (set_at enc.old.sets board.old.slots.items place ≡ from) }
     requires place { place < 6 }
-    requires actions { actions ≡ length enc.old.actions }
+    requires actions { order.now.actions ≡ length enc.old.actions }
     ensures { (scene : Scene) (from : Function) → HasSteps scene enc.old board.old.slots.items
         → IsBegin scene.start.task scene.rules from
         → set_at enc.old.sets board.old.slots.items place ≡ from
@@ -85,17 +105,17 @@ fn stays_in(enc: &mut Enc, board: &mut Board, place: usize, actions: u32) -> Res
         × (IsTrue stays ↔ HoldsAsReached scene from)) result }
 {
     make_all(enc, board, &[Step::Copy(STAYS, place)])?;
-    shrink(enc, board, actions)?;
+    shrink(enc, board, order)?;
     board.covers_initial(enc, STAYS)
 }
 
 /// Whether the rules can be followed and are a solution of a class, where following them is good from
 /// each initial state.
-fn keeps_on(enc: &mut Enc, board: &mut Board, class: Class, actions: u32) -> Result<bool, SetErr>
+fn keeps_on(enc: &mut Enc, board: &mut Board, class: Class, order: &Order) -> Result<bool, SetErr>
     requires ready { (scene : Scene)
         × (grown : HasAllGrown scene (outcomes_of class) enc.old board.old.slots.items)
         × (has_initial scene grown.set ≡ true) }
-    requires actions { actions ≡ length enc.old.actions }
+    requires actions { order.now.actions ≡ length enc.old.actions }
     ensures { (scene : Scene)
         (grown : HasAllGrown scene (outcomes_of class) enc.old board.old.slots.items)
         → has_initial scene grown.set ≡ true
@@ -104,33 +124,33 @@ fn keeps_on(enc: &mut Enc, board: &mut Board, class: Class, actions: u32) -> Res
         × (IsTrue solves ↔ SolvesAsRun class (system_of scene.start.task) scene.rules)) result }
 {
     match class {
-        Class::Weak => stays_in(enc, board, FOLLOWED, actions),
+        Class::Weak => stays_in(enc, board, FOLLOWED, order),
         Class::Strong => Ok(true),
-        Class::Cyclic => stays_in(enc, board, GOOD, actions),
+        Class::Cyclic => stays_in(enc, board, GOOD, order),
     }
 }
 
 /// Whether the rules can be followed and are a solution of a class.
-fn solves(enc: &mut Enc, board: &mut Board, class: Class, actions: u32) -> Result<bool, SetErr>
+fn solves(enc: &mut Enc, board: &mut Board, class: Class, order: &Order) -> Result<bool, SetErr>
     requires ready { (scene : Scene) × HasPart scene enc.old board.old.slots.items
         (action_count scene.start.task) }
-    requires actions { actions ≡ length enc.old.actions }
+    requires actions { order.now.actions ≡ length enc.old.actions }
     ensures { (scene : Scene) → HasPart scene enc.old board.old.slots.items
         (action_count scene.start.task) → Ends scene.start enc.new board.new.slots.items
         (λ solves. HasSteps scene enc.new board.new.slots.items
         × (IsTrue solves ↔ SolvesAsRun class (system_of scene.start.task) scene.rules)) result }
 {
     let outcomes = outcomes_of(class);
-    if !leads_to_end(enc, board, outcomes, actions)? {
+    if !leads_to_end(enc, board, outcomes, order)? {
         return Ok(false);
     }
-    keeps_on(enc, board, class, actions)
+    keeps_on(enc, board, class, order)
 }
 
 /// Whether all rules that match have one action, in each state that may be reached.
-fn agrees(enc: &mut Enc, board: &mut Board, actions: u32) -> Result<bool, SetErr>
+fn agrees(enc: &mut Enc, board: &mut Board, order: &Order) -> Result<bool, SetErr>
     requires ready { (scene : Scene) × HasSteps scene enc.old board.old.slots.items }
-    requires actions { actions ≡ length enc.old.actions }
+    requires actions { order.now.actions ≡ length enc.old.actions }
     ensures { (scene : Scene) → HasSteps scene enc.old board.old.slots.items
         → Ends scene.start enc.new board.new.slots.items
         (λ agrees. HasSteps scene enc.new board.new.slots.items
@@ -144,7 +164,7 @@ fn agrees(enc: &mut Enc, board: &mut Board, actions: u32) -> Result<bool, SetErr
             Step::Combine(PART, Operation::Minus, PART, DIFFER),
         ],
     )?;
-    stays_in(enc, board, PART, actions)
+    stays_in(enc, board, PART, order)
 }
 
 /// The verdict, by the sets at the places of a board.
@@ -153,12 +173,12 @@ fn judge(
     board: &mut Board,
     class: Class,
     rules: &[Rule],
-    actions: u32,
+    order: &Order,
 ) -> Result<TableVerdict, SetErr>
     requires ready { (scene : Scene) × HasNothing scene.start enc.old board.old.slots.items
         × (scene.rules ≡ map rule_of rules.now) }
     requires goal { IsSome enc.old.goal }
-    requires actions { actions ≡ length enc.old.actions }
+    requires actions { order.now.actions ≡ length enc.old.actions }
     ensures { (scene : Scene) → HasNothing scene.start enc.old board.old.slots.items
         → scene.rules ≡ map rule_of rules.now
         → Ends scene.start enc.new board.new.slots.items
@@ -167,9 +187,9 @@ fn judge(
 {
     read_none(enc, board)?;
     let each_counts = read_rules(enc, board, rules)?;
-    settle(enc, board, actions)?;
-    let solves = solves(enc, board, class, actions)?;
-    let agrees = agrees(enc, board, actions)?;
+    settle(enc, board, order.actions)?;
+    let solves = solves(enc, board, class, order)?;
+    let agrees = agrees(enc, board, order)?;
     Ok(TableVerdict {
         solves,
         agrees,
@@ -218,8 +238,9 @@ pub fn judge_table(
     ensures made { (task : TaskOf) → MadeOf task enc.old → MadeOf task enc.new }
 {
     let actions = task.actions.len() as u32;
+    let order = order_of(alloc, task, rules, actions);
     let mut board = Board::new(alloc, enc, places(actions))?;
-    let judged = judge(enc, &mut board, class, rules, actions);
+    let judged = judge(enc, &mut board, class, rules, &order);
     board.close(enc);
     judged
 }

@@ -21,16 +21,16 @@ returns-in_err-make_all c scene before rule has next =
     passed_on scene.start c.make_all.new.enc c.make_all.new.board.slots.items _ _ c.make_all.result c.from_residual.result _ c.in_err-make_all.was (err_from_is_err_and c.from_residual.result c.from_residual.ensures.1)
     (c.make_all.ensures scene.start (set_at enc.sets slots) (shown scene enc slots has.read.there) (states_can scene before rule next c.space-states.result enc slots has c.space-states.ensures))
 
-pub is_empty-requires-clause-working : goal.is_empty-requires-clause-working
-is_empty-requires-clause-working c =
+pub is_none_left-requires-clause-working : goal.is_none_left-requires-clause-working
+is_none_left-requires-clause-working c =
     let r = c.requires in
     let enc = c.args.enc.now in
     let slots = c.args.board.now.slots.items in
     let done = went r.0.start c.make_all.new.enc c.make_all.new.board.slots.items _ c.make_all.result _ c.in_ok-make_all.was (c.make_all.ensures r.0.start (set_at enc.sets slots) (shown r.0 enc slots r.3.read.there) (states_can r.0 r.1 r.2 r.4 c.space-states.result enc slots r.3 c.space-states.ensures)) in
     (r.0.start, done.at)
 
-pub is_empty-requires-clause-place : goal.is_empty-requires-clause-place
-is_empty-requires-clause-place c =
+pub is_none_left-requires-clause-place : goal.is_none_left-requires-clause-place
+is_none_left-requires-clause-place c =
     let r = c.requires in
     let enc = c.args.enc.now in
     let slots = c.args.board.now.slots.items in
@@ -43,5 +43,5 @@ returns c scene before rule has next =
     let slots = c.args.board.now.slots.items in
     let done = went scene.start c.make_all.new.enc c.make_all.new.board.slots.items _ c.make_all.result _ c.in_ok-make_all.was (c.make_all.ensures scene.start (set_at enc.sets slots) (shown scene enc slots has.read.there) (states_can scene before rule next c.space-states.result enc slots has c.space-states.ensures)) in (
       states_made scene before rule next c.space-states.result enc slots has c.space-states.ensures c.make_all.new.enc c.make_all.new.board.slots.items done,
-      states_told scene before rule next c.space-states.result enc slots has c.space-states.ensures c.make_all.new.enc c.make_all.new.board.slots.items done c.is_empty.result c.is_empty.ensures,
+      states_told scene before rule next c.space-states.result enc slots has c.space-states.ensures c.make_all.new.enc c.make_all.new.board.slots.items done c.is_none_left.result c.is_none_left.ensures,
     )

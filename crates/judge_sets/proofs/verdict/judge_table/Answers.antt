@@ -30,7 +30,7 @@ pub judge-judged-requires-clause-actions : goal.judge-judged-requires-clause-act
 judge-judged-requires-clause-actions c =
     let count : length c.args.enc.now.actions ≡ action_count c.args.task.now = c.requires.made.actions in
     let same : length c.new.new.enc.actions ≡ length c.args.enc.now.actions = ap (λ (e : Encoded). length e.actions) c.new.ensures.same_slots in
-    omega arith
+    omega (arith, c.order_of-order.ensures)
 
 pub close-requires : goal.close-requires
 close-requires c =

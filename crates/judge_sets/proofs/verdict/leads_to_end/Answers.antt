@@ -17,14 +17,14 @@ returns-in_err-grow c scene part =
     passed_on scene.start c.grow.new.enc c.grow.new.board.slots.items _ _ c.grow.result c.from_residual.result _ c.in_err-grow.was (err_from_is_err_and c.from_residual.result c.from_residual.ensures.1)
     (c.grow.ensures scene _ (part_grown scene c.args.outcomes c.args.enc.now c.args.board.now.slots.items part))
 
-pub covers_initial-requires-clause-working : goal.covers_initial-requires-clause-working
-covers_initial-requires-clause-working c =
+pub begin_well-requires-clause-working : goal.begin_well-requires-clause-working
+begin_well-requires-clause-working c =
     let r = c.requires.ready in
     let all = went r.0.start c.grow.new.enc c.grow.new.board.slots.items _ c.grow.result _ c.in_ok-grow.was (c.grow.ensures r.0 _ (part_grown r.0 c.args.outcomes c.args.enc.now c.args.board.now.slots.items r.1)) in
     (r.0.start, all.has.by_steps.there.at)
 
-pub covers_initial-requires-clause-place : goal.covers_initial-requires-clause-place
-covers_initial-requires-clause-place c =
+pub begin_well-requires-clause-place : goal.begin_well-requires-clause-place
+begin_well-requires-clause-place c =
     let r = c.requires.ready in
     let all = went r.0.start c.grow.new.enc c.grow.new.board.slots.items _ c.grow.result _ c.in_ok-grow.was (c.grow.ensures r.0 _ (part_grown r.0 c.args.outcomes c.args.enc.now c.args.board.now.slots.items r.1)) in
     slot_in r.0 c.grow.new.enc c.grow.new.board.slots.items all.has.by_steps.there 4 (place_in r.0 4 (omega arith))
@@ -32,6 +32,6 @@ covers_initial-requires-clause-place c =
 pub returns : goal.returns
 returns c scene part =
     let all = went scene.start c.grow.new.enc c.grow.new.board.slots.items _ c.grow.result _ c.in_ok-grow.was (c.grow.ensures scene _ (part_grown scene c.args.outcomes c.args.enc.now c.args.board.now.slots.items part)) in
-    grown_told scene c.args.outcomes c.grow.new.enc c.covers_initial.new.enc c.grow.new.board.slots.items all c.covers_initial.result
-    (c.covers_initial.ensures.left scene.start all.has.by_steps.there.at (grown_test scene c.args.outcomes c.grow.new.enc c.grow.new.board.slots.items all))
-    (c.covers_initial.ensures.answer scene.start all.has.by_steps.there.at)
+    grown_told scene c.args.outcomes c.grow.new.enc c.begin_well.new.enc c.grow.new.board.slots.items all c.begin_well.result
+    (c.begin_well.ensures.left scene.start all.has.by_steps.there.at (grown_test scene c.args.outcomes c.grow.new.enc c.grow.new.board.slots.items all))
+    (c.begin_well.ensures.answer scene.start all.has.by_steps.there.at)

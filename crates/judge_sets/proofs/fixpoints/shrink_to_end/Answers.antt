@@ -4,7 +4,7 @@ use Rattle.task_core.specs.Tasks.{action_count}
 use Rattle.slot_board.proofs.BoardSlots.{same_actions, same_fluents}
 use Rattle.board_steps.proofs.StepLemmas.{found_of, passed_on}
 use Rattle.judge_sets.proofs.ShrinkSteps.{shrink_less}
-use Rattle.judge_sets.proofs.fixpoints.shrink.Goals as goal
+use Rattle.judge_sets.proofs.fixpoints.shrink_to_end.Goals as goal
 
 pub loop-shrank-init : goal.loop-shrank-init
 loop-shrank-init c scene from set has = (set, has, λ e. absurd (true≢false e))

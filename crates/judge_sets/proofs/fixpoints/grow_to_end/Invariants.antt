@@ -5,7 +5,7 @@ use Rattle.task_core.specs.Tasks.{action_count}
 use Rattle.task_core.specs.Vectors.{all_vectors, value_of}
 use Rattle.plan_theory.proofs.RoundSteps.{held}
 use Rattle.judge_sets.specs.Places.{GainsNone, HasGrown, Scene}
-use Rattle.judge_sets.proofs.fixpoints.grow.Given as goal
+use Rattle.judge_sets.proofs.fixpoints.grow_to_end.Given as goal
 
 abbrev pub invariant-loop-grew : goal.invariant-loop-grew
 invariant-loop-grew l = (scene : Scene) (set : Function) → HasGrown scene l.outcomes l.fn.enc l.fn.board.slots.items set

@@ -5,7 +5,7 @@ use Rattle.task_core.specs.Tasks.{action_count}
 use Rattle.task_core.specs.Vectors.{all_vectors, value_of}
 use Rattle.plan_theory.proofs.RoundSteps.{held}
 use Rattle.judge_sets.specs.Places.{LosesNone, HasShrunk, Scene}
-use Rattle.judge_sets.proofs.fixpoints.shrink.Given as goal
+use Rattle.judge_sets.proofs.fixpoints.shrink_to_end.Given as goal
 
 abbrev pub invariant-loop-shrank : goal.invariant-loop-shrank
 invariant-loop-shrank l = (scene : Scene) (from set : Function) → HasShrunk scene l.fn.enc l.fn.board.slots.items from set

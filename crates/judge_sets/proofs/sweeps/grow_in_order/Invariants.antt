@@ -1,0 +1,5 @@
+use Rattle.judge_sets.specs.Places.{GrowsStill, Scene}
+use Rattle.judge_sets.proofs.sweeps.grow_in_order.Given as goal
+
+abbrev pub invariant-loop-a : goal.invariant-loop-a
+invariant-loop-a l = (scene : Scene) → GrowsStill scene l.outcomes l.fn.enc l.fn.board.slots.items → GrowsStill scene l.outcomes l.enc l.board.slots.items
