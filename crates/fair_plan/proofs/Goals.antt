@@ -130,8 +130,8 @@ chain_last origin keep stages x n win long is won =
     (subst (λ (rest : List SetStage). IsChainWin (sys_of origin) keep rest (states_in x win)) (sym (drop_none (map stage_sets stages) n (omega (arith, many)))) won)
 
 -- the stages after the one before
-pub chain_later : (origin : Origin) (keep : SetOfVectors) (rest : List SetStage) (x : Scene) (i win : ℕ) → 0 < i → win ≡ win_place (actions_of origin) (i - 1) → IsChainWin (sys_of origin) keep rest (states_in x (win_place (actions_of origin) i)) → IsChainWin (sys_of origin) keep rest (states_in x (win + 1))
-chain_later origin keep rest x i win some is won = subst (λ (k : ℕ). IsChainWin (sys_of origin) keep rest (states_in x k)) (let e : win_place (actions_of origin) i ≡ win + 1 = omega arith in e) won
+pub chain_later : (origin : Origin) (keep : SetOfVectors) (rest : List SetStage) (x : Scene) (i next : ℕ) → next ≡ win_place (actions_of origin) i → IsChainWin (sys_of origin) keep rest (states_in x (win_place (actions_of origin) i)) → IsChainWin (sys_of origin) keep rest (states_in x next)
+chain_later origin keep rest x i next is won = subst (λ (k : ℕ). IsChainWin (sys_of origin) keep rest (states_in x k)) (sym is) won
 
 pub chain_more : (origin : Origin) (keep : SetOfVectors) (stages : List UntilStage) (stage : UntilStage) (x : Scene) (i win : ℕ) → 0 < i → i ≤ length stages → win ≡ win_place (actions_of origin) (i - 1) → stage ≡ get_or stages (i - 1) stage
     → IsChainWin (sys_of origin) keep (stage_sets stage ∷ drop i (map stage_sets stages)) (states_in x win)

@@ -221,60 +221,59 @@ fn begin_round(enc: &mut Enc, board: &mut Board, actions: u32) -> Result<(), Set
     pair_all(enc, board, actions)
 }
 
+/// What is asked of a largest set: whether one has to be able to stay in it, and the place of the first
+/// of so many targets that have to be come to.
+#[derive(Clone, Copy)]
+pub(crate) struct Wanted {
+    pub(crate) stays: bool,
+    pub(crate) first: usize,
+    pub(crate) count: u32,
+}
+
 /// Makes a round: of the states that are left, leaves those from which what is asked for can be had by
 /// actions that stay among them.
-fn keep_round(
-    enc: &mut Enc,
-    board: &mut Board,
-    actions: u32,
-    stays: bool,
-    first: usize,
-    count: u32,
-) -> Result<(), SetErr>
+fn keep_round(enc: &mut Enc, board: &mut Board, actions: u32, wanted: Wanted) -> Result<(), SetErr>
     requires ready { (origin : Origin) × IsThere origin (enc.old, board.old.slots.items) }
     requires actions { actions ≡ length enc.old.actions }
-    requires targets { first + count ≤ length board.old.slots.items }
-    requires high { 8 + actions ≤ first }
+    requires targets { wanted.first + wanted.count ≤ length board.old.slots.items }
+    requires high { 8 + actions ≤ wanted.first }
     ensures { (origin : Origin) (asked : Asked)
         → IsThere origin (enc.old, board.old.slots.items)
-        → asked.stays ≡ stays → length asked.targets ≡ count
-        → GoesOn origin asked first (enc.old, board.old.slots.items)
+        → asked.stays ≡ wanted.stays → length asked.targets ≡ wanted.count
+        → GoesOn origin asked wanted.first (enc.old, board.old.slots.items)
         → Leaves origin (enc.new, board.new.slots.items)
         ((set_in (enc.new, board.new.slots.items) 4 ≡ set_in (enc.old, board.old.slots.items) 5)
-        × HasRound origin asked first (enc.new, board.new.slots.items)) result }
+        × HasRound origin asked wanted.first (enc.new, board.new.slots.items)) result }
 {
     begin_round(enc, board, actions)?;
-    keep_staying(enc, board, stays)?;
-    come_to_all(enc, board, actions, first, count)
+    keep_staying(enc, board, wanted.stays)?;
+    come_to_all(enc, board, actions, wanted.first, wanted.count)
 }
 
 /// Finds the largest set of states from which what is asked for can be had by actions that stay in
-/// the set. It begins with the states that are left, and stays there where `stays`; the guard stands
-/// at its place, and the targets, so many, from a place on.
+/// the set. It begins with the states that are left; the guard stands at its place.
 pub(crate) fn find_largest(
     enc: &mut Enc,
     board: &mut Board,
     actions: u32,
-    stays: bool,
-    first: usize,
-    count: u32,
+    wanted: Wanted,
 ) -> Result<(), SetErr>
     requires ready { (origin : Origin) × (asked : Asked)
         × IsThere origin (enc.old, board.old.slots.items)
-        × Begins origin asked stays first count (enc.old, board.old.slots.items) }
+        × Begins origin asked wanted.stays wanted.first wanted.count (enc.old, board.old.slots.items) }
     requires actions { actions ≡ length enc.old.actions }
-    requires targets { first + count ≤ length board.old.slots.items }
-    requires high { 8 + actions ≤ first }
+    requires targets { wanted.first + wanted.count ≤ length board.old.slots.items }
+    requires high { 8 + actions ≤ wanted.first }
     ensures { (origin : Origin) (asked : Asked)
         → IsThere origin (enc.old, board.old.slots.items)
-        → Begins origin asked stays first count (enc.old, board.old.slots.items)
+        → Begins origin asked wanted.stays wanted.first wanted.count (enc.old, board.old.slots.items)
         → Leaves origin (enc.new, board.new.slots.items)
         (IsLargestFairSet (sys_of origin) asked (states_in (enc.new, board.new.slots.items) 5))
         result }
 {
-    keep_round(enc, board, actions, stays, first, count)?;
+    keep_round(enc, board, actions, wanted)?;
     while !board.is_same(enc, LEFT, LAST) {
-        keep_round(enc, board, actions, stays, first, count)?;
+        keep_round(enc, board, actions, wanted)?;
     }
     Ok(())
 }

@@ -1,6 +1,6 @@
 //! The places of a search's board.
 
-ghost use Rattle.std.specs.Prelude.{◌≡◌, ◌+◌, ◌≤◌};
+ghost use Rattle.std.specs.Prelude.{◌≡◌, ◌+◌, ◌<◌, ◌≤◌};
 ghost use Rattle.fair_plan.specs.Goals.{most_stages};
 ghost use Rattle.fair_plan.specs.Places.{met_place, place_count, takers_place, win_place};
 
@@ -52,6 +52,43 @@ pub(crate) fn takers_at(actions: u32, count: u32, stage: u32) -> usize
     ensures { result ≡ takers_place actions count stage }
 {
     10 + actions as usize + 2 * count as usize + stage as usize * actions as usize
+}
+
+/// How many actions a task has, and how many stages or visits a goal.
+#[derive(Clone, Copy)]
+pub(crate) struct Sizes {
+    pub(crate) actions: u32,
+    pub(crate) count: u32,
+}
+
+/// The places of a stage of an until-chain.
+#[derive(Clone, Copy)]
+pub(crate) struct StagePlaces {
+    /// The states of the stage's context,
+    pub(crate) win: usize,
+    /// those of the next context,
+    pub(crate) next: usize,
+    /// where the stage is met,
+    pub(crate) met: usize,
+    /// and the first of those that take actions towards it.
+    pub(crate) takers: usize,
+}
+
+/// The places of a stage, counted from 0.
+pub(crate) fn stage_places(actions: u32, count: u32, stage: u32) -> StagePlaces
+    requires count { count ≤ most_stages }
+    requires stage { stage < count }
+    ensures win { result.win ≡ win_place actions stage }
+    ensures next { result.next ≡ win_place actions (stage + 1) }
+    ensures met { result.met ≡ met_place actions count stage }
+    ensures takers { result.takers ≡ takers_place actions count stage }
+{
+    StagePlaces {
+        win: win_at(actions, stage),
+        next: win_at(actions, stage + 1),
+        met: met_at(actions, count, stage),
+        takers: takers_at(actions, count, stage),
+    }
 }
 
 /// How many places there are.

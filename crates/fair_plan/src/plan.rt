@@ -17,7 +17,7 @@ ghost use Rattle.fair_plan.specs.Found.{CanBeHad, IfNoPlan, IfPlan, IsAnswer};
 ghost use Rattle.fair_plan.specs.Goals.{IsFairGoalOver, contexts_of, count_of, most_stages};
 
 use crate::found::FairFound;
-use crate::places::{places, win_at};
+use crate::places::{Sizes, places, win_at};
 use crate::rules::list_goal;
 use crate::stages::win_goal;
 use crate::steps::begin;
@@ -99,27 +99,26 @@ fn write_plan(
     alloc: Global,
     enc: &mut Enc,
     board: &mut Board,
-    actions: u32,
+    sizes: Sizes,
     goal: &ContextGoal,
-    count: u32,
 ) -> Result<AutoPlan, SetErr>
     requires ready { (origin : Origin) × IsThere origin (enc.old, board.old.slots.items)
-        × (origin.count ≡ count) }
-    requires actions { actions ≡ length enc.old.actions }
+        × (origin.count ≡ sizes.count) }
+    requires actions { sizes.actions ≡ length enc.old.actions }
     requires goal { IsFairGoalOver enc.old.sets.vars goal.now }
-    requires count { count ≡ count_of goal.now }
-    requires few { count ≤ most_stages }
+    requires count { sizes.count ≡ count_of goal.now }
+    requires few { sizes.count ≤ most_stages }
     ensures { (origin : Origin) → IsThere origin (enc.old, board.old.slots.items)
-        → origin.count ≡ count → Ends origin.start enc.new board.new.slots.items
+        → origin.count ≡ sizes.count → Ends origin.start enc.new board.new.slots.items
         (λ plan. IsThere origin (enc.new, board.new.slots.items)
         × IsAutomatonOf (fluent_count origin.start.task) (actions_of origin) plan.contexts
         (context_rules_of plan)) result }
 {
-    take_goal(enc, board, actions, goal, count)?;
+    take_goal(enc, board, sizes.actions, goal, sizes.count)?;
     let mut rules = Vec::new(alloc);
-    list_goal(enc, board, &mut rules, actions, goal, count)?;
+    list_goal(enc, board, &mut rules, sizes, goal)?;
     Ok(AutoPlan {
-        contexts: contexts_of(goal, count),
+        contexts: contexts_of(goal, sizes.count),
         rules,
     })
 }
@@ -129,25 +128,24 @@ fn search_goal(
     alloc: Global,
     enc: &mut Enc,
     board: &mut Board,
-    actions: u32,
+    sizes: Sizes,
     goal: &ContextGoal,
-    count: u32,
 ) -> Result<FairFound, SetErr>
     requires ready { (origin : Origin) × At origin.start enc.old board.old.slots.items
-        × (origin.count ≡ count) }
-    requires actions { actions ≡ length enc.old.actions }
+        × (origin.count ≡ sizes.count) }
+    requires actions { sizes.actions ≡ length enc.old.actions }
     requires goal { IsFairGoalOver enc.old.sets.vars goal.now }
-    requires count { count ≡ count_of goal.now }
-    requires few { count ≤ most_stages }
+    requires count { sizes.count ≡ count_of goal.now }
+    requires few { sizes.count ≤ most_stages }
     ensures { (origin : Origin) → At origin.start enc.old board.old.slots.items
-        → origin.count ≡ count → Ends origin.start enc.new board.new.slots.items
+        → origin.count ≡ sizes.count → Ends origin.start enc.new board.new.slots.items
         (λ found. IsThere origin (enc.new, board.new.slots.items)
         × IsAnswer origin.start.task (sets_of_goal goal.now) found) result }
 {
-    if !wins(enc, board, actions, goal, count)? {
+    if !wins(enc, board, sizes.actions, goal, sizes.count)? {
         return Ok(FairFound::NoPlan);
     }
-    let plan = write_plan(alloc, enc, board, actions, goal, count)?;
+    let plan = write_plan(alloc, enc, board, sizes, goal)?;
     Ok(FairFound::Plan(plan))
 }
 
@@ -168,7 +166,8 @@ fn find_fair(
     let actions = task.actions.len() as u32;
     let count = count_of(goal);
     let mut board = Board::new(alloc, enc, places(actions, count))?;
-    let found = search_goal(alloc, enc, &mut board, actions, goal, count);
+    let sizes = Sizes { actions, count };
+    let found = search_goal(alloc, enc, &mut board, sizes, goal);
     board.close(enc);
     found
 }

@@ -7,7 +7,7 @@ ghost use Rattle.fair_plan.specs.Boards.{IsThere, Leaves, Origin, states_in};
 ghost use Rattle.fair_plan.specs.Goals.{contexts_of, count_of, most_stages};
 ghost use Rattle.fair_plan.specs.Rounds.{Lists, rule_for, rules_for};
 
-use crate::places::{PART, REST, met_at, takers_at, win_at};
+use crate::places::{PART, REST, Sizes, met_at, takers_at, win_at};
 use crate::steps::make;
 use board_steps::Step;
 use ctl_syntax::ContextGoal;
@@ -18,46 +18,55 @@ use slot_board::{Board, Operation};
 use std::alloc::AllocError;
 use task_core::{ActionId, Lit};
 
-/// A rule for each cube.
-fn add_rules(
-    rules: &mut Vec<AutoRule>,
+/// What a rule says besides where it matches: its context, the next one, and its action.
+#[derive(Clone, Copy)]
+struct Turn {
     context: u32,
     next: u32,
     action: ActionId,
-    cubes: Vec<Vec<Lit>>,
-) -> Result<(), AllocError>
+}
+
+/// A context of an until-chain, and one that it turns to, counted from 0.
+#[derive(Clone, Copy)]
+struct Leap {
+    stage: u32,
+    next: u32,
+}
+
+/// The place where a visit is made, and the first of those of the states that take actions towards it.
+#[derive(Clone, Copy)]
+struct VisitPlaces {
+    met: usize,
+    takers: usize,
+}
+
+/// A rule for each cube.
+fn add_rules(rules: &mut Vec<AutoRule>, turn: Turn, cubes: Vec<Vec<Lit>>) -> Result<(), AllocError>
     ensures { OnOk result (map context_rule_of rules.new.items
         ≡ map context_rule_of rules.old.items
-        ++ map (rule_for context next action.0) (map (λ cube. cube.items) cubes.items)) }
+        ++ map (rule_for turn.context turn.next turn.action.0) (map (λ cube. cube.items) cubes.items)) }
 {
     for cube in cubes {
         rules.push(AutoRule {
-            context,
+            context: turn.context,
             cube,
-            action,
-            next: Next::One(next),
+            action: turn.action,
+            next: Next::One(turn.next),
         })?;
     }
     Ok(())
 }
 
 /// The rules of the states at the place of what is looked at.
-fn list_part(
-    enc: &Enc,
-    board: &Board,
-    rules: &mut Vec<AutoRule>,
-    context: u32,
-    next: u32,
-    action: ActionId,
-) -> Result<(), SetErr>
+fn list_part(enc: &Enc, board: &Board, rules: &mut Vec<AutoRule>, turn: Turn) -> Result<(), SetErr>
     requires { (origin : Origin) × IsThere origin (enc.now, board.now.slots.items) }
     ensures never_full { IfErr result (λ e. e ≡ SetErr.Memory) }
     ensures listed { OnOk result (map context_rule_of rules.new.items
-        ≡ map context_rule_of rules.old.items ++ rules_for enc.now.sets.vars context next action.0
-        (states_in (enc.now, board.now.slots.items) 0)) }
+        ≡ map context_rule_of rules.old.items ++ rules_for enc.now.sets.vars turn.context
+        turn.next turn.action.0 (states_in (enc.now, board.now.slots.items) 0)) }
 {
     match board.only_cubes(enc, PART) {
-        Ok(cubes) => match add_rules(rules, context, next, action, cubes) {
+        Ok(cubes) => match add_rules(rules, turn, cubes) {
             Ok(()) => Ok(()),
             Err(_) => Err(SetErr::Memory),
         },
@@ -95,27 +104,24 @@ fn drop_rest(enc: &mut Enc, board: &mut Board, met: usize) -> Result<(), SetErr>
 
 /// Looks for the states of a context of an until-chain, counted from 0, that turn to a next one: in
 /// which the stages before it are met, and its own isn't.
-fn turn_to(
-    enc: &mut Enc,
-    board: &mut Board,
-    actions: u32,
-    count: u32,
-    stage: u32,
-    next: u32,
-) -> Result<(), SetErr>
+fn turn_to(enc: &mut Enc, board: &mut Board, sizes: Sizes, leap: Leap) -> Result<(), SetErr>
     requires ready { (origin : Origin) × IsThere origin (enc.old, board.old.slots.items)
-        × (origin.count ≡ count) }
-    requires actions { actions ≡ length enc.old.actions }
-    requires stage { stage ≤ next }
-    requires next { next ≤ count }
+        × (origin.count ≡ sizes.count) }
+    requires actions { sizes.actions ≡ length enc.old.actions }
+    requires stage { leap.stage ≤ leap.next }
+    requires next { leap.next ≤ sizes.count }
     ensures { (origin : Origin) → IsThere origin (enc.old, board.old.slots.items)
         → Leaves origin (enc.new, board.new.slots.items) ⊤ result }
 {
-    make(enc, board, &[Step::Copy(REST, win_at(actions, stage))])?;
-    for i in stage..next {
-        meet_rest(enc, board, met_at(actions, count, i))?;
+    make(
+        enc,
+        board,
+        &[Step::Copy(REST, win_at(sizes.actions, leap.stage))],
+    )?;
+    for i in leap.stage..leap.next {
+        meet_rest(enc, board, met_at(sizes.actions, sizes.count, i))?;
     }
-    drop_rest(enc, board, met_at(actions, count, next))
+    drop_rest(enc, board, met_at(sizes.actions, sizes.count, leap.next))
 }
 
 /// The rules of an action in a context of an until-chain, of the states that turn to a next one.
@@ -123,26 +129,24 @@ fn list_turned(
     enc: &mut Enc,
     board: &mut Board,
     rules: &mut Vec<AutoRule>,
-    context: u32,
-    next: u32,
+    turn: Turn,
     takers: usize,
-    action: ActionId,
 ) -> Result<(), SetErr>
     requires ready { (origin : Origin) × IsThere origin (enc.old, board.old.slots.items) }
-    requires action { action.0 < length enc.old.actions }
+    requires action { turn.action.0 < length enc.old.actions }
     requires places { takers + length enc.old.actions ≤ length board.old.slots.items }
     ensures { (origin : Origin) → IsThere origin (enc.old, board.old.slots.items)
         → Leaves origin (enc.new, board.new.slots.items)
-        (Lists origin (λ contexts. IsContextOf contexts context × IsContextOf contexts next) rules.old.items rules.new.items)
-        result }
+        (Lists origin (λ contexts. IsContextOf contexts turn.context × IsContextOf contexts turn.next)
+        rules.old.items rules.new.items) result }
 {
-    let place = takers + action.0 as usize;
+    let place = takers + turn.action.0 as usize;
     make(
         enc,
         board,
         &[Step::Combine(PART, Operation::Meet, REST, place)],
     )?;
-    list_part(enc, board, rules, context, next, action)
+    list_part(enc, board, rules, turn)
 }
 
 /// The rules of a context of an until-chain, counted from 0, towards a next one.
@@ -150,26 +154,29 @@ fn list_next(
     enc: &mut Enc,
     board: &mut Board,
     rules: &mut Vec<AutoRule>,
-    actions: u32,
-    count: u32,
-    stage: u32,
-    next: u32,
+    sizes: Sizes,
+    leap: Leap,
 ) -> Result<(), SetErr>
     requires ready { (origin : Origin) × IsThere origin (enc.old, board.old.slots.items)
-        × (origin.count ≡ count) }
-    requires actions { actions ≡ length enc.old.actions }
-    requires few { count ≤ most_stages }
-    requires stage { stage ≤ next }
-    requires next { next ≤ count }
+        × (origin.count ≡ sizes.count) }
+    requires actions { sizes.actions ≡ length enc.old.actions }
+    requires few { sizes.count ≤ most_stages }
+    requires stage { leap.stage ≤ leap.next }
+    requires next { leap.next ≤ sizes.count }
     ensures { (origin : Origin) → IsThere origin (enc.old, board.old.slots.items)
         → Leaves origin (enc.new, board.new.slots.items)
-        (Lists origin (λ contexts. count + 1 ≤ contexts) rules.old.items rules.new.items)
+        (Lists origin (λ contexts. sizes.count + 1 ≤ contexts) rules.old.items rules.new.items)
         result }
 {
-    turn_to(enc, board, actions, count, stage, next)?;
-    let takers = takers_at(actions, count, next);
-    for a in 0..actions {
-        list_turned(enc, board, rules, stage + 1, next + 1, takers, ActionId(a))?;
+    turn_to(enc, board, sizes, leap)?;
+    let takers = takers_at(sizes.actions, sizes.count, leap.next);
+    for a in 0..sizes.actions {
+        let turn = Turn {
+            context: leap.stage + 1,
+            next: leap.next + 1,
+            action: ActionId(a),
+        };
+        list_turned(enc, board, rules, turn, takers)?;
     }
     Ok(())
 }
@@ -179,22 +186,22 @@ fn list_context(
     enc: &mut Enc,
     board: &mut Board,
     rules: &mut Vec<AutoRule>,
-    actions: u32,
-    count: u32,
+    sizes: Sizes,
     stage: u32,
 ) -> Result<(), SetErr>
     requires ready { (origin : Origin) × IsThere origin (enc.old, board.old.slots.items)
-        × (origin.count ≡ count) }
-    requires actions { actions ≡ length enc.old.actions }
-    requires few { count ≤ most_stages }
-    requires stage { stage ≤ count }
+        × (origin.count ≡ sizes.count) }
+    requires actions { sizes.actions ≡ length enc.old.actions }
+    requires few { sizes.count ≤ most_stages }
+    requires stage { stage ≤ sizes.count }
     ensures { (origin : Origin) → IsThere origin (enc.old, board.old.slots.items)
         → Leaves origin (enc.new, board.new.slots.items)
-        (Lists origin (λ contexts. count + 1 ≤ contexts) rules.old.items rules.new.items)
+        (Lists origin (λ contexts. sizes.count + 1 ≤ contexts) rules.old.items rules.new.items)
         result }
 {
-    for next in stage..count + 1 {
-        list_next(enc, board, rules, actions, count, stage, next)?;
+    for next in stage..sizes.count + 1 {
+        let leap = Leap { stage, next };
+        list_next(enc, board, rules, sizes, leap)?;
     }
     Ok(())
 }
@@ -204,20 +211,19 @@ fn list_chain(
     enc: &mut Enc,
     board: &mut Board,
     rules: &mut Vec<AutoRule>,
-    actions: u32,
-    count: u32,
+    sizes: Sizes,
 ) -> Result<(), SetErr>
     requires ready { (origin : Origin) × IsThere origin (enc.old, board.old.slots.items)
-        × (origin.count ≡ count) }
-    requires actions { actions ≡ length enc.old.actions }
-    requires few { count ≤ most_stages }
+        × (origin.count ≡ sizes.count) }
+    requires actions { sizes.actions ≡ length enc.old.actions }
+    requires few { sizes.count ≤ most_stages }
     ensures { (origin : Origin) → IsThere origin (enc.old, board.old.slots.items)
         → Leaves origin (enc.new, board.new.slots.items)
-        (Lists origin (λ contexts. count + 1 ≤ contexts) rules.old.items rules.new.items)
+        (Lists origin (λ contexts. sizes.count + 1 ≤ contexts) rules.old.items rules.new.items)
         result }
 {
-    for stage in 0..count + 1 {
-        list_context(enc, board, rules, actions, count, stage)?;
+    for stage in 0..sizes.count + 1 {
+        list_context(enc, board, rules, sizes, stage)?;
     }
     Ok(())
 }
@@ -228,34 +234,36 @@ fn list_taken(
     enc: &mut Enc,
     board: &mut Board,
     rules: &mut Vec<AutoRule>,
-    context: u32,
-    next: u32,
-    met: usize,
-    takers: usize,
-    action: ActionId,
+    turn: Turn,
+    at: VisitPlaces,
 ) -> Result<(), SetErr>
     requires ready { (origin : Origin) × IsThere origin (enc.old, board.old.slots.items) }
-    requires action { action.0 < length enc.old.actions }
-    requires places { takers + length enc.old.actions ≤ length board.old.slots.items }
-    requires met { met < length board.old.slots.items }
+    requires action { turn.action.0 < length enc.old.actions }
+    requires places { at.takers + length enc.old.actions ≤ length board.old.slots.items }
+    requires met { at.met < length board.old.slots.items }
     ensures { (origin : Origin) → IsThere origin (enc.old, board.old.slots.items)
         → Leaves origin (enc.new, board.new.slots.items)
-        (Lists origin (λ contexts. IsContextOf contexts context × IsContextOf contexts next) rules.old.items rules.new.items)
-        result }
+        (Lists origin (λ contexts. IsContextOf contexts turn.context × IsContextOf contexts turn.next)
+        rules.old.items rules.new.items) result }
 {
-    let place = takers + action.0 as usize;
+    let place = at.takers + turn.action.0 as usize;
+    let staying = Turn {
+        context: turn.context,
+        next: turn.context,
+        action: turn.action,
+    };
     make(
         enc,
         board,
-        &[Step::Combine(PART, Operation::Minus, place, met)],
+        &[Step::Combine(PART, Operation::Minus, place, at.met)],
     )?;
-    list_part(enc, board, rules, context, context, action)?;
+    list_part(enc, board, rules, staying)?;
     make(
         enc,
         board,
-        &[Step::Combine(PART, Operation::Meet, place, met)],
+        &[Step::Combine(PART, Operation::Meet, place, at.met)],
     )?;
-    list_part(enc, board, rules, context, next, action)
+    list_part(enc, board, rules, turn)
 }
 
 /// The context after that of a visit, the first after the last one.
@@ -273,25 +281,31 @@ fn list_visit(
     enc: &mut Enc,
     board: &mut Board,
     rules: &mut Vec<AutoRule>,
-    actions: u32,
-    count: u32,
+    sizes: Sizes,
     visit: u32,
 ) -> Result<(), SetErr>
     requires ready { (origin : Origin) × IsThere origin (enc.old, board.old.slots.items)
-        × (origin.count ≡ count) }
-    requires actions { actions ≡ length enc.old.actions }
-    requires few { count ≤ most_stages }
-    requires visit { visit < count }
+        × (origin.count ≡ sizes.count) }
+    requires actions { sizes.actions ≡ length enc.old.actions }
+    requires few { sizes.count ≤ most_stages }
+    requires visit { visit < sizes.count }
     ensures { (origin : Origin) → IsThere origin (enc.old, board.old.slots.items)
         → Leaves origin (enc.new, board.new.slots.items)
-        (Lists origin (λ contexts. count ≤ contexts) rules.old.items rules.new.items)
+        (Lists origin (λ contexts. sizes.count ≤ contexts) rules.old.items rules.new.items)
         result }
 {
-    let met = met_at(actions, count, visit);
-    let takers = takers_at(actions, count, visit);
-    let next = next_visit(count, visit);
-    for a in 0..actions {
-        list_taken(enc, board, rules, visit + 1, next, met, takers, ActionId(a))?;
+    let at = VisitPlaces {
+        met: met_at(sizes.actions, sizes.count, visit),
+        takers: takers_at(sizes.actions, sizes.count, visit),
+    };
+    let next = next_visit(sizes.count, visit);
+    for a in 0..sizes.actions {
+        let turn = Turn {
+            context: visit + 1,
+            next,
+            action: ActionId(a),
+        };
+        list_taken(enc, board, rules, turn, at)?;
     }
     Ok(())
 }
@@ -301,20 +315,19 @@ fn list_patrol(
     enc: &mut Enc,
     board: &mut Board,
     rules: &mut Vec<AutoRule>,
-    actions: u32,
-    count: u32,
+    sizes: Sizes,
 ) -> Result<(), SetErr>
     requires ready { (origin : Origin) × IsThere origin (enc.old, board.old.slots.items)
-        × (origin.count ≡ count) }
-    requires actions { actions ≡ length enc.old.actions }
-    requires few { count ≤ most_stages }
+        × (origin.count ≡ sizes.count) }
+    requires actions { sizes.actions ≡ length enc.old.actions }
+    requires few { sizes.count ≤ most_stages }
     ensures { (origin : Origin) → IsThere origin (enc.old, board.old.slots.items)
         → Leaves origin (enc.new, board.new.slots.items)
-        (Lists origin (λ contexts. count ≤ contexts) rules.old.items rules.new.items)
+        (Lists origin (λ contexts. sizes.count ≤ contexts) rules.old.items rules.new.items)
         result }
 {
-    for visit in 0..count {
-        list_visit(enc, board, rules, actions, count, visit)?;
+    for visit in 0..sizes.count {
+        list_visit(enc, board, rules, sizes, visit)?;
     }
     Ok(())
 }
@@ -324,22 +337,21 @@ pub(crate) fn list_goal(
     enc: &mut Enc,
     board: &mut Board,
     rules: &mut Vec<AutoRule>,
-    actions: u32,
+    sizes: Sizes,
     goal: &ContextGoal,
-    count: u32,
 ) -> Result<(), SetErr>
     requires ready { (origin : Origin) × IsThere origin (enc.old, board.old.slots.items)
-        × (origin.count ≡ count) }
-    requires actions { actions ≡ length enc.old.actions }
-    requires few { count ≤ most_stages }
-    requires count { count ≡ count_of goal.now }
+        × (origin.count ≡ sizes.count) }
+    requires actions { sizes.actions ≡ length enc.old.actions }
+    requires few { sizes.count ≤ most_stages }
+    requires count { sizes.count ≡ count_of goal.now }
     ensures { (origin : Origin) → IsThere origin (enc.old, board.old.slots.items)
         → Leaves origin (enc.new, board.new.slots.items)
         (Lists origin (λ contexts. contexts ≡ contexts_of goal.now) rules.old.items rules.new.items)
         result }
 {
     match goal {
-        ContextGoal::Until(_) => list_chain(enc, board, rules, actions, count),
-        ContextGoal::Patrol(_) => list_patrol(enc, board, rules, actions, count),
+        ContextGoal::Until(_) => list_chain(enc, board, rules, sizes),
+        ContextGoal::Patrol(_) => list_patrol(enc, board, rules, sizes),
     }
 }

@@ -14,8 +14,8 @@ ghost use Rattle.fair_plan.specs.Goals.{count_of};
 ghost use Rattle.fair_plan.specs.Places.{win_place};
 ghost use Rattle.fair_plan.specs.Rounds.{AimsAt, HasVisits};
 
-use crate::fixpoints::find_largest;
-use crate::places::{GUARD, LEFT, met_at, win_at};
+use crate::fixpoints::{Wanted, find_largest};
+use crate::places::{GUARD, LEFT, StagePlaces, met_at, stage_places, win_at};
 use crate::steps::{make, put_condition};
 use board_steps::Step;
 use ctl_syntax::{ContextGoal, UntilChain, UntilStage};
@@ -44,7 +44,12 @@ fn win_end(
 {
     put_condition(enc, board, LEFT, keep)?;
     make(enc, board, &[Step::Whole(GUARD)])?;
-    find_largest(enc, board, actions, true, win, 0)?;
+    let wanted = Wanted {
+        stays: true,
+        first: win,
+        count: 0,
+    };
+    find_largest(enc, board, actions, wanted)?;
     make(enc, board, &[Step::Copy(win, LEFT)])
 }
 
@@ -54,26 +59,25 @@ fn aim_at(
     enc: &mut Enc,
     board: &mut Board,
     stage: &UntilStage,
-    win: usize,
-    met: usize,
+    at: StagePlaces,
 ) -> Result<(), SetErr>
     requires ready { (origin : Origin) × IsThere origin (enc.old, board.old.slots.items) }
     requires stage { EachInStage (IsConditionOver enc.old.sets.vars) stage.now }
-    requires place { met < length board.old.slots.items }
-    requires later { win + 1 < met }
-    requires high { 8 ≤ win }
+    requires place { at.met < length board.old.slots.items }
+    requires later { at.next < at.met }
+    requires high { 8 < at.next }
     ensures { (origin : Origin) → IsThere origin (enc.old, board.old.slots.items)
         → Leaves origin (enc.new, board.new.slots.items)
         (AimsAt origin (stage_sets stage.now) (enc.old, board.old.slots.items)
-        (enc.new, board.new.slots.items) (win + 1) met) result }
+        (enc.new, board.new.slots.items) at.next at.met) result }
 {
     put_condition(enc, board, GUARD, &stage.guard)?;
-    put_condition(enc, board, met, &stage.target)?;
+    put_condition(enc, board, at.met, &stage.target)?;
     make(
         enc,
         board,
         &[
-            Step::Combine(met, Operation::Meet, met, win + 1),
+            Step::Combine(at.met, Operation::Meet, at.met, at.next),
             Step::Whole(LEFT),
         ],
     )
@@ -85,26 +89,31 @@ fn win_stage(
     board: &mut Board,
     actions: u32,
     stage: &UntilStage,
-    win: usize,
-    met: usize,
+    at: StagePlaces,
 ) -> Result<(), SetErr>
     requires ready { (origin : Origin) × IsThere origin (enc.old, board.old.slots.items) }
     requires actions { actions ≡ length enc.old.actions }
     requires stage { EachInStage (IsConditionOver enc.old.sets.vars) stage.now }
-    requires place { met < length board.old.slots.items }
-    requires later { win + 1 < met }
-    requires high { 8 + actions ≤ win }
+    requires place { at.met < length board.old.slots.items }
+    requires later { at.next < at.met }
+    requires own { at.win < at.next }
+    requires high { 8 + actions ≤ at.win }
     ensures { (origin : Origin) (keep : SetOfVectors) (rest : List SetStage)
         → IsThere origin (enc.old, board.old.slots.items)
         → IsChainWin (sys_of origin) keep rest
-        (states_in (enc.old, board.old.slots.items) (win + 1))
+        (states_in (enc.old, board.old.slots.items) at.next)
         → Leaves origin (enc.new, board.new.slots.items)
         (IsChainWin (sys_of origin) keep (stage_sets stage.now ∷ rest)
-        (states_in (enc.new, board.new.slots.items) win)) result }
+        (states_in (enc.new, board.new.slots.items) at.win)) result }
 {
-    aim_at(enc, board, stage, win, met)?;
-    find_largest(enc, board, actions, false, met, 1)?;
-    make(enc, board, &[Step::Copy(win, LEFT)])
+    aim_at(enc, board, stage, at)?;
+    let wanted = Wanted {
+        stays: false,
+        first: at.met,
+        count: 1,
+    };
+    find_largest(enc, board, actions, wanted)?;
+    make(enc, board, &[Step::Copy(at.win, LEFT)])
 }
 
 /// Finds the states of all contexts of an until-chain.
@@ -128,14 +137,8 @@ fn win_chain(
 {
     win_end(enc, board, actions, &chain.keep, win_at(actions, count))?;
     for i in (0..count).rev() {
-        win_stage(
-            enc,
-            board,
-            actions,
-            &chain.stages[i as usize],
-            win_at(actions, i),
-            met_at(actions, count, i),
-        )?;
+        let at = stage_places(actions, count, i);
+        win_stage(enc, board, actions, &chain.stages[i as usize], at)?;
     }
     Ok(())
 }
@@ -177,7 +180,12 @@ fn win_patrol(
     let first = met_at(actions, count, 0);
     put_visits(enc, board, visits, first)?;
     make(enc, board, &[Step::Whole(GUARD), Step::Whole(LEFT)])?;
-    find_largest(enc, board, actions, true, first, count)?;
+    let wanted = Wanted {
+        stays: true,
+        first,
+        count,
+    };
+    find_largest(enc, board, actions, wanted)?;
     make(enc, board, &[Step::Copy(win_at(actions, 0), LEFT)])
 }
 

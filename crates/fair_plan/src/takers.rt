@@ -9,7 +9,10 @@ ghost use Rattle.fair_plan.specs.Goals.{most_stages};
 ghost use Rattle.fair_plan.specs.Rounds.{Climbs, ClimbsOnce};
 
 use crate::fixpoints::{has_rest, pair_all};
-use crate::places::{BEFORE, GUARD, LAST, NEAR, PART, REST, met_at, pairs_at, takers_at, win_at};
+use crate::places::{
+    BEFORE, GUARD, LAST, NEAR, PART, REST, StagePlaces, met_at, pairs_at, stage_places, takers_at,
+    win_at,
+};
 use crate::steps::{make, put_condition};
 use board_steps::Step;
 use ctl_syntax::{ContextGoal, UntilChain, UntilStage};
@@ -174,23 +177,21 @@ fn take_stage(
     board: &mut Board,
     actions: u32,
     stage: &UntilStage,
-    win: usize,
-    met: usize,
-    takers: usize,
+    at: StagePlaces,
 ) -> Result<(), SetErr>
     requires ready { (origin : Origin) × IsThere origin (enc.old, board.old.slots.items) }
     requires actions { actions ≡ length enc.old.actions }
     requires stage { EachInStage (IsConditionOver enc.old.sets.vars) stage.now }
-    requires places { takers + actions ≤ length board.old.slots.items }
-    requires high { 8 ≤ takers }
-    requires win { win < length board.old.slots.items }
-    requires met { met < length board.old.slots.items }
+    requires places { at.takers + actions ≤ length board.old.slots.items }
+    requires high { 8 ≤ at.takers }
+    requires win { at.win < length board.old.slots.items }
+    requires met { at.met < length board.old.slots.items }
     ensures { (origin : Origin) → IsThere origin (enc.old, board.old.slots.items)
         → Leaves origin (enc.new, board.new.slots.items) ⊤ result }
 {
     put_condition(enc, board, GUARD, &stage.guard)?;
-    pair_within(enc, board, actions, win)?;
-    climb(enc, board, actions, met, takers)
+    pair_within(enc, board, actions, at.win)?;
+    climb(enc, board, actions, at.met, at.takers)
 }
 
 /// Has the actions towards all stages of an until-chain taken, and those at its end.
@@ -210,15 +211,8 @@ fn take_chain(
         → Leaves origin (enc.new, board.new.slots.items) ⊤ result }
 {
     for i in 0..count {
-        take_stage(
-            enc,
-            board,
-            actions,
-            &chain.stages[i as usize],
-            win_at(actions, i),
-            met_at(actions, count, i),
-            takers_at(actions, count, i),
-        )?;
+        let at = stage_places(actions, count, i);
+        take_stage(enc, board, actions, &chain.stages[i as usize], at)?;
     }
     take_end(
         enc,

@@ -45,7 +45,7 @@ come_to_all-requires-clause-targets c =
     let r = c.requires.ready in
     let begun = done r.0 (c.begin_round.new.enc, c.begin_round.new.board.slots.items) _ c.begin_round.result _ c.in_ok-begin_round.was (c.begin_round.ensures r.0 r.1) in
     let kept = done r.0 (c.keep_staying.new.enc, c.keep_staying.new.board.slots.items) _ c.keep_staying.result _ c.in_ok-keep_staying.was (c.keep_staying.ensures r.0 begun.0) in
-    le_length r.0 (c.keep_staying.new.enc, c.keep_staying.new.board.slots.items) kept.0 (c.args.first + c.args.count) (le_start r.0 (c.args.enc.now, c.args.board.now.slots.items) r.1 (c.args.first + c.args.count) c.requires.targets)
+    le_length r.0 (c.keep_staying.new.enc, c.keep_staying.new.board.slots.items) kept.0 (c.args.wanted.first + c.args.wanted.count) (le_start r.0 (c.args.enc.now, c.args.board.now.slots.items) r.1 (c.args.wanted.first + c.args.wanted.count) c.requires.targets)
 
 pub returns : goal.returns
 returns c origin asked there same long on =
@@ -56,8 +56,8 @@ returns c origin asked there same long on =
     let begun = done origin m _ c.begin_round.result _ c.in_ok-begin_round.was (c.begin_round.ensures origin there) in
     let kept = done origin n _ c.keep_staying.result _ c.in_ok-keep_staying.was (c.keep_staying.ensures origin begun.0) in
     let e : length c.args.enc.now.actions ≡ actions_of origin = actions_are origin x there in
-    let high : pairs_end (actions_of origin) ≤ c.args.first = omega (arith, c.requires.actions, c.requires.high) in
-    let within = le_start origin x there (c.args.first + c.args.count) c.requires.targets in
+    let high : pairs_end (actions_of origin) ≤ c.args.wanted.first = omega (arith, c.requires.actions, c.requires.high) in
+    let within = le_start origin x there (c.args.wanted.first + c.args.wanted.count) c.requires.targets in
     leaves_with origin y _ _ c.come_to_all.result
-    (λ now came. round_made origin asked c.args.stays c.args.first c.args.count x m n y high within there same long on begun.1 kept.1 came)
-    (c.come_to_all.ensures origin asked kept.0 (targets_now origin asked c.args.stays c.args.first c.args.count x m n y high within there same long on begun.1 kept.1))
+    (λ now came. round_made origin asked c.args.wanted.stays c.args.wanted.first c.args.wanted.count x m n y high within there same long on begun.1 kept.1 came)
+    (c.come_to_all.ensures origin asked kept.0 (targets_now origin asked c.args.wanted.stays c.args.wanted.first c.args.wanted.count x m n y high within there same long on begun.1 kept.1))

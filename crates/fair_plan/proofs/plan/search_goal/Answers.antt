@@ -31,7 +31,7 @@ pub write_plan-requires-clause-actions : goal.write_plan-requires-clause-actions
 write_plan-requires-clause-actions c =
     let r = c.requires.ready in
     let won = found_of r.0.start c.wins.new.enc c.wins.new.board.slots.items _ c.wins.result _ c.in_ok-wins.was (c.wins.ensures r.0 r.1 r.2) in
-    actions_at r.0 c.args.enc.now c.wins.new.enc c.args.board.now.slots.items c.wins.new.board.slots.items r.1 won.0.at c.args.actions c.requires.actions
+    actions_at r.0 c.args.enc.now c.wins.new.enc c.args.board.now.slots.items c.wins.new.board.slots.items r.1 won.0.at c.args.sizes.actions c.requires.actions
 
 pub write_plan-requires-clause-goal : goal.write_plan-requires-clause-goal
 write_plan-requires-clause-goal c =

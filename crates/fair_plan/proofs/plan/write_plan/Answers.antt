@@ -29,7 +29,7 @@ pub list_goal-requires-clause-actions : goal.list_goal-requires-clause-actions
 list_goal-requires-clause-actions c =
     let r = c.requires.ready in
     let d0 = done r.0 (c.take_goal.new.enc, c.take_goal.new.board.slots.items) _ c.take_goal.result _ c.in_ok-take_goal.was (c.take_goal.ensures r.0 r.1) in
-    actions_same r.0 (c.args.enc.now, c.args.board.now.slots.items) (c.take_goal.new.enc, c.take_goal.new.board.slots.items) r.1 d0.0 c.args.actions c.requires.actions
+    actions_same r.0 (c.args.enc.now, c.args.board.now.slots.items) (c.take_goal.new.enc, c.take_goal.new.board.slots.items) r.1 d0.0 c.args.sizes.actions c.requires.actions
 
 pub returns-in_err-list_goal : goal.returns-in_err-list_goal
 returns-in_err-list_goal c origin there count =

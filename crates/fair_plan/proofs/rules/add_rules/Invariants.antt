@@ -4,4 +4,4 @@ use Rattle.fair_plan.specs.Rounds.{rule_for}
 use Rattle.fair_plan.proofs.rules.add_rules.Given as goal
 
 abbrev pub invariant-loop-cube : goal.invariant-loop-cube
-invariant-loop-cube l = map context_rule_of l.rules.items ≡ map context_rule_of l.fn.rules.items ++ map (rule_for l.fn.context l.fn.next l.fn.action.0) (map (λ cube. cube.items) l.yielded)
+invariant-loop-cube l = map context_rule_of l.rules.items ≡ map context_rule_of l.fn.rules.items ++ map (rule_for l.fn.turn.context l.fn.turn.next l.fn.turn.action.0) (map (λ cube. cube.items) l.yielded)

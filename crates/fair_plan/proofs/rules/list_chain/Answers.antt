@@ -13,7 +13,7 @@ list_context-requires-clause-ready c = let r = c.requires.ready in (r.0, (c.loop
 pub list_context-requires-clause-actions : goal.list_context-requires-clause-actions
 list_context-requires-clause-actions c =
     let r = c.requires.ready in
-    actions_same r.0 (c.args.enc.now, c.args.board.now.slots.items) (c.loop-stage.enc, c.loop-stage.board.slots.items) r.1 (c.loop-stage.invariant r.0 r.1).0 c.args.actions c.requires.actions
+    actions_same r.0 (c.args.enc.now, c.args.board.now.slots.items) (c.loop-stage.enc, c.loop-stage.board.slots.items) r.1 (c.loop-stage.invariant r.0 r.1).0 c.args.sizes.actions c.requires.actions
 
 pub returns-in_err-list_context : goal.returns-in_err-list_context
 returns-in_err-list_context c origin there =

@@ -13,7 +13,7 @@ list_next-requires-clause-ready c = let r = c.requires.ready in (r.0, (c.loop-ne
 pub list_next-requires-clause-actions : goal.list_next-requires-clause-actions
 list_next-requires-clause-actions c =
     let r = c.requires.ready in
-    actions_same r.0 (c.args.enc.now, c.args.board.now.slots.items) (c.loop-next.enc, c.loop-next.board.slots.items) r.1 (c.loop-next.invariant r.0 r.1).0 c.args.actions c.requires.actions
+    actions_same r.0 (c.args.enc.now, c.args.board.now.slots.items) (c.loop-next.enc, c.loop-next.board.slots.items) r.1 (c.loop-next.invariant r.0 r.1).0 c.args.sizes.actions c.requires.actions
 
 pub returns-in_err-list_next : goal.returns-in_err-list_next
 returns-in_err-list_next c origin there =

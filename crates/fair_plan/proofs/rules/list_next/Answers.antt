@@ -26,15 +26,15 @@ list_turned-requires-clause-ready c = let r = c.requires.ready in (r.0, (c.loop-
 pub list_turned-requires-clause-action : goal.list_turned-requires-clause-action
 list_turned-requires-clause-action c =
     let r = c.requires.ready in
-    let e = actions_same r.0 (c.args.enc.now, c.args.board.now.slots.items) (c.loop-a.enc, c.loop-a.board.slots.items) r.1 (c.loop-a.invariant r.0 r.1).0 c.args.actions c.requires.actions in
+    let e = actions_same r.0 (c.args.enc.now, c.args.board.now.slots.items) (c.loop-a.enc, c.loop-a.board.slots.items) r.1 (c.loop-a.invariant r.0 r.1).0 c.args.sizes.actions c.requires.actions in
     omega (arith, e)
 
 pub list_turned-requires-clause-places : goal.list_turned-requires-clause-places
 list_turned-requires-clause-places c =
     let r = c.requires.ready in
-    let e = actions_same r.0 (c.args.enc.now, c.args.board.now.slots.items) (c.loop-a.enc, c.loop-a.board.slots.items) r.1 (c.loop-a.invariant r.0 r.1).0 c.args.actions c.requires.actions in
-    let n : c.args.actions ≡ actions_of r.0 = c.requires.actions ∙ actions_are r.0 (c.args.enc.now, c.args.board.now.slots.items) r.1 in
-    let few = takers_fit r.0 c.args.count c.args.actions c.args.next r.2 n c.requires.next in
+    let e = actions_same r.0 (c.args.enc.now, c.args.board.now.slots.items) (c.loop-a.enc, c.loop-a.board.slots.items) r.1 (c.loop-a.invariant r.0 r.1).0 c.args.sizes.actions c.requires.actions in
+    let n : c.args.sizes.actions ≡ actions_of r.0 = c.requires.actions ∙ actions_are r.0 (c.args.enc.now, c.args.board.now.slots.items) r.1 in
+    let few = takers_fit r.0 c.args.sizes.count c.args.sizes.actions c.args.leap.next r.2 n c.requires.next in
     le_length r.0 (c.loop-a.enc, c.loop-a.board.slots.items) (c.loop-a.invariant r.0 r.1).0 (c.takers_at-takers.result + length c.loop-a.enc.actions) (omega (arith, e, c.takers_at-takers.ensures))
 
 pub returns-in_err-list_turned : goal.returns-in_err-list_turned
@@ -46,7 +46,7 @@ pub loop-a-preserved : goal.loop-a-preserved
 loop-a-preserved c origin there =
     let k = c.loop-a.invariant origin there in
     let more = done origin (c.list_turned.new.enc, c.list_turned.new.board.slots.items) _ c.list_turned.result _ c.in_ok-list_turned.was (c.list_turned.ensures origin k.0) in
-    (more.0, λ contexts fit are. more.1 contexts (context_is contexts c.args.count c.args.stage fit (omega (arith, c.requires.stage, c.requires.next)), context_is contexts c.args.count c.args.next fit c.requires.next) (k.1 contexts fit are))
+    (more.0, λ contexts fit are. more.1 contexts (context_is contexts c.args.sizes.count c.args.leap.stage fit (omega (arith, c.requires.stage, c.requires.next)), context_is contexts c.args.sizes.count c.args.leap.next fit c.requires.next) (k.1 contexts fit are))
 
 pub returns : goal.returns
 returns c origin there = let k = c.loop-a.invariant origin there in k

@@ -13,7 +13,7 @@ list_visit-requires-clause-ready c = let r = c.requires.ready in (r.0, (c.loop-v
 pub list_visit-requires-clause-actions : goal.list_visit-requires-clause-actions
 list_visit-requires-clause-actions c =
     let r = c.requires.ready in
-    actions_same r.0 (c.args.enc.now, c.args.board.now.slots.items) (c.loop-visit.enc, c.loop-visit.board.slots.items) r.1 (c.loop-visit.invariant r.0 r.1).0 c.args.actions c.requires.actions
+    actions_same r.0 (c.args.enc.now, c.args.board.now.slots.items) (c.loop-visit.enc, c.loop-visit.board.slots.items) r.1 (c.loop-visit.invariant r.0 r.1).0 c.args.sizes.actions c.requires.actions
 
 pub returns-in_err-list_visit : goal.returns-in_err-list_visit
 returns-in_err-list_visit c origin there =

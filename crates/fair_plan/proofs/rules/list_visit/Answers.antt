@@ -18,24 +18,24 @@ list_taken-requires-clause-ready c = let r = c.requires.ready in (r.0, (c.loop-a
 pub list_taken-requires-clause-action : goal.list_taken-requires-clause-action
 list_taken-requires-clause-action c =
     let r = c.requires.ready in
-    let e = actions_same r.0 (c.args.enc.now, c.args.board.now.slots.items) (c.loop-a.enc, c.loop-a.board.slots.items) r.1 (c.loop-a.invariant r.0 r.1).0 c.args.actions c.requires.actions in
+    let e = actions_same r.0 (c.args.enc.now, c.args.board.now.slots.items) (c.loop-a.enc, c.loop-a.board.slots.items) r.1 (c.loop-a.invariant r.0 r.1).0 c.args.sizes.actions c.requires.actions in
     omega (arith, e)
 
 pub list_taken-requires-clause-places : goal.list_taken-requires-clause-places
 list_taken-requires-clause-places c =
     let r = c.requires.ready in
-    let e = actions_same r.0 (c.args.enc.now, c.args.board.now.slots.items) (c.loop-a.enc, c.loop-a.board.slots.items) r.1 (c.loop-a.invariant r.0 r.1).0 c.args.actions c.requires.actions in
-    let n : c.args.actions ≡ actions_of r.0 = c.requires.actions ∙ actions_are r.0 (c.args.enc.now, c.args.board.now.slots.items) r.1 in
-    let few = takers_fit r.0 c.args.count c.args.actions c.args.visit r.2 n (omega (arith, c.requires.visit)) in
-    le_length r.0 (c.loop-a.enc, c.loop-a.board.slots.items) (c.loop-a.invariant r.0 r.1).0 (c.takers_at-takers.result + length c.loop-a.enc.actions) (omega (arith, e, c.takers_at-takers.ensures))
+    let e = actions_same r.0 (c.args.enc.now, c.args.board.now.slots.items) (c.loop-a.enc, c.loop-a.board.slots.items) r.1 (c.loop-a.invariant r.0 r.1).0 c.args.sizes.actions c.requires.actions in
+    let n : c.args.sizes.actions ≡ actions_of r.0 = c.requires.actions ∙ actions_are r.0 (c.args.enc.now, c.args.board.now.slots.items) r.1 in
+    let few = takers_fit r.0 c.args.sizes.count c.args.sizes.actions c.args.visit r.2 n (omega (arith, c.requires.visit)) in
+    le_length r.0 (c.loop-a.enc, c.loop-a.board.slots.items) (c.loop-a.invariant r.0 r.1).0 (c.takers_at.result + length c.loop-a.enc.actions) (omega (arith, e, c.takers_at.ensures))
 
 pub list_taken-requires-clause-met : goal.list_taken-requires-clause-met
 list_taken-requires-clause-met c =
     let r = c.requires.ready in
-    let n : c.args.actions ≡ actions_of r.0 = c.requires.actions ∙ actions_are r.0 (c.args.enc.now, c.args.board.now.slots.items) r.1 in
+    let n : c.args.sizes.actions ≡ actions_of r.0 = c.requires.actions ∙ actions_are r.0 (c.args.enc.now, c.args.board.now.slots.items) r.1 in
     let is = r.2 in
     let w = met_in r.0 c.args.visit (omega (arith, is, c.requires.visit)) in
-    in_at r.0 c.loop-a.enc c.loop-a.board.slots.items (c.loop-a.invariant r.0 r.1).0.at c.met_at-met.result (omega (arith, c.met_at-met.ensures, is))
+    in_at r.0 c.loop-a.enc c.loop-a.board.slots.items (c.loop-a.invariant r.0 r.1).0.at c.met_at.result (omega (arith, c.met_at.ensures, is))
 
 pub returns-in_err-list_taken : goal.returns-in_err-list_taken
 returns-in_err-list_taken c origin there =

@@ -15,18 +15,18 @@ can origin x there k l = ((low origin 7 (omega arith), in_start origin x there k
 pub make-requires : goal.make-requires
 make-requires c =
     let r = c.requires.ready in
-    let n : c.args.actions ≡ actions_of r.0 = c.requires.actions ∙ actions_are r.0 (c.args.enc.now, c.args.board.now.slots.items) r.1 in
+    let n : c.args.sizes.actions ≡ actions_of r.0 = c.requires.actions ∙ actions_are r.0 (c.args.enc.now, c.args.board.now.slots.items) r.1 in
     let is = r.2 in
-    let w = win_in r.0 c.args.stage (omega (arith, is, c.requires.stage, c.requires.next)) in
+    let w = win_in r.0 c.args.leap.stage (omega (arith, is, c.requires.stage, c.requires.next)) in
     let win = in_at r.0 c.args.enc.now c.args.board.now.slots.items r.1.at c.win_at.result (omega (arith, c.win_at.ensures)) in
     (r.0, r.1, can r.0 (c.args.enc.now, c.args.board.now.slots.items) r.1 c.win_at.result win)
 
 pub returns-in_err-make : goal.returns-in_err-make
 returns-in_err-make c origin there =
     let r = c.requires.ready in
-    let n : c.args.actions ≡ actions_of r.0 = c.requires.actions ∙ actions_are r.0 (c.args.enc.now, c.args.board.now.slots.items) r.1 in
+    let n : c.args.sizes.actions ≡ actions_of r.0 = c.requires.actions ∙ actions_are r.0 (c.args.enc.now, c.args.board.now.slots.items) r.1 in
     let is = r.2 in
-    let w = win_in r.0 c.args.stage (omega (arith, is, c.requires.stage, c.requires.next)) in
+    let w = win_in r.0 c.args.leap.stage (omega (arith, is, c.requires.stage, c.requires.next)) in
     let win = in_at r.0 c.args.enc.now c.args.board.now.slots.items r.1.at c.win_at.result (omega (arith, c.win_at.ensures)) in
     passed origin.start c.make.new.enc c.make.new.board.slots.items _ _ c.make.result c.from_residual.result _ c.in_err-make.was (err_from_is_err_and c.from_residual.result c.from_residual.ensures.1)
     (c.make.ensures origin there (can origin (c.args.enc.now, c.args.board.now.slots.items) there c.win_at.result win))
@@ -34,9 +34,9 @@ returns-in_err-make c origin there =
 pub loop-i-init : goal.loop-i-init
 loop-i-init c origin there =
     let r = c.requires.ready in
-    let n : c.args.actions ≡ actions_of r.0 = c.requires.actions ∙ actions_are r.0 (c.args.enc.now, c.args.board.now.slots.items) r.1 in
+    let n : c.args.sizes.actions ≡ actions_of r.0 = c.requires.actions ∙ actions_are r.0 (c.args.enc.now, c.args.board.now.slots.items) r.1 in
     let is = r.2 in
-    let w = win_in r.0 c.args.stage (omega (arith, is, c.requires.stage, c.requires.next)) in
+    let w = win_in r.0 c.args.leap.stage (omega (arith, is, c.requires.stage, c.requires.next)) in
     let win = in_at r.0 c.args.enc.now c.args.board.now.slots.items r.1.at c.win_at.result (omega (arith, c.win_at.ensures)) in
     (done origin (c.make.new.enc, c.make.new.board.slots.items) _ c.make.result _ c.in_ok-make.was (c.make.ensures origin there (can origin (c.args.enc.now, c.args.board.now.slots.items) there c.win_at.result win))).0
 
@@ -46,7 +46,7 @@ meet_rest-requires-clause-ready c = let r = c.requires.ready in (r.0, c.loop-i.i
 pub meet_rest-requires-clause-place : goal.meet_rest-requires-clause-place
 meet_rest-requires-clause-place c =
     let r = c.requires.ready in
-    let n : c.args.actions ≡ actions_of r.0 = c.requires.actions ∙ actions_are r.0 (c.args.enc.now, c.args.board.now.slots.items) r.1 in
+    let n : c.args.sizes.actions ≡ actions_of r.0 = c.requires.actions ∙ actions_are r.0 (c.args.enc.now, c.args.board.now.slots.items) r.1 in
     let is = r.2 in
     let w = met_in r.0 c.loop-i.i (omega (arith, is, c.requires.next)) in
     in_at r.0 c.loop-i.enc c.loop-i.board.slots.items (c.loop-i.invariant r.0 r.1).at c.met_at.result (omega (arith, c.met_at.ensures, is))
@@ -66,9 +66,9 @@ drop_rest-requires-clause-ready c = let r = c.requires.ready in (r.0, c.loop-i.i
 pub drop_rest-requires-clause-place : goal.drop_rest-requires-clause-place
 drop_rest-requires-clause-place c =
     let r = c.requires.ready in
-    let n : c.args.actions ≡ actions_of r.0 = c.requires.actions ∙ actions_are r.0 (c.args.enc.now, c.args.board.now.slots.items) r.1 in
+    let n : c.args.sizes.actions ≡ actions_of r.0 = c.requires.actions ∙ actions_are r.0 (c.args.enc.now, c.args.board.now.slots.items) r.1 in
     let is = r.2 in
-    let w = met_in r.0 c.args.next (omega (arith, is, c.requires.next)) in
+    let w = met_in r.0 c.args.leap.next (omega (arith, is, c.requires.next)) in
     in_at r.0 c.loop-i.enc c.loop-i.board.slots.items (c.loop-i.invariant r.0 r.1).at c.met_at-2.result (omega (arith, c.met_at-2.ensures, is))
 
 pub returns : goal.returns

@@ -1,4 +1,4 @@
-use Rattle.std.proofs.Common.{arith, ◌+◌}
+use Rattle.std.proofs.Common.{arith}
 use Rattle.std.proofs.lemmas.Result.{err_from_is_err_and}
 use Rattle.slot_board.proofs.BoardSlots.{passed}
 use Rattle.fair_plan.specs.Boards.{Scene}
@@ -26,7 +26,7 @@ pub put_condition-requires-2-clause-place : goal.put_condition-requires-2-clause
 put_condition-requires-2-clause-place c =
     let r = c.requires.ready in
     let put = done r.0 (c.put_condition.new.enc, c.put_condition.new.board.slots.items) _ c.put_condition.result _ c.in_ok-put_condition.was (c.put_condition.ensures r.0 r.1) in
-    in_at r.0 c.put_condition.new.enc c.put_condition.new.board.slots.items put.0.at c.args.met (in_start r.0 (c.args.enc.now, c.args.board.now.slots.items) r.1 c.args.met c.requires.place)
+    in_at r.0 c.put_condition.new.enc c.put_condition.new.board.slots.items put.0.at c.args.at.met (in_start r.0 (c.args.enc.now, c.args.board.now.slots.items) r.1 c.args.at.met c.requires.place)
 
 pub put_condition-requires-2-clause-cond : goal.put_condition-requires-2-clause-cond
 put_condition-requires-2-clause-cond c =
@@ -44,7 +44,7 @@ make-requires c =
     let r = c.requires.ready in
     let put = done r.0 (c.put_condition.new.enc, c.put_condition.new.board.slots.items) _ c.put_condition.result _ c.in_ok-put_condition.was (c.put_condition.ensures r.0 r.1) in
     let more = done r.0 (c.put_condition-2.new.enc, c.put_condition-2.new.board.slots.items) _ c.put_condition-2.result _ c.in_ok-put_condition-2.was (c.put_condition-2.ensures r.0 put.0) in
-    (r.0, more.0, aim_can r.0 c.args.met (c.args.win + 1) (in_start r.0 (c.args.enc.now, c.args.board.now.slots.items) r.1 c.args.met c.requires.place) c.requires.later)
+    (r.0, more.0, aim_can r.0 c.args.at.met c.args.at.next (in_start r.0 (c.args.enc.now, c.args.board.now.slots.items) r.1 c.args.at.met c.requires.place) c.requires.later)
 
 pub returns : goal.returns
 returns c origin there =
@@ -52,8 +52,8 @@ returns c origin there =
     let m : Scene = (c.put_condition.new.enc, c.put_condition.new.board.slots.items) in
     let n : Scene = (c.put_condition-2.new.enc, c.put_condition-2.new.board.slots.items) in
     let y : Scene = (c.make.new.enc, c.make.new.board.slots.items) in
-    let within = in_start origin x there c.args.met c.requires.place in
+    let within = in_start origin x there c.args.at.met c.requires.place in
     let put = done origin m _ c.put_condition.result _ c.in_ok-put_condition.was (c.put_condition.ensures origin there) in
     let more = done origin n _ c.put_condition-2.result _ c.in_ok-put_condition-2.was (c.put_condition-2.ensures origin put.0) in
-    leaves_with origin y _ _ c.make.result (λ now after. aims_at origin x m n y c.args.stage.now (c.args.win + 1) c.args.met within c.requires.later (omega (arith, c.requires.high)) put.1 more.1 after)
-    (c.make.ensures origin more.0 (aim_can origin c.args.met (c.args.win + 1) within c.requires.later))
+    leaves_with origin y _ _ c.make.result (λ now after. aims_at origin x m n y c.args.stage.now c.args.at.next c.args.at.met within c.requires.later c.requires.high put.1 more.1 after)
+    (c.make.ensures origin more.0 (aim_can origin c.args.at.met c.args.at.next within c.requires.later))

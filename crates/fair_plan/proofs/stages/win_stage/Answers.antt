@@ -18,7 +18,7 @@ find_largest-requires-clause-ready c =
     let x : Scene = (c.args.enc.now, c.args.board.now.slots.items) in
     let m : Scene = (c.aim_at.new.enc, c.aim_at.new.board.slots.items) in
     let aim = done r.0 m _ c.aim_at.result _ c.in_ok-aim_at.was (c.aim_at.ensures r.0 r.1) in
-    (r.0, stage_asks (stage_sets c.args.stage.now) (states_in x (c.args.win + 1)), aim.0, stage_begins r.0 (stage_sets c.args.stage.now) x m (c.args.win + 1) c.args.met aim.1)
+    (r.0, stage_asks (stage_sets c.args.stage.now) (states_in x c.args.at.next), aim.0, stage_begins r.0 (stage_sets c.args.stage.now) x m c.args.at.next c.args.at.met aim.1)
 
 pub find_largest-requires-clause-actions : goal.find_largest-requires-clause-actions
 find_largest-requires-clause-actions c =
@@ -35,8 +35,8 @@ find_largest-requires-clause-targets c =
     let r = c.requires.ready in
     let m : Scene = (c.aim_at.new.enc, c.aim_at.new.board.slots.items) in
     let aim = done r.0 m _ c.aim_at.result _ c.in_ok-aim_at.was (c.aim_at.ensures r.0 r.1) in
-    let within = in_start r.0 (c.args.enc.now, c.args.board.now.slots.items) r.1 c.args.met c.requires.place in
-    le_length r.0 m aim.0 (c.args.met + 1) (omega arith)
+    let within = in_start r.0 (c.args.enc.now, c.args.board.now.slots.items) r.1 c.args.at.met c.requires.place in
+    le_length r.0 m aim.0 (c.args.at.met + 1) (omega arith)
 
 pub returns-in_err-find_largest : goal.returns-in_err-find_largest
 returns-in_err-find_largest c origin keep rest there won =
@@ -44,7 +44,7 @@ returns-in_err-find_largest c origin keep rest there won =
     let m : Scene = (c.aim_at.new.enc, c.aim_at.new.board.slots.items) in
     let aim = done origin m _ c.aim_at.result _ c.in_ok-aim_at.was (c.aim_at.ensures origin there) in
     passed origin.start c.find_largest.new.enc c.find_largest.new.board.slots.items _ _ c.find_largest.result c.from_residual-in_err-find_largest.result _ c.in_err-find_largest.was (err_from_is_err_and c.from_residual-in_err-find_largest.result c.from_residual-in_err-find_largest.ensures.1)
-    (c.find_largest.ensures origin (stage_asks (stage_sets c.args.stage.now) (states_in x (c.args.win + 1))) aim.0 (stage_begins origin (stage_sets c.args.stage.now) x m (c.args.win + 1) c.args.met aim.1))
+    (c.find_largest.ensures origin (stage_asks (stage_sets c.args.stage.now) (states_in x c.args.at.next)) aim.0 (stage_begins origin (stage_sets c.args.stage.now) x m c.args.at.next c.args.at.met aim.1))
 
 pub make-requires : goal.make-requires
 make-requires c =
@@ -53,9 +53,9 @@ make-requires c =
     let m : Scene = (c.aim_at.new.enc, c.aim_at.new.board.slots.items) in
     let aim = done r.0 m _ c.aim_at.result _ c.in_ok-aim_at.was (c.aim_at.ensures r.0 r.1) in
     let found = done r.0 (c.find_largest.new.enc, c.find_largest.new.board.slots.items) _ c.find_largest.result _ c.in_ok-find_largest.was
-    (c.find_largest.ensures r.0 (stage_asks (stage_sets c.args.stage.now) (states_in x (c.args.win + 1))) aim.0 (stage_begins r.0 (stage_sets c.args.stage.now) x m (c.args.win + 1) c.args.met aim.1)) in
-    let within = in_start r.0 x r.1 c.args.met c.requires.place in
-    (r.0, found.0, kept_can r.0 c.args.win (omega (arith, c.requires.later)))
+    (c.find_largest.ensures r.0 (stage_asks (stage_sets c.args.stage.now) (states_in x c.args.at.next)) aim.0 (stage_begins r.0 (stage_sets c.args.stage.now) x m c.args.at.next c.args.at.met aim.1)) in
+    let within = in_start r.0 x r.1 c.args.at.met c.requires.place in
+    (r.0, found.0, kept_can r.0 c.args.at.win (omega (arith, c.requires.later, c.requires.own)))
 
 pub returns : goal.returns
 returns c origin keep rest there won =
@@ -65,8 +65,8 @@ returns c origin keep rest there won =
     let y : Scene = (c.make.new.enc, c.make.new.board.slots.items) in
     let aim = done origin m _ c.aim_at.result _ c.in_ok-aim_at.was (c.aim_at.ensures origin there) in
     let found = done origin p _ c.find_largest.result _ c.in_ok-find_largest.was
-    (c.find_largest.ensures origin (stage_asks (stage_sets c.args.stage.now) (states_in x (c.args.win + 1))) aim.0 (stage_begins origin (stage_sets c.args.stage.now) x m (c.args.win + 1) c.args.met aim.1)) in
-    let met = in_start origin x there c.args.met c.requires.place in
-    let within = (let l : c.args.win < origin.start.places = omega (arith, c.requires.later) in l) in
-    leaves_with origin y _ _ c.make.result (λ now after. stage_won origin (stage_sets c.args.stage.now) keep rest x p y (c.args.win + 1) c.args.win within won found.1 after)
-    (c.make.ensures origin found.0 (kept_can origin c.args.win within))
+    (c.find_largest.ensures origin (stage_asks (stage_sets c.args.stage.now) (states_in x c.args.at.next)) aim.0 (stage_begins origin (stage_sets c.args.stage.now) x m c.args.at.next c.args.at.met aim.1)) in
+    let met = in_start origin x there c.args.at.met c.requires.place in
+    let within = (let l : c.args.at.win < origin.start.places = omega (arith, c.requires.later, c.requires.own) in l) in
+    leaves_with origin y _ _ c.make.result (λ now after. stage_won origin (stage_sets c.args.stage.now) keep rest x p y c.args.at.next c.args.at.win within won found.1 after)
+    (c.make.ensures origin found.0 (kept_can origin c.args.at.win within))

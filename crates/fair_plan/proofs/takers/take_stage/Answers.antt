@@ -35,7 +35,7 @@ pub pair_within-requires-clause-place : goal.pair_within-requires-clause-place
 pair_within-requires-clause-place c =
     let r = c.requires.ready in
     let d0 = done r.0 (c.put_condition.new.enc, c.put_condition.new.board.slots.items) _ c.put_condition.result _ c.in_ok-put_condition.was (c.put_condition.ensures r.0 r.1) in
-    place_still r.0 (c.args.enc.now, c.args.board.now.slots.items) (c.put_condition.new.enc, c.put_condition.new.board.slots.items) r.1 d0.0 (c.args.win) c.requires.win
+    place_still r.0 (c.args.enc.now, c.args.board.now.slots.items) (c.put_condition.new.enc, c.put_condition.new.board.slots.items) r.1 d0.0 c.args.at.win c.requires.win
 
 pub returns-in_err-pair_within : goal.returns-in_err-pair_within
 returns-in_err-pair_within c origin there =
@@ -62,14 +62,14 @@ climb-requires-clause-places c =
     let r = c.requires.ready in
     let d0 = done r.0 (c.put_condition.new.enc, c.put_condition.new.board.slots.items) _ c.put_condition.result _ c.in_ok-put_condition.was (c.put_condition.ensures r.0 r.1) in
     let d1 = done r.0 (c.pair_within.new.enc, c.pair_within.new.board.slots.items) _ c.pair_within.result _ c.in_ok-pair_within.was (c.pair_within.ensures r.0 d0.0) in
-    places_still r.0 (c.args.enc.now, c.args.board.now.slots.items) (c.pair_within.new.enc, c.pair_within.new.board.slots.items) r.1 d1.0 (c.args.takers + c.args.actions) c.requires.places
+    places_still r.0 (c.args.enc.now, c.args.board.now.slots.items) (c.pair_within.new.enc, c.pair_within.new.board.slots.items) r.1 d1.0 (c.args.at.takers + c.args.actions) c.requires.places
 
 pub climb-requires-clause-target : goal.climb-requires-clause-target
 climb-requires-clause-target c =
     let r = c.requires.ready in
     let d0 = done r.0 (c.put_condition.new.enc, c.put_condition.new.board.slots.items) _ c.put_condition.result _ c.in_ok-put_condition.was (c.put_condition.ensures r.0 r.1) in
     let d1 = done r.0 (c.pair_within.new.enc, c.pair_within.new.board.slots.items) _ c.pair_within.result _ c.in_ok-pair_within.was (c.pair_within.ensures r.0 d0.0) in
-    place_still r.0 (c.args.enc.now, c.args.board.now.slots.items) (c.pair_within.new.enc, c.pair_within.new.board.slots.items) r.1 d1.0 (c.args.met) c.requires.met
+    place_still r.0 (c.args.enc.now, c.args.board.now.slots.items) (c.pair_within.new.enc, c.pair_within.new.board.slots.items) r.1 d1.0 c.args.at.met c.requires.met
 
 pub returns : goal.returns
 returns c origin there =
