@@ -24,6 +24,21 @@ use slot_board::{Board, Operation};
 use std::alloc::Global;
 use task_core::{ActionId, Class, Lit};
 
+/// What the sets of a certificate are judged by: the class of the plans, and how many actions the task
+/// has.
+#[derive(Clone, Copy)]
+pub(crate) struct Asked {
+    pub(crate) class: Class,
+    pub(crate) actions: u32,
+}
+
+/// An action by which plans of a class may leave a set.
+#[derive(Clone, Copy)]
+struct Way {
+    class: Class,
+    action: ActionId,
+}
+
 /// Whether two literals cannot both be true.
 fn is_opposite(lit: Lit, other: Lit) -> bool
     ensures { result ≡ is_opposite lit other }
@@ -208,25 +223,19 @@ fn some_matches_left(
 }
 
 /// Makes the states from which an action is a way out of a set, wherever they lie.
-fn make_way_out(
-    alloc: Global,
-    enc: &mut Enc,
-    board: &mut Board,
-    class: Class,
-    a: ActionId,
-) -> Result<(), SetErr>
+fn make_way_out(alloc: Global, enc: &mut Enc, board: &mut Board, way: Way) -> Result<(), SetErr>
     requires ready { (start : Start) × (f : Function) × (set : CubeSet)
         × HasSet start enc.old board.old.slots.items f (states_in start.task set)
-        × LeaveFits start class f set }
-    requires action { a.0 < length enc.old.actions }
+        × LeaveFits start way.class f set }
+    requires action { way.action.0 < length enc.old.actions }
     ensures { (start : Start) (f : Function) (set : CubeSet)
         → HasSet start enc.old board.old.slots.items f (states_in start.task set)
-        → LeaveFits start class f set
+        → LeaveFits start way.class f set
         → Left start enc.new board.new.slots.items (HasLeft start enc.new board.new.slots.items
         f (states_in start.task set)
-        (way_out_set class start.task f (states_in start.task set) a.0)) result }
+        (way_out_set way.class start.task f (states_in start.task set) way.action.0)) result }
 {
-    let steps = way_out_steps(alloc, class, enc.exec(a), a)?;
+    let steps = way_out_steps(alloc, way.class, enc.exec(way.action), way.action)?;
     make_all(enc, board, &steps)
 }
 
@@ -235,23 +244,22 @@ fn is_way_out(
     alloc: Global,
     enc: &mut Enc,
     board: &mut Board,
-    class: Class,
+    way: Way,
     set: &StateSet,
-    a: ActionId,
 ) -> Result<bool, SetErr>
     requires ready { (start : Start) × (f : Function)
         × HasSet start enc.old board.old.slots.items f (states_in start.task (cubes_in set.now))
-        × LeaveFits start class f (cubes_in set.now) }
-    requires action { a.0 < length enc.old.actions }
+        × LeaveFits start way.class f (cubes_in set.now) }
+    requires action { way.action.0 < length enc.old.actions }
     ensures { (start : Start) (f : Function)
         → HasSet start enc.old board.old.slots.items f (states_in start.task (cubes_in set.now))
-        → LeaveFits start class f (cubes_in set.now)
+        → LeaveFits start way.class f (cubes_in set.now)
         → Ends start enc.new board.new.slots.items
         (λ found. HasSet start enc.new board.new.slots.items f
         (states_in start.task (cubes_in set.now))
-        × (found ≡ leaves_by class start.task f (cubes_in set.now) a.0)) result }
+        × (found ≡ leaves_by way.class start.task f (cubes_in set.now) way.action.0)) result }
 {
-    make_way_out(alloc, enc, board, class, a)?;
+    make_way_out(alloc, enc, board, way)?;
     some_matches_left(alloc, enc, board, set)
 }
 
@@ -260,24 +268,27 @@ fn some_is_way_out(
     alloc: Global,
     enc: &mut Enc,
     board: &mut Board,
-    class: Class,
+    asked: Asked,
     set: &StateSet,
-    actions: u32,
 ) -> Result<bool, SetErr>
     requires ready { (start : Start) × (f : Function)
         × HasSet start enc.old board.old.slots.items f (states_in start.task (cubes_in set.now))
-        × LeaveFits start class f (cubes_in set.now) }
-    requires actions { actions ≡ length enc.old.actions }
+        × LeaveFits start asked.class f (cubes_in set.now) }
+    requires actions { asked.actions ≡ length enc.old.actions }
     ensures { (start : Start) (f : Function)
         → HasSet start enc.old board.old.slots.items f (states_in start.task (cubes_in set.now))
-        → LeaveFits start class f (cubes_in set.now)
+        → LeaveFits start asked.class f (cubes_in set.now)
         → Ends start enc.new board.new.slots.items
         (λ found. HasSet start enc.new board.new.slots.items f
         (states_in start.task (cubes_in set.now))
-        × (found ≡ is_left class start.task f (cubes_in set.now))) result }
+        × (found ≡ is_left asked.class start.task f (cubes_in set.now))) result }
 {
-    for a in 0..actions {
-        if is_way_out(alloc, enc, board, class, set, ActionId(a))? {
+    for a in 0..asked.actions {
+        let way = Way {
+            class: asked.class,
+            action: ActionId(a),
+        };
+        if is_way_out(alloc, enc, board, way, set)? {
             return Ok(true);
         }
     }
@@ -289,22 +300,21 @@ fn look_at(
     alloc: Global,
     enc: &mut Enc,
     board: &mut Board,
-    class: Class,
+    asked: Asked,
     set: &StateSet,
-    actions: u32,
 ) -> Result<bool, SetErr>
     requires ready { (start : Start) × (f : Function)
         × HasUnion start enc.old board.old.slots.items f
-        × LeaveFits start class f (cubes_in set.now) }
-    requires actions { actions ≡ length enc.old.actions }
+        × LeaveFits start asked.class f (cubes_in set.now) }
+    requires actions { asked.actions ≡ length enc.old.actions }
     ensures { (start : Start) (f : Function)
         → HasUnion start enc.old board.old.slots.items f
-        → LeaveFits start class f (cubes_in set.now)
+        → LeaveFits start asked.class f (cubes_in set.now)
         → Ends start enc.new board.new.slots.items (IsLookedAt start enc.new
-        board.new.slots.items class f (cubes_in set.now)) result }
+        board.new.slots.items asked.class f (cubes_in set.now)) result }
 {
     make_set(alloc, enc, board, set)?;
-    if some_is_way_out(alloc, enc, board, class, set, actions)? {
+    if some_is_way_out(alloc, enc, board, asked, set)? {
         return Ok(true);
     }
     join_set(enc, board)?;
@@ -316,23 +326,22 @@ pub(crate) fn some_set_is_left(
     alloc: Global,
     enc: &mut Enc,
     board: &mut Board,
-    class: Class,
+    asked: Asked,
     sets: &[StateSet],
-    actions: u32,
 ) -> Result<bool, SetErr>
     requires ready { (start : Start) × (f : Function)
         × HasUnion start enc.old board.old.slots.items f
-        × SetsFit start class f (map cubes_in sets.now) }
-    requires actions { actions ≡ length enc.old.actions }
+        × SetsFit start asked.class f (map cubes_in sets.now) }
+    requires actions { asked.actions ≡ length enc.old.actions }
     ensures { (start : Start) (f : Function)
         → HasUnion start enc.old board.old.slots.items f
-        → SetsFit start class f (map cubes_in sets.now)
+        → SetsFit start asked.class f (map cubes_in sets.now)
         → Ends start enc.new board.new.slots.items
         (λ found. At start enc.new board.new.slots.items
-        × (found ≡ some_is_left class start.task f (map cubes_in sets.now))) result }
+        × (found ≡ some_is_left asked.class start.task f (map cubes_in sets.now))) result }
 {
     for set in sets {
-        if look_at(alloc, enc, board, class, set, actions)? {
+        if look_at(alloc, enc, board, asked, set)? {
             return Ok(true);
         }
     }

@@ -11,19 +11,20 @@ ghost use Rattle.encode_task.specs.TaskSets.{initial_set};
 ghost use Rattle.plan_certs.specs.Certificates.{CubeSet};
 ghost use Rattle.slot_board.specs.Board.{At, Ends, Left, Start};
 ghost use Rattle.task_core.specs.Tasks.{fluent_count, system_of};
+ghost use Rattle.task_core.specs.declared.classes.Class.{Class};
 ghost use Rattle.task_core.specs.declared.tasks.Task.{Task as TaskOf};
 ghost use Rattle.refute_cert.specs.Judgements.{IsVerdict, judged_actions, judgement};
 ghost use Rattle.refute_cert.specs.Sets.{goal_states_set, meets, states_of};
 ghost use Rattle.refute_cert.specs.Sizes.{HasUnion, BoundsJudgedSets, JudgeFits};
 
-use crate::judging::{clear_union, has_common, join_sets, some_set_is_left};
+use crate::judging::{Asked, clear_union, has_common, join_sets, some_set_is_left};
 use crate::programs::PLACES;
 use dd_sets::SetErr;
 use encode_task::Enc;
 use plan_certs::{Certificate, StateSet};
 use slot_board::Board;
 use std::alloc::Global;
-use task_core::{Class, Task};
+use task_core::Task;
 
 /// What is wrong with a certificate.
 #[derive(Clone, Copy, Debug, PartialEq, Eq)]
@@ -50,21 +51,20 @@ fn judge_actions(
     alloc: Global,
     enc: &mut Enc,
     board: &mut Board,
-    class: Class,
+    asked: Asked,
     sets: &[StateSet],
-    actions: u32,
 ) -> Result<Judged, SetErr>
     requires ready { (start : Start) × At start enc.old board.old.slots.items
-        × JudgeFits start class (map cubes_in sets.now) }
-    requires actions { actions ≡ length enc.old.actions }
+        × JudgeFits start asked.class (map cubes_in sets.now) }
+    requires actions { asked.actions ≡ length enc.old.actions }
     ensures { (start : Start) → At start enc.old board.old.slots.items
-        → JudgeFits start class (map cubes_in sets.now)
+        → JudgeFits start asked.class (map cubes_in sets.now)
         → Ends start enc.new board.new.slots.items
         (λ judged. At start enc.new board.new.slots.items
-        × (judged ≡ judged_actions class start.task (map cubes_in sets.now))) result }
+        × (judged ≡ judged_actions asked.class start.task (map cubes_in sets.now))) result }
 {
     clear_union(enc, board)?;
-    if some_set_is_left(alloc, enc, board, class, sets, actions)? {
+    if some_set_is_left(alloc, enc, board, asked, sets)? {
         Ok(Judged::Rejected(Flaw::Action))
     } else {
         Ok(Judged::Accepted)
@@ -129,19 +129,18 @@ fn judge(
     alloc: Global,
     enc: &mut Enc,
     board: &mut Board,
-    class: Class,
+    asked: Asked,
     sets: &[StateSet],
-    actions: u32,
 ) -> Result<Judged, SetErr>
     requires ready { (start : Start) × At start enc.old board.old.slots.items
-        × JudgeFits start class (map cubes_in sets.now) }
+        × JudgeFits start asked.class (map cubes_in sets.now) }
     requires goal { IsSome enc.old.goal }
-    requires actions { actions ≡ length enc.old.actions }
+    requires actions { asked.actions ≡ length enc.old.actions }
     ensures { (start : Start) → At start enc.old board.old.slots.items
-        → JudgeFits start class (map cubes_in sets.now)
+        → JudgeFits start asked.class (map cubes_in sets.now)
         → Ends start enc.new board.new.slots.items
         (λ judged. At start enc.new board.new.slots.items
-        × (judged ≡ judgement class start.task (map cubes_in sets.now))) result }
+        × (judged ≡ judgement asked.class start.task (map cubes_in sets.now))) result }
 {
     join_all(alloc, enc, board, sets)?;
     if !holds_initial(alloc, enc, board)? {
@@ -150,7 +149,7 @@ fn judge(
     if holds_goal(alloc, enc, board)? {
         return Ok(Judged::Rejected(Flaw::Goal));
     }
-    judge_actions(alloc, enc, board, class, sets, actions)
+    judge_actions(alloc, enc, board, asked, sets)
 }
 
 /// The verdict on a certificate: it is accepted, or what is the first thing that is wrong with it, in
@@ -184,14 +183,11 @@ pub fn refute(
     ensures made { (task : TaskOf) → MadeOf task enc.old → MadeOf task enc.new }
 {
     let mut board = Board::new(alloc, enc, PLACES)?;
-    let judged = judge(
-        alloc,
-        enc,
-        &mut board,
-        certificate.class,
-        &certificate.sets,
-        task.actions.len() as u32,
-    );
+    let asked = Asked {
+        class: certificate.class,
+        actions: task.actions.len() as u32,
+    };
+    let judged = judge(alloc, enc, &mut board, asked, &certificate.sets);
     board.close(enc);
     judged
 }

@@ -20,11 +20,11 @@ some_matches_left-requires c =
       _,
       _,
       went r.0 c.make_way_out.new.enc c.make_way_out.new.board.slots.items _ c.make_way_out.result _ c.in_ok-make_way_out.was (c.make_way_out.ensures r.0 r.1 _ r.2 r.3),
-      way_cubes r.0 c.args.class r.1 _ c.args.a.0 r.3 (action_within r.0 c.args.enc.now c.args.board.now.slots.items c.args.a.0 r.2.by_union.at c.requires.action),
+      way_cubes r.0 c.args.way.class r.1 _ c.args.way.action.0 r.3 (action_within r.0 c.args.enc.now c.args.board.now.slots.items c.args.way.action.0 r.2.by_union.at c.requires.action),
     )
 
 pub returns : goal.returns
 returns c start f has fits =
     let left = went start c.make_way_out.new.enc c.make_way_out.new.board.slots.items _ c.make_way_out.result _ c.in_ok-make_way_out.was (c.make_way_out.ensures start f _ has fits) in
     ends_with start c.some_matches_left.new.enc c.some_matches_left.new.board.slots.items _ _ c.some_matches_left.result (λ found now. (now.0.by_set, now.1))
-    (c.some_matches_left.ensures start f _ _ left (way_cubes start c.args.class f _ c.args.a.0 fits (action_within start c.args.enc.now c.args.board.now.slots.items c.args.a.0 has.by_union.at c.requires.action)))
+    (c.some_matches_left.ensures start f _ _ left (way_cubes start c.args.way.class f _ c.args.way.action.0 fits (action_within start c.args.enc.now c.args.board.now.slots.items c.args.way.action.0 has.by_union.at c.requires.action)))

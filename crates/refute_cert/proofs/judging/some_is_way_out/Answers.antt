@@ -32,17 +32,17 @@ returns-then-branch c start f has fits =
     let count : length c.args.enc.now.actions ≡ action_count start.task = (made_at start c.args.enc.now c.args.board.now.slots.items has.by_union.at).actions in
     let within : c.loop-a.a < action_count start.task = omega (arith, c.requires.actions, c.loop-a-test.true) in
     let now = found_of start c.is_way_out.new.enc c.is_way_out.new.board.slots.items _ c.is_way_out.result _ c.in_ok-is_way_out.was (c.is_way_out.ensures start f (c.loop-a.invariant start f has fits).0 fits) in
-    (now.0, sym (list_any-from (leaves_by c.args.class start.task f (set_of c.args.set.now)) (range_with_len 0 (action_count start.task)) c.loop-a.a (Contains-range_with_len (action_count start.task) c.loop-a.a within) (sym now.1 ∙ c.if-branch.true)))
+    (now.0, sym (list_any-from (leaves_by c.args.asked.class start.task f (set_of c.args.set.now)) (range_with_len 0 (action_count start.task)) c.loop-a.a (Contains-range_with_len (action_count start.task) c.loop-a.a within) (sym now.1 ∙ c.if-branch.true)))
 
 pub loop-a-preserved : goal.loop-a-preserved
 loop-a-preserved c start f has fits =
     let half = c.loop-a.invariant start f has fits in
     let now = found_of start c.is_way_out.new.enc c.is_way_out.new.board.slots.items _ c.is_way_out.result _ c.in_ok-is_way_out.was (c.is_way_out.ensures start f half.0 fits) in
-    (now.0, actions_more (leaves_by c.args.class start.task f (set_of c.args.set.now)) c.loop-a.a half.1 (sym c.if-branch.false ∙ now.1))
+    (now.0, actions_more (leaves_by c.args.asked.class start.task f (set_of c.args.set.now)) c.loop-a.a half.1 (sym c.if-branch.false ∙ now.1))
 
 pub returns : goal.returns
 returns c start f has fits =
     let count : length c.args.enc.now.actions ≡ action_count start.task = (made_at start c.args.enc.now c.args.board.now.slots.items has.by_union.at).actions in
     let half = c.loop-a.invariant start f has fits in
     let all : c.loop-a.a ≡ action_count start.task = omega (arith, c.requires.actions, c.loop-a-test.false) in
-    (half.0, sym (ap (λ k. list_any (leaves_by c.args.class start.task f (set_of c.args.set.now)) (range_with_len 0 k)) (sym all) ∙ half.1))
+    (half.0, sym (ap (λ k. list_any (leaves_by c.args.asked.class start.task f (set_of c.args.set.now)) (range_with_len 0 k)) (sym all) ∙ half.1))

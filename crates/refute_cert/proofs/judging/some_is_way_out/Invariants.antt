@@ -9,5 +9,5 @@ use Rattle.refute_cert.proofs.judging.some_is_way_out.Given as goal
 
 -- no action so far is a way out
 abbrev pub invariant-loop-a : goal.invariant-loop-a
-invariant-loop-a l = (start : Start) (f : Function) → HasSet start l.fn.enc l.fn.board.slots.items f (states_in start.task (set_of l.fn.set)) → LeaveFits start l.fn.class f (set_of l.fn.set)
-    → HasSet start l.enc l.board.slots.items f (states_in start.task (set_of l.fn.set)) × (list_any (leaves_by l.fn.class start.task f (set_of l.fn.set)) (range_with_len 0 l.a) ≡ false)
+invariant-loop-a l = (start : Start) (f : Function) → HasSet start l.fn.enc l.fn.board.slots.items f (states_in start.task (set_of l.fn.set)) → LeaveFits start l.fn.asked.class f (set_of l.fn.set)
+    → HasSet start l.enc l.board.slots.items f (states_in start.task (set_of l.fn.set)) × (list_any (leaves_by l.fn.asked.class start.task f (set_of l.fn.set)) (range_with_len 0 l.a) ≡ false)

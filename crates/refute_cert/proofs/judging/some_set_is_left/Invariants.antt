@@ -8,5 +8,5 @@ use Rattle.refute_cert.proofs.judging.some_set_is_left.Given as goal
 
 -- the sets so far have no way out
 abbrev pub invariant-loop-set : goal.invariant-loop-set
-invariant-loop-set l = (start : Start) (f : Function) → HasUnion start l.fn.enc l.fn.board.slots.items f → SetsFit start l.fn.class f (map set_of l.fn.sets)
-    → Looked start l.fn.class l.enc l.board.slots.items f (drop l.set-index l.sets) l.fn.sets
+invariant-loop-set l = (start : Start) (f : Function) → HasUnion start l.fn.enc l.fn.board.slots.items f → SetsFit start l.fn.asked.class f (map set_of l.fn.sets)
+    → Looked start l.fn.asked.class l.enc l.board.slots.items f (drop l.set-index l.sets) l.fn.sets
