@@ -2,6 +2,7 @@
 
 use crate::bits::{Bits, Part};
 use crate::conditions::support;
+use crate::moves::Effect;
 use crate::notes::Hope;
 use crate::numbers::{NONE, at};
 use crate::regress::regress;
@@ -97,7 +98,9 @@ impl<'a> World<'a> {
                 if self.hope(next) == Hope::Hopeless {
                     self.generalise_hopeless(next)?;
                 }
-                self.push_ways(state, action, place, next, &mut ways)?;
+                if let Some(effect) = self.actions.effect(action, place) {
+                    self.push_ways(state, effect, next, &mut ways)?;
+                }
             }
         }
         Ok(ways)
@@ -114,14 +117,10 @@ impl<'a> World<'a> {
     fn push_ways(
         &self,
         state: &Bits,
-        action: u32,
-        place: u32,
+        effect: &Effect<'_>,
         next: u32,
         ways: &mut Vec<Part>,
     ) -> Result<(), Stop> {
-        let Some(effect) = self.actions.effect(action, place) else {
-            return Ok(());
-        };
         let mut patterns = Vec::new(self.alloc);
         self.deads.matching(&self.bits_of(next), &mut patterns)?;
         for pattern in &patterns {

@@ -62,6 +62,8 @@ pub(crate) struct Finder {
     /// For each outcome the last state from which it was helpful, by the count of states.
     helpful: Vec<u32>,
     count: u32,
+    /// How the states that are met are put into the queues.
+    order: Order,
 }
 
 impl Finder {
@@ -79,6 +81,7 @@ impl Finder {
             outcomes: Vec::new(alloc),
             helpful: vec![in alloc; 0; labels as usize]?,
             count: 0,
+            order: Order::Met,
         })
     }
 
@@ -228,10 +231,11 @@ impl Finder {
         order: Order,
     ) -> Result<bool, Stop> {
         world.effort.spend(1)?;
+        self.order = order;
         for action in 0..world.actions.count() {
             if world.outcomes(state, action, &mut self.outcomes)? {
                 let is_safe = world.class == Class::Weak || !world.some_dead(&self.outcomes);
-                if is_safe && self.meet_all(world, policy, state, action, order)? {
+                if is_safe && self.meet_all(world, policy, state, action)? {
                     return Ok(true);
                 }
             }
@@ -247,14 +251,13 @@ impl Finder {
         policy: &mut Policy,
         state: u32,
         action: u32,
-        order: Order,
     ) -> Result<bool, Stop> {
         let first = world.actions.first_label(action);
         for place in 0..small(self.outcomes.len()) {
             let next = at(&self.outcomes, place);
             let label = first.saturating_add(place);
             if next != NONE && world.states.meet(next, self.search, state, label) {
-                if self.meet(world, policy, next, label, order)? {
+                if self.meet(world, policy, next, label)? {
                     return Ok(true);
                 }
             }
@@ -269,7 +272,6 @@ impl Finder {
         policy: &mut Policy,
         state: u32,
         label: u32,
-        order: Order,
     ) -> Result<bool, Stop> {
         if world.hope(state) != Hope::Open {
             return Ok(false);
@@ -279,7 +281,7 @@ impl Finder {
             self.end = state;
             return Ok(true);
         }
-        if let Order::Estimate(estimate) = order {
+        if let Order::Estimate(estimate) = self.order {
             self.plain.push(estimate, state)?;
             if at(&self.helpful, label) == self.count {
                 self.preferred.push(estimate, state)?;
