@@ -1,5 +1,5 @@
 -- What the steps that settle a table ask, and what they make.
-use Rattle.std.proofs.Common.{◌≡◌, ◌≢◌, ◌⊎◌, ℕ, suc, ◌+◌, ◌<◌, List, [], ◌∷◌, Option, Some, None, sym, ap, subst, ◌∙◌, ⊎_elim, arith}
+use Rattle.std.proofs.Common.{◌≡◌, ◌≢◌, ◌⊎◌, ℕ, suc, ◌+◌, ◌<◌, List, [], ◌∷◌, Option, Some, None, refl, sym, ap, subst, ◌∙◌, ⊎_elim, arith}
 use Rattle.std.specs.Option.{option_map_or}
 use Rattle.std.proofs.lemmas.Bool.{cases_eq}
 use Rattle.dd_nodes.specs.Subfunctions.{Function}
@@ -9,7 +9,7 @@ use Rattle.dd_sets.specs.declared.slots.SetId.{SetId}
 use Rattle.encode_task.specs.Made.{HoldsGoal}
 use Rattle.encode_task.specs.Slots.{Encoded, exec_slot}
 use Rattle.encode_task.specs.TaskSets.{exec_set, goal_set}
-use Rattle.slot_board.specs.Board.{set_at}
+use Rattle.slot_board.specs.Board.{Fits, set_at}
 use Rattle.slot_board.specs.declared.board.Operation.{Operation}
 use Rattle.task_core.specs.Tasks.{action_count}
 use Rattle.task_core.specs.declared.conditions.Cond.{Cond}
@@ -34,8 +34,8 @@ goal_at task sets (Some s) (Some cond) h slot e =
     let same : s ≡ slot = cc in
     (subst (λ (x : SetId). IsLive sets x.0) same h.live, ap (λ (x : SetId). set_of sets x.0) (sym same) ∙ h.holds)
 
-abbrev pub begin_steps : SetId → List Step
-begin_steps slot = Kept 4 slot ∷ Combine 4 Operation.Minus 4 0 ∷ Whole 5 ∷ []
+abbrev pub begin_steps : List Step
+begin_steps = Combine 4 Operation.Minus 4 0 ∷ Whole 5 ∷ []
 
 module _ (scene : Scene) (slot : SetId) (enc : Encoded) (slots : List SetId) (has : HasRead scene enc slots scene.rules) (is : enc.goal ≡ Some slot) where
   goal_kept : IsLive scene.start.enc.sets slot.0 × (set_of scene.start.enc.sets slot.0 ≡ goal_states_set scene.start.task)
@@ -43,29 +43,41 @@ module _ (scene : Scene) (slot : SetId) (enc : Encoded) (slots : List SetId) (ha
       goal_at scene.start.task scene.start.enc.sets scene.start.enc.goal scene.start.task.goal scene.start.made.goal slot
       (sym (ap (λ (e : Encoded). e.goal) has.there.at.same) ∙ is)
 
-  ended : minus_of (set_of scene.start.enc.sets slot.0) (set_at enc.sets slots 0) ≡ end_set scene.start.task scene.rules
-  ended = op_same Operation.Minus _ _ _ _ goal_kept.1 has.matched
+  -- it is still there
+  pub goal_now : IsLive enc.sets slot.0 × (set_of enc.sets slot.0 ≡ goal_states_set scene.start.task)
+  goal_now = (has.there.at.working.kept.live slot.0 goal_kept.0, has.there.at.working.kept.sets slot.0 goal_kept.0 ∙ goal_kept.1)
 
-  pub begin_can : CanMakeAll scene.start (set_at enc.sets slots) (begin_steps slot)
+  pub goal_fits : Fits scene.start 4 (set_of enc.sets slot.0)
+  goal_fits = fits scene 4 _ _ goal_now.1 (by_task _ goal)
+
+  -- the sets at the places once the goal states are put at theirs
+  abbrev with_goal : Placed
+  with_goal = with_set (set_at enc.sets slots) 4 (set_of enc.sets slot.0)
+
+  ended : minus_of (with_goal 4) (with_goal 0) ≡ end_set scene.start.task scene.rules
+  ended =
+      op_same Operation.Minus _ _ _ _ (with_here (set_at enc.sets slots) 4 (set_of enc.sets slot.0) 4 refl ∙ goal_now.1)
+      (with_other (set_at enc.sets slots) 4 (set_of enc.sets slot.0) 0 (λ e. absurd (omega arith)) ∙ has.matched)
+
+  pub begin_can : CanMakeAll scene.start with_goal begin_steps
   begin_can = (
-    (place_in scene 4 (omega arith), goal_kept.0, fits scene 4 _ _ goal_kept.1 (by_task _ goal)),
-    (
-      (place_in scene 4 (omega arith), place_in scene 4 (omega arith), place_in scene 0 (omega arith), fits scene 4 _ _ ended (by_table _ ends)),
-      (place_in scene 5 (omega arith), tt),
-    ),
+    (place_in scene 4 (omega arith), place_in scene 4 (omega arith), place_in scene 0 (omega arith), fits scene 4 _ _ ended (by_table _ ends)),
+    (place_in scene 5 (omega arith), tt),
   )
 
-  pub begin_made : (now : Encoded) (new : List SetId) → Shows scene.start now new (after_steps scene.start (set_at enc.sets slots) (begin_steps slot)) → HasPart scene now new 0
+  left_alone : (k : ℕ) → (k ≢ 4) → (k ≢ 5) → after_steps scene.start with_goal begin_steps k ≡ set_at enc.sets slots k
+  left_alone k four five =
+      untouched scene.start with_goal begin_steps k (four, (five, tt)) ∙ with_other (set_at enc.sets slots) 4 (set_of enc.sets slot.0) k four
+
+  pub begin_made : (now : Encoded) (new : List SetId) → Shows scene.start now new (after_steps scene.start with_goal begin_steps) → HasPart scene now new 0
   begin_made now new shows = record {
     there = record { at = shows.at; sound = shows.sound };
-    differ = shows.sets 1 (place_in scene 1 (omega arith)) ∙ has.differ;
+    differ = shows.sets 1 (place_in scene 1 (omega arith)) ∙ left_alone 1 (λ e. absurd (omega arith)) (λ e. absurd (omega arith)) ∙ has.differ;
     good = shows.sets 4 (place_in scene 4 (omega arith)) ∙ ended;
     followed = shows.sets 5 (place_in scene 5 (omega arith));
     steps = λ a low within. absurd (omega arith);
     taken = λ a above low.
-        shows.sets (7 + a) (taken_in scene a low)
-        ∙ untouched scene.start (set_at enc.sets slots) (begin_steps slot) (7 + a) ((λ e. absurd (omega arith)), ((λ e. absurd (omega arith)), ((λ e. absurd (omega arith)), tt)))
-        ∙ has.taken a low;
+        shows.sets (7 + a) (taken_in scene a low) ∙ left_alone (7 + a) (λ e. absurd (omega arith)) (λ e. absurd (omega arith)) ∙ has.taken a low;
   }
 
 -- the steps of one action

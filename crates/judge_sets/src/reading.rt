@@ -2,7 +2,9 @@
 
 ghost use Rattle.std.specs.Prelude.{◌≡◌, ◌↔◌, ◌++◌, ◌<◌, ◌&&◌, [], ◌∷◌, IsTrue, List, length, map};
 ghost use Rattle.dd_sets.specs.LiveSets.{nothing};
-ghost use Rattle.slot_board.specs.Board.{Ends, HasNothing, IsSmall, IsWorking, Left, set_at};
+ghost use Rattle.dd_ops.specs.Operations.{minus_of};
+ghost use Rattle.slot_board.specs.Board.{At, Ends, Fits, HasNothing, IsSmall, IsWorking, Left, Moved};
+ghost use Rattle.slot_board.specs.Board.{Start, set_at};
 ghost use Rattle.task_core.specs.Cubes.{Cube};
 ghost use Rattle.task_core.specs.Tasks.{fluent_count, system_of};
 ghost use Rattle.plan_rules.specs.Rules.{PlanRule, rule_of};
@@ -104,6 +106,21 @@ fn add_differ(enc: &mut Enc, board: &mut Board, a: ActionId) -> Result<(), SetEr
     )
 }
 
+/// Looks at those of the cube's states that no rule before matches.
+fn look_at_new(enc: &mut Enc, board: &mut Board) -> Result<(), SetErr>
+    requires working { IsWorking enc.old board.old.slots.items }
+    requires place { 3 < length board.old.slots.items }
+    ensures { (start : Start) → At start enc.old board.old.slots.items
+        → Fits start 3 (minus_of (set_at enc.old.sets board.old.slots.items 2)
+        (set_at enc.old.sets board.old.slots.items 0))
+        → Left start enc.new board.new.slots.items
+        (Moved start enc.old.sets board.old.slots.items enc.new board.new.slots.items 3
+        (minus_of (set_at enc.old.sets board.old.slots.items 2)
+        (set_at enc.old.sets board.old.slots.items 0))) result }
+{
+    board.combine(enc, PART, Operation::Minus, CUBE, MATCHED)
+}
+
 /// Has the action taken in those of the cube's states that no rule before matches.
 fn add_taken(enc: &mut Enc, board: &mut Board, a: ActionId) -> Result<(), SetErr>
     requires { (scene : Scene) × (before : List PlanRule) × (rule : PlanRule)
@@ -116,11 +133,11 @@ fn add_taken(enc: &mut Enc, board: &mut Board, a: ActionId) -> Result<(), SetErr
         (HasJoined scene enc.new board.new.slots.items before rule) result }
 {
     let taken = taken_at(a);
+    look_at_new(enc, board)?;
     make_all(
         enc,
         board,
         &[
-            Step::Combine(PART, Operation::Minus, CUBE, MATCHED),
             Step::Combine(taken, Operation::Join, taken, PART),
             Step::Combine(MATCHED, Operation::Join, MATCHED, CUBE),
         ],
