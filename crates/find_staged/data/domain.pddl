@@ -1,0 +1,6 @@
+(define (domain watch)
+  (:predicates (at-gate) (at-tower) (bell))
+  (:action bell-on :precondition (not (bell)) :effect (bell))
+  (:action bell-off :precondition (bell) :effect (not (bell)))
+  (:action to-tower :precondition (at-gate) :effect (and (not (at-gate)) (at-tower)))
+  (:action to-gate :precondition (at-tower) :effect (and (not (at-tower)) (at-gate))))
