@@ -1,4 +1,5 @@
 pub mod AsRun
 pub mod Checks
+pub mod Guards
 pub mod Texts
 pub mod Unlisted

@@ -4,7 +4,7 @@
 //! first decides. `rules_serve` says whether all rules that count in a configuration make the same
 //! move, in each that the plan may reach, and whether each rule serves; `names_last_context` whether
 //! there are no idle contexts; `is_plan_of` whether rules that were made by any search speak of a task
-//! at all. `write_controller` writes the text, with a comment before the rules that are first wanted after
+//! at all; `are_guarded` whether each rule asks for the precondition of its action. `write_controller` writes the text, with a comment before the rules that are first wanted after
 //! as many steps.
 //!
 //! `specs/AsRun` says what a plan is as it is run, `specs/Unlisted` what is asked of rules whose states
@@ -14,6 +14,7 @@
 
 mod contexts;
 mod fits;
+mod guards;
 mod laws;
 mod run_rules;
 mod served;
@@ -21,6 +22,7 @@ mod texts;
 
 pub use contexts::names_last_context;
 pub use fits::is_plan_of;
+pub use guards::are_guarded;
 pub use laws::good_rules_control;
 pub use served::rules_serve;
 pub use texts::write_controller;
