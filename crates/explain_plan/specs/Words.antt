@@ -45,12 +45,19 @@ names_kind word =
 abbrev pub no_judge : Bytes
 no_judge = codes "none of `weak`, `strong`, `cyclic`, `ctl` and `fair`"
 
+abbrev pub is_document : Bytes → Bool
+is_document word = bytes_eq word (codes "--json")
+
+-- what is wrong with the words after `--json`: there is one too many
+abbrev pub wrong_after_json : List Bytes → WrongWords
+wrong_after_json [] = too_few
+wrong_after_json (word ∷ words) = wrong word ONE_TOO_MANY.now
+
 -- what is wrong with the words after the plan: the first is not `--json`, or there is one too many
 abbrev pub wrong_after_plan : List Bytes → WrongWords
 wrong_after_plan [] = too_few
-wrong_after_plan (option ∷ []) = wrong option ONE_TOO_MANY.now
-wrong_after_plan (option ∷ word ∷ words) =
-    wrong (if bytes_eq option (codes "--json") then word else option) ONE_TOO_MANY.now
+wrong_after_plan (option ∷ words) =
+    if is_document option then wrong_after_json words else wrong option ONE_TOO_MANY.now
 
 -- what is wrong with the words after the class
 abbrev pub wrong_after_kind : List Bytes → WrongWords

@@ -6,16 +6,18 @@ ghost use Rattle.command_base.specs.Words.{PlanKind as AskedKind, kind_word};
 ghost use Rattle.explain_plan.specs.Values.{explain_words_of};
 ghost use Rattle.explain_plan.specs.Words.{
   AskNothing,
-  ExplainWords as Asked,
   IsJudge,
   SaysExplain,
+  is_document,
+  json_words,
   names_kind as is_kind,
+  wrong_after_json as wrong_last,
   wrong_after_kind as wrong_in_rest,
   wrong_after_plan as wrong_option,
   wrong_explain as wrong_in,
 };
 ghost use Rattle.plan_rules.specs.Texts.{class_word};
-ghost use Rattle.std.specs.Prelude.{◌≡◌, ◌∷◌, Bool, List, MatchOption, false, map, string_bytes, true, ℕ};
+ghost use Rattle.std.specs.Prelude.{◌≡◌, ◌∷◌, [], Bool, MatchOption, map, string_bytes};
 ghost use Rattle.task_core.specs.declared.classes.Class.{Class as AskedClass};
 
 use answer_help::{ONE_TOO_MANY, WrongWords};
@@ -37,57 +39,45 @@ pub(crate) fn read_words<'a>(words: &'a [String]) -> Option<ExplainWords<'a>>
     ensures { let said = map string_bytes words.now in
         MatchOption result (AskNothing said) (λ asked. SaysExplain said (explain_words_of asked)) }
 {
-    match text_words(words) {
-        Some(asked) => Some(asked),
-        None => document_words(words),
-    }
-}
-
-/// What the words ask that ask for a text.
-fn text_words<'a>(words: &'a [String]) -> Option<ExplainWords<'a>>
-    ensures { let said = map string_bytes words.now in
-        MatchOption result ((asked : Asked) → asked.json ≡ false → SaysExplain said asked → ⊥)
-        (λ asked. SaysExplain said (explain_words_of asked)) }
-{
-    let [judge, domain, problem, plan] = words else {
+    let [judge, domain, problem, plan, rest @ ..] = words else {
         return None;
     };
-    let judge = judge_named(judge)?;
+    let by = judge_named(judge)?;
+    let json = json_in(rest)?;
     Some(ExplainWords {
         check: CheckWords {
-            kind: judge.kind,
+            kind: by.kind,
             domain,
             problem,
             plan,
         },
-        fair: judge.fair,
-        json: false,
+        fair: by.fair,
+        json,
     })
 }
 
-/// What the words ask that ask for a document.
-fn document_words<'a>(words: &'a [String]) -> Option<ExplainWords<'a>>
+/// Whether words that are `--json`, or none, ask for a document.
+fn json_in(words: &[String]) -> Option<bool>
     ensures { let said = map string_bytes words.now in
-        MatchOption result ((asked : Asked) → asked.json ≡ true → SaysExplain said asked → ⊥)
-        (λ asked. SaysExplain said (explain_words_of asked)) }
+        MatchOption result ((json : Bool) → said ≡ json_words json → ⊥)
+        (λ json. said ≡ json_words json) }
 {
-    let [judge, domain, problem, plan, option] = words else {
-        return None;
-    };
-    if option.as_str() != "--json" {
-        return None;
+    match words {
+        [] => Some(false),
+        [option] => is_json(option),
+        _ => None,
     }
-    let judge = judge_named(judge)?;
-    Some(ExplainWords {
-        check: CheckWords {
-            kind: judge.kind,
-            domain,
-            problem,
-            plan,
-        },
-        fair: judge.fair,
-        json: true,
-    })
+}
+
+/// The same of one word.
+fn is_json(word: &str) -> Option<bool>
+    ensures { MatchOption result ((json : Bool) → word.now ∷ [] ≡ json_words json → ⊥)
+        (λ json. word.now ∷ [] ≡ json_words json) }
+{
+    if word == "--json" {
+        return Some(true);
+    }
+    None
 }
 
 /// By what a plan is judged.
@@ -182,29 +172,34 @@ fn wrong_after_kind<'a>(words: &'a [String]) -> WrongWords<'a>
 fn wrong_after_plan<'a>(words: &'a [String]) -> WrongWords<'a>
     ensures { wrong_of result ≡ wrong_option (map string_bytes words.now) }
 {
-    match words {
-        [] => WrongWords::TooFew,
-        [option] => WrongWords::Word {
-            word: option,
-            why: ONE_TOO_MANY,
-        },
-        [option, word, ..] => one_too_many(option, word),
-    }
-}
-
-/// The word that is too many: the second, after `--json`, and else the first.
-fn one_too_many<'a>(option: &'a str, word: &'a str) -> WrongWords<'a>
-    ensures { (words : List (List ℕ))
-        → wrong_of result ≡ wrong_option (option.now ∷ word.now ∷ words) }
-{
-    if option == "--json" {
-        return WrongWords::Word {
-            word,
-            why: ONE_TOO_MANY,
-        };
+    let [option, rest @ ..] = words else {
+        return WrongWords::TooFew;
+    };
+    if asks_document(option) {
+        return wrong_after_json(rest);
     }
     WrongWords::Word {
         word: option,
+        why: ONE_TOO_MANY,
+    }
+}
+
+/// Whether a word is `--json`.
+fn asks_document(word: &str) -> bool
+    ensures { result ≡ is_document word.now }
+{
+    word == "--json"
+}
+
+/// What is wrong with the words after `--json`.
+fn wrong_after_json<'a>(words: &'a [String]) -> WrongWords<'a>
+    ensures { wrong_of result ≡ wrong_last (map string_bytes words.now) }
+{
+    let [word, ..] = words else {
+        return WrongWords::TooFew;
+    };
+    WrongWords::Word {
+        word,
         why: ONE_TOO_MANY,
     }
 }

@@ -132,20 +132,20 @@ in_contexts sys contexts rules x (step ∷ steps) (first, rest) = (takes first, 
 first_found : (rules : List PlanRule) (s : Vector) (k : ℕ) (rule : PlanRule) → first_match rules s ≡ k → slice_get rules k ≡ Some rule
     → rule_at (map in_one_context rules) s first_context ≡ Some (in_one_context rule)
 first_found [] s k rule is at = absurd (none-some rule at)
-first_found (r ∷ rs) s k rule is at = go (matches r.cube s) refl
+first_found (r ∷ rs) s k rule is at = go (λ later. first_found rs s (first_match rs s) rule refl later) (matches r.cube s) refl
   where
     rest : Option ContextRule
     rest = rule_at (map in_one_context rs) s first_context
 
-    go : (b : Bool) → matches r.cube s ≡ b → rule_at (map in_one_context (r ∷ rs)) s first_context ≡ Some (in_one_context rule)
-    go true m =
+    go : (slice_get rs (first_match rs s) ≡ Some rule → rest ≡ Some (in_one_context rule)) → (b : Bool) → matches r.cube s ≡ b → rule_at (map in_one_context (r ∷ rs)) s first_context ≡ Some (in_one_context rule)
+    go after true m =
         let here : 0 ≡ k = sym (cond-true (matches r.cube s) 0 (suc (first_match rs s)) m) ∙ is in
         let same : r ≡ rule = same_Some r rule (subst (λ j. slice_get (r ∷ rs) j ≡ Some rule) (sym here) at) in
         cond-true (matches r.cube s) (Some (in_one_context r)) rest m ∙ ap (λ (q : PlanRule). Some (in_one_context q)) same
-    go false m =
+    go after false m =
         let later : suc (first_match rs s) ≡ k = sym (cond-false (matches r.cube s) 0 (suc (first_match rs s)) m) ∙ is in
         let at_later : slice_get rs (first_match rs s) ≡ Some rule = subst (λ j. slice_get (r ∷ rs) j ≡ Some rule) (sym later) at in
-        cond-false (matches r.cube s) (Some (in_one_context r)) rest m ∙ first_found rs s (first_match rs s) rule refl at_later
+        cond-false (matches r.cube s) (Some (in_one_context r)) rest m ∙ after at_later
 
 in_table : (sys : System) (class : Class) (rules : List PlanRule) (x : Configuration) (steps : List PlainStep) → x.context ≡ first_context → IsRunOf sys (table class rules) x steps
     → takes_first rules x.state steps ≡ true → TakesAll sys (run_plan (table class rules)) x steps
