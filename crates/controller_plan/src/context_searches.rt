@@ -85,7 +85,7 @@ fn follow_parts(
 }
 
 /// Whether it has few stages, or few visits and at least one.
-fn is_short(goal: &ContextGoal) -> bool
+pub(crate) fn is_short(goal: &ContextGoal) -> bool
     ensures few { IsTrue result → count_of goal.now ≤ most_of goal.now }
     ensures some { IsTrue result → HasSomeVisit goal.now }
 {

@@ -35,6 +35,7 @@ mod rules;
 mod searches;
 mod served;
 mod set_judge;
+mod staged;
 mod state_plans;
 mod top;
 mod words;

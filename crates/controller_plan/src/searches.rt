@@ -11,6 +11,7 @@ ghost use Rattle.task_core.specs.Tasks.{action_count, fluent_count};
 
 use crate::context_searches::follow_contexts;
 use crate::followed::Followed;
+use crate::staged::{follow_forward, follow_nearest};
 use crate::state_plans::StatePlan;
 use command_base::{PlanKind, PlanWords};
 use cyclic_plan::{cyclic_takers, takers_of};
@@ -127,7 +128,8 @@ pub(crate) fn seek(
     }
 }
 
-/// Looks for a plan with contexts: over sets of states alone.
+/// Looks for a plan with contexts: with little work state by state for patrols; thoroughly over sets of
+/// states, and where the table of nodes is full by a heuristic search.
 fn seek_contexts(
     alloc: Global,
     nodes: u32,
@@ -140,8 +142,26 @@ fn seek_contexts(
     requires shallow { IfSome grounded.now.ctl (λ goal. IsAtMostDeep 199 (ctl_value goal)) }
 {
     match effort {
-        Effort::Thorough => outcome_of(follow_contexts(alloc, nodes, grounded)),
-        Effort::Little | Effort::Much => Ok(Searched::Nothing),
+        Effort::Little => outcome_of(follow_nearest(alloc, grounded)),
+        Effort::Thorough => seek_contexts_thoroughly(alloc, nodes, grounded),
+        Effort::Much => Ok(Searched::Nothing),
+    }
+}
+
+/// Looks for a plan with contexts thoroughly.
+fn seek_contexts_thoroughly(
+    alloc: Global,
+    nodes: u32,
+    grounded: &Grounded,
+) -> Result<Searched, AllocError>
+    requires room { IsNodeLimit nodes }
+    requires goal_names { IfSome grounded.now.ctl
+        (λ goal. NamesBelow (fluent_count grounded.now.task) (ctl_value goal)) }
+    requires shallow { IfSome grounded.now.ctl (λ goal. IsAtMostDeep 199 (ctl_value goal)) }
+{
+    match follow_contexts(alloc, nodes, grounded) {
+        Err(Stop::Full) => outcome_of(follow_forward(alloc, grounded)),
+        found => outcome_of(found),
     }
 }
 
