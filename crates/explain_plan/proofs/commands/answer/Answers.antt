@@ -20,4 +20,4 @@ pub returns-in-Some-clause-no_fetch : goal.returns-in-Some-clause-no_fetch
 returns-in-Some-clause-no_fetch g c = λ nothing. absurd (nothing (explain_words_of c.in-Some.asked) c.in-Some.ensures)
 
 pub explain_files-requires : goal.explain_files-requires
-explain_files-requires g c = c.in-Some.ensures.is_judge.contexts
+explain_files-requires g c = record { fair = c.in-Some.ensures.is_judge.contexts }
