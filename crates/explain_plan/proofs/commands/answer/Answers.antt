@@ -21,3 +21,6 @@ returns-in-Some-clause-no_fetch g c = λ nothing. absurd (nothing (explain_words
 
 pub explain_files-requires : goal.explain_files-requires
 explain_files-requires g c = record { fair = c.in-Some.ensures.is_judge.contexts }
+
+pub returns-in-None-clause-fetches : goal.returns-in-None-clause-fetches
+returns-in-None-clause-fetches g c = λ asked says. absurd (c.in-None.ensures asked says)
