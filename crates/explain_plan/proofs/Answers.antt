@@ -22,7 +22,7 @@ use Rattle.explain_plan.specs.Runs.{ExplainRun, FetchesToExplain, HasExplainCaus
 use Rattle.explain_plan.specs.Words.{AskNothing, ExplainWords, IsJudge, SaysExplain, json_words, wrong_explain}
 
 -- the words that `check` is asked with for a kind and for files without a name
-nameless : PlanKind → CheckWords
+abbrev nameless : PlanKind → CheckWords
 nameless kind = record { kind = kind; domain = []; problem = []; plan = [] }
 
 same_words : (v w : CheckWords) → check v ≡ check w → v ≡ w

@@ -20,4 +20,7 @@ pub returns-in-Some-clause-no_fetch : goal.returns-in-Some-clause-no_fetch
 returns-in-Some-clause-no_fetch g c = λ nothing. absurd (nothing (explain_words_of c.in-Some.asked) c.in-Some.ensures)
 
 pub explain_files-requires : goal.explain_files-requires
-explain_files-requires g c = c.in-Some.ensures.is_judge.contexts
+explain_files-requires g c = record { fair = c.in-Some.ensures.is_judge.contexts }
+
+pub returns-in-None-clause-fetches : goal.returns-in-None-clause-fetches
+returns-in-None-clause-fetches g c = λ asked says. absurd (c.in-None.ensures asked says)

@@ -10,7 +10,7 @@ returns-then-not-has_few_stages-clause-refused c =
       goal = c.args.goal.now;
       is_given = refl;
       parts = c.args.parts.now;
-      has_parts = c.requires;
+      has_parts = c.requires.parts;
       many = many_stages c.has_few_stages.result (stage_count (tree_of_goal c.args.parts.now)) most_fair_stages c.has_few_stages.ensures c.if-not-has_few_stages.true;
       refused = refl;
     })
