@@ -1,4 +1,4 @@
-use Rattle.std.proofs.Common.{◌≡◌, ap, inl, inr, length, rules}
+use Rattle.std.proofs.Common.{◌≡◌, ◌⊎◌, ap, inl, inr, length, rules}
 use Rattle.plan_picture.specs.Values.{node_value, nodes_of}
 use Rattle.plan_rules.specs.Rules.{plain_of}
 use Rattle.task_core.specs.Tasks.{fluent_count, system_of}
@@ -14,14 +14,4 @@ returns-then-is_blank c =
     inr (inr (inr (inl (
       shows_nothing (system_of c.args.wanted.now.task.now) (plain_of c.args.wanted.now.plan.now) (nodes_of n picture) c.in-Ok.ensures.picture (no_nodes (node_value n) picture.nodes.items none),
       ap refused c.in_ok-no_initial-in-Ok.ensures,
-    ))))
-
-pub returns-in_ok-text-in-Ok : goal.returns-in_ok-text-in-Ok
-returns-in_ok-text-in-Ok c =
-    let n = fluent_count c.args.wanted.now.task.now in
-    let picture = c.in-Ok.picture in
-    let some : length picture.nodes.items ≡ 0 → ⊥ = search rules in
-    inr (inr (inr (inr (
-      shows_some (system_of c.args.wanted.now.task.now) (plain_of c.args.wanted.now.plan.now) (nodes_of n picture) c.in-Ok.ensures.picture (some_nodes (node_value n) picture.nodes.items some),
-      record { nodes = nodes_of n picture; picture = c.in-Ok.ensures.picture; shown = search rules },
     ))))
