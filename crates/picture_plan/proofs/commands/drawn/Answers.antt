@@ -1,4 +1,4 @@
-use Rattle.std.proofs.Common.{◌≡◌, ◌⊎◌, ap, inl, inr, length, rules}
+use Rattle.std.proofs.Common.{◌≡◌, ap, inl, inr, length, rules}
 use Rattle.plan_picture.specs.Values.{node_value, nodes_of}
 use Rattle.plan_rules.specs.Rules.{plain_of}
 use Rattle.task_core.specs.Tasks.{fluent_count, system_of}
@@ -22,7 +22,7 @@ returns-else-is_blank c =
     let picture = c.in-Ok.picture in
     let some : length picture.nodes.items ≡ 0 → ⊥ = search rules in
     let there = shows_some (system_of c.args.wanted.now.task.now) (plain_of c.args.wanted.now.plan.now) (nodes_of n picture) c.in-Ok.ensures.picture (some_nodes (node_value n) picture.nodes.items some) in
-    elim c.shown_picture-in-Ok.ensures [
+    elim c.shown_picture.ensures [
       | inl memory ↦ inl memory
       | inr shows ↦ inr (inr (inr (inr (there, record { nodes = nodes_of n picture; picture = c.in-Ok.ensures.picture; shown = shows }))))
     ]

@@ -1,12 +1,12 @@
 use Rattle.std.proofs.Common.{refl}
-use Rattle.std.specs.Prelude.{Option, Some}
+use Rattle.std.specs.Prelude.{Some}
 use Rattle.std.proofs.lemmas.Result.{err_from_is_err_and}
 use Rattle.pddl_ast.specs.Values.{problem_value}
 use Rattle.plan_io.specs.Fetches.{FailedLast}
 use Rattle.plan_rules.specs.Rules.{plain_of}
 use Rattle.plan_page.specs.ExplanationValues.{explanation_value}
 use Rattle.plan_page.specs.Explanations.{PlainExplanation, TellsExplanation}
-use Rattle.command_base.specs.Answers.{Answer, refused}
+use Rattle.command_base.specs.Answers.{Answer}
 use Rattle.command_base.specs.Values.{answer_of, refusal_of}
 use Rattle.command_base.proofs.Later.{file_refused, next_answer}
 use Rattle.picture_plan.specs.Pictures.{DrawnOf, IsFaultyExplanation}

@@ -4,8 +4,8 @@ use Rattle.command_base.specs.Values.{refusal_of}
 use Rattle.command_base.proofs.Refusals.{misread_file}
 use Rattle.picture_plan.proofs.run_files.read_explanation_file.Goals as goal
 
-pub returns-in_ok-misread-in-Err-clause-refused : goal.returns-in_ok-misread-in-Err-clause-refused
-returns-in_ok-misread-in-Err-clause-refused g c =
+pub returns-clause-refused : goal.returns-clause-refused
+returns-clause-refused g c =
     let held = g.S.Shelf.held c.args.shelf.now in
     let failed = FailedLast g.S.Shelf.fetched g.S.Shelf.faults c.args.shelf.now c.fetch.new.shelf in
     let file = rw (← c.deref.ensures.value) at c.in_ok-bytes.ensures.file in
