@@ -30,10 +30,12 @@ use Rattle.picture_plan.specs.Fetching.{FetchesToPicture}
 use Rattle.command_base.proofs.Initials.{initial_over}
 use Rattle.command_base.proofs.Later.{read_over}
 use Rattle.command_base.proofs.TaskNames.{same_actions, same_fluents}
-use Rattle.picture_plan.specs.Pictures.{DrawnOf, DrawnThen, IsFaultyRun, IsPictureAnswer, IsPictured, RunThen, ShowsPicture, SpellsRun, TaskThen, most_for}
+use Rattle.picture_plan.specs.Pictures.{DrawnOf, DrawnThen, IsFaultyExplanation, IsPictureAnswer, IsPictured, RunThen, ShowsPicture, TaskThen, most_for}
 use Rattle.picture_plan.specs.Runs.{HasPictureCause, HasPictured, PictureRun}
-use Rattle.picture_plan.specs.Words.{AskNothing, PictureForm, PictureWords, SaysPicture, as_graph, as_page, as_page_with, as_rules, form_words, wrong_picture}
-use Rattle.plan_page.specs.Pages.{no_run}
+use Rattle.picture_plan.specs.Words.{AskNothing, PictureForm, PictureWords, SaysPicture, as_graph, as_graph_with, as_page, as_page_with, as_rules, form_said, wrong_picture}
+use Rattle.plan_page.specs.Explanations.{PlainExplanation, TellsExplanation}
+use Rattle.std.specs.Prelude.{Option, Some}
+use Rattle.std.proofs.lemmas.Option.{same_Some}
 use Rattle.picture_plan.proofs.PictureFetched.{over_picture, picture_for_memory}
 use Rattle.answer_help.specs.Helped.{IsHelpFor, IsHelpedDelivery}
 use Rattle.answer_help.specs.Keeping.{AreToldAs, KeepsAfter, held_by, kept_in}
@@ -46,22 +48,28 @@ read_map : {X : Type 0} (held : Bytes → Held) (failed : Bytes → Type 0) (nam
 read_map held failed name Spells Wrong Then Then' a over (inl why) = inl why
 read_map held failed name Spells Wrong Then Then' a over (inr (x, holds, then)) = inr (x, holds, over x then)
 
-run_map : (held : Bytes → Held) (failed : Bytes → Type 0) (form : PictureForm) (Then Then' : Bytes → Answer → Type 0) (a : Answer)
-    → ((run : Bytes) → Then run a → Then' run a) → RunThen held failed form Then a → RunThen held failed form Then' a
-run_map held failed as_graph Then Then' a over then = over no_run then
-run_map held failed as_rules Then Then' a over then = over no_run then
-run_map held failed as_page Then Then' a over then = over no_run then
-run_map held failed (as_page_with file) Then Then' a over then = read_map held failed file SpellsRun IsFaultyRun Then Then' a over then
+run_map : (held : Bytes → Held) (failed : Bytes → Type 0) (form : PictureForm) (Then Then' : Option PlainExplanation → Answer → Type 0) (a : Answer)
+    → ((explanation : Option PlainExplanation) → Then explanation a → Then' explanation a) → RunThen held failed form Then a → RunThen held failed form Then' a
+run_map held failed as_graph Then Then' a over then = over None then
+run_map held failed (as_graph_with file) Then Then' a over then =
+    read_map held failed file TellsExplanation IsFaultyExplanation (λ (e : PlainExplanation). Then (Some e)) (λ (e : PlainExplanation). Then' (Some e)) a (λ e. over (Some e)) then
+run_map held failed as_rules Then Then' a over then = over None then
+run_map held failed as_page Then Then' a over then = over None then
+run_map held failed (as_page_with file) Then Then' a over then =
+    read_map held failed file TellsExplanation IsFaultyExplanation (λ (e : PlainExplanation). Then (Some e)) (λ (e : PlainExplanation). Then' (Some e)) a (λ e. over (Some e)) then
 
 -- what is said from a later state of the shelf holds from the start
-pub run_later : (held held' : Bytes → Held) (failed failed' : Bytes → Type 0) (form : PictureForm) (Then : Bytes → Answer → Type 0) (a : Answer)
+pub run_later : (held held' : Bytes → Held) (failed failed' : Bytes → Type 0) (form : PictureForm) (Then : Option PlainExplanation → Answer → Type 0) (a : Answer)
     → ((file : Bytes) → held' file ≡ held file) → ((file : Bytes) → failed' file → failed file) → RunThen held' failed' form Then a → RunThen held failed form Then a
 run_later held held' failed failed' as_graph Then a same over then = then
+run_later held held' failed failed' (as_graph_with file) Then a same over then =
+    read_over held held' failed failed' file TellsExplanation IsFaultyExplanation (λ (e : PlainExplanation). Then (Some e)) a same (over file) then
 run_later held held' failed failed' as_rules Then a same over then = then
 run_later held held' failed failed' as_page Then a same over then = then
-run_later held held' failed failed' (as_page_with file) Then a same over then = read_over held held' failed failed' file SpellsRun IsFaultyRun Then a same (over file) then
+run_later held held' failed failed' (as_page_with file) Then a same over then =
+    read_over held held' failed failed' file TellsExplanation IsFaultyExplanation (λ (e : PlainExplanation). Then (Some e)) a same (over file) then
 
-pub run_later_or : (held held' : Bytes → Held) (failed failed' : Bytes → Type 0) (form : PictureForm) (Then : Bytes → Answer → Type 0) (a : Answer)
+pub run_later_or : (held held' : Bytes → Held) (failed failed' : Bytes → Type 0) (form : PictureForm) (Then : Option PlainExplanation → Answer → Type 0) (a : Answer)
     → ((file : Bytes) → held' file ≡ held file) → ((file : Bytes) → failed' file → failed file)
     → (a ≡ refused no_memory) ⊎ RunThen held' failed' form Then a → (a ≡ refused no_memory) ⊎ RunThen held failed form Then a
 run_later_or held held' failed failed' form Then a same over (inl memory) = inl memory
@@ -83,7 +91,7 @@ pictured_later held held' failed failed' asked d p a same over (inr (inr (within
     ))
 
 -- what is drawn of a task is drawn of the domain and the problem
-shows_for : (form : PictureForm) (t : Task) (d : DomainTree) (p : ProblemTree) (plan : PlainPlan) (run : Bytes) (a : Answer) → task_value t ≡ task_of d p → system_of t ≡ system d p
+shows_for : (form : PictureForm) (t : Task) (d : DomainTree) (p : ProblemTree) (plan : PlainPlan) (run : Option PlainExplanation) (a : Answer) → task_value t ≡ task_of d p → system_of t ≡ system d p
     → ShowsPicture form (names_of_fluents t) (names_of_actions t) (system_of t) plan run a → ShowsPicture form (fluent_names d p) (action_names d p) (system d p) plan run a
 shows_for form t d p plan run a is system_is shows =
     subst (λ (sys : System). ShowsPicture form (fluent_names d p) (action_names d p) sys plan run a) system_is
@@ -95,7 +103,7 @@ too_many_back d p t is many =
     let back = too_many_states_back d p t is many in
     record { entries = many.entries; first = back.0; more = back.1 }
 
-drawn_for : (asked : PictureWords) (d : DomainTree) (p : ProblemTree) (t : Task) (placed : PlacedPlan) (run : Bytes) (a : Answer) → task_value t ≡ task_of d p → system_of t ≡ system d p
+drawn_for : (asked : PictureWords) (d : DomainTree) (p : ProblemTree) (t : Task) (placed : PlacedPlan) (run : Option PlainExplanation) (a : Answer) → task_value t ≡ task_of d p → system_of t ≡ system d p
     → DrawnOf asked p t placed.plan run a → DrawnThen asked d p placed run a
 drawn_for asked d p t placed run a is system_is (inl (many, refused_is)) = inl (too_many_states d p t is many.entries many.first many.more, refused_is)
 drawn_for asked d p t placed run a is system_is (inr (inl (few, more, refused_is))) =
@@ -162,33 +170,15 @@ pub some_nodes : {X Y : Type 0} (f : X → Y) (xs : List X) → (length xs ≡ 0
 some_nodes f [] some none = some refl
 some_nodes f (x ∷ xs) some none = cc none
 
--- the words ask for one form at most
-same_form : (v w : PictureForm) → form_words v ≡ form_words w → v ≡ w
-same_form as_graph as_graph same = refl
-same_form as_graph as_page same = absurd (cc same)
-same_form as_graph (as_page_with x) same = absurd (cc same)
-same_form as_graph as_rules same = absurd (cc same)
-same_form as_rules as_graph same = absurd (cc same)
-same_form as_rules as_rules same = refl
-same_form as_rules as_page same = absurd (let word : codes "--by-rule" ≡ codes "--page" = ap (λ (ws : List Bytes). get_or ws 0 []) same in cc word)
-same_form as_rules (as_page_with x) same = absurd (cc same)
-same_form as_page as_graph same = absurd (cc same)
-same_form as_page as_rules same = absurd (let word : codes "--page" ≡ codes "--by-rule" = ap (λ (ws : List Bytes). get_or ws 0 []) same in cc word)
-same_form as_page as_page same = refl
-same_form as_page (as_page_with x) same = absurd (cc same)
-same_form (as_page_with x) as_graph same = absurd (cc same)
-same_form (as_page_with x) as_rules same = absurd (cc same)
-same_form (as_page_with x) as_page same = absurd (cc same)
-same_form (as_page_with x) (as_page_with y) same = ap as_page_with (ap (λ (ws : List Bytes). get_or ws 1 []) same)
-
 -- the words ask for one picture at most
 pub one_asked : (words : List Bytes) (v w : PictureWords) → SaysPicture words v → SaysPicture words w → v ≡ w
 one_asked words v w says says' =
-    let both = sym says ∙ says' in
+    let both = sym says.begins ∙ says'.begins in
     let domains : v.domain ≡ w.domain = ap (λ (ws : List Bytes). get_or ws 0 []) both in
     let problems : v.problem ≡ w.problem = ap (λ (ws : List Bytes). get_or ws 1 []) both in
     let plans : v.plan ≡ w.plan = ap (λ (ws : List Bytes). get_or ws 2 []) both in
-    let forms : v.form ≡ w.form = same_form v.form w.form (ap (drop 3) both) in
+    let rests : says.rest ≡ says'.rest = ap (drop 3) both in
+    let forms : v.form ≡ w.form = same_Some v.form w.form (sym says.ends ∙ ap form_said rests ∙ says'.ends) in
     λ i. record { domain = domains i; problem = problems i; plan = plans i; form = forms i }
 
 -- what was found for the words, and what was given for it

@@ -17,7 +17,7 @@ use Rattle.command_base.specs.Grounding.{GroundThen}
 use Rattle.command_base.specs.PddlTexts.{HoldBoth, ReadBoth}
 use Rattle.command_base.specs.PlanFiles.{IsFaultyPlan, SpellsPlaced}
 use Rattle.command_base.specs.Words.{Bytes}
-use Rattle.picture_plan.specs.Words.{PictureForm, PictureWords, as_graph, as_page, as_page_with, as_rules}
+use Rattle.picture_plan.specs.Words.{PictureForm, PictureWords, as_graph, as_graph_with, as_page, as_page_with, as_rules}
 use Rattle.command_base.proofs.Later.{read_over, some_plan_over}
 use Rattle.command_base.proofs.TaskNames.{same_actions, same_fluents}
 use Rattle.command_base.proofs.PddlDecides.{refused_both}
@@ -114,9 +114,10 @@ module _ {S : Type 0} (P : S → Type 0) (held : Bytes → Held) (failed : Bytes
     (keeps : (before : S) (name : Bytes) (after : S) → fetched before name after → P before → P after) where
   over_run : (form : PictureForm) (before after : S) → FetchesRun fetched form before after → P before → P after
   over_run as_graph before after same holds = subst P (sym same) holds
+  over_run (as_graph_with file) before after fetches holds = over_fetches P fetched keeps (file ∷ []) before after fetches holds
   over_run as_rules before after same holds = subst P (sym same) holds
   over_run as_page before after same holds = subst P (sym same) holds
-  over_run (as_page_with run) before after fetches holds = over_fetches P fetched keeps (run ∷ []) before after fetches holds
+  over_run (as_page_with file) before after fetches holds = over_fetches P fetched keeps (file ∷ []) before after fetches holds
 
   abbrev Passes : PictureWords → Answer → Type 0
   Passes asked a = Stops (ReadBoth held failed asked.domain asked.problem (λ domain problem. GroundThen domain problem (λ answer. ⊥))) a

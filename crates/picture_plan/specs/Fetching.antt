@@ -9,7 +9,7 @@ use Rattle.command_base.specs.Words.{Bytes}
 use Rattle.pddl_ast.specs.Trees.{DomainTree, ProblemTree}
 use Rattle.pddl_system.specs.Sizes.{first_passed}
 use Rattle.pddl_system.specs.Systems.{action_names, fluent_names}
-use Rattle.picture_plan.specs.Words.{PictureForm, PictureWords, as_graph, as_page, as_page_with, as_rules}
+use Rattle.picture_plan.specs.Words.{PictureForm, PictureWords, as_graph, as_graph_with, as_page, as_page_with, as_rules}
 use Rattle.plan_io.specs.Fetches.{Fetches}
 use Rattle.plan_io.specs.Held.{Held}
 
@@ -20,28 +20,30 @@ AsksForPlan held asked =
     × HoldBoth held asked.domain asked.problem domain problem
     × (first_passed domain problem ≡ None)
 
--- and the third a plan: the run is asked for, where a page is to play one
+-- and the third a plan: the explanation is asked for, where one is to be shown
 abbrev pub AsksForRun : (Bytes → Held) → PictureWords → Type 0
 AsksForRun held asked =
     (domain : DomainTree) × (problem : ProblemTree)
     × HoldBoth held asked.domain asked.problem domain problem
     × HoldsSomePlan held (fluent_names domain problem) (action_names domain problem) asked.plan
 
--- the file of the run is fetched, where there is one
+-- the file of the explanation is fetched, where there is one
 abbrev pub FetchesRun : {S : Type 0} → (S → Bytes → S → Type 0) → PictureForm → S → S → Type 0
 FetchesRun fetched as_graph before after = after ≡ before
+FetchesRun fetched (as_graph_with file) before after = Fetches fetched (file ∷ []) before after
 FetchesRun fetched as_rules before after = after ≡ before
 FetchesRun fetched as_page before after = after ≡ before
-FetchesRun fetched (as_page_with run) before after = Fetches fetched (run ∷ []) before after
+FetchesRun fetched (as_page_with file) before after = Fetches fetched (file ∷ []) before after
 
 -- the file of a plan is fetched, which may decide the answer (`Cause`); or it spells a plan
--- (`HoldsOne`), and then that of a run may be
+-- (`HoldsOne`), and then that of an explanation may be
 abbrev pub FetchPlan : {S : Type 0} → (S → Bytes → S → Type 0) → PictureWords → (Answer → Type 0)
     → Type 0 → Answer → S → S → Type 0
 FetchPlan {S} fetched asked Cause HoldsOne answer =
     FetchThen fetched asked.plan (Stops Cause answer) HoldsOne (FetchesRun fetched asked.form)
 
--- after the problem, which may pass a limit, the plan is fetched, and after that the run
+-- after the problem, which may pass a limit, the plan is fetched, and after that the
+-- explanation
 abbrev pub FetchPlanAndRun : {S : Type 0} → (Bytes → Held) → (Bytes → Type 0)
     → (S → Bytes → S → Type 0) → PictureWords → Answer → S → S → Type 0
 FetchPlanAndRun {S} held failed fetched asked answer =

@@ -1,28 +1,31 @@
-//! Reading a run out of its file.
+//! Reading an explanation out of its file.
 
 ghost use Rattle.command_base.specs.Answers.{no_memory, refused};
 ghost use Rattle.command_base.specs.Faults.{IsQuietAt};
 ghost use Rattle.command_base.specs.Reading.{Holds, IsRefusedFile};
 ghost use Rattle.command_base.specs.Values.{refusal_of};
-ghost use Rattle.picture_plan.specs.Pictures.{IsFaultyRun, SpellsRun};
+ghost use Rattle.picture_plan.specs.Pictures.{IsFaultyExplanation};
+ghost use Rattle.plan_page.specs.ExplanationValues.{explanation_value};
+ghost use Rattle.plan_page.specs.Explanations.{TellsExplanation};
 ghost use Rattle.plan_io.specs.Fetches.{FailedLast};
 ghost use Rattle.std.specs.Prelude.{◌≡◌, ◌≤◌, ◌⊎◌, IfErr, IfOk, List, OnOk, ℕ};
 
 use command_base::{Refusal, fetch, misread};
 use plan_io::Shelf;
-use plan_page::check_run;
+use plan_page::{Explanation, read_explanation};
 use std::alloc::Global;
 
-/// The bytes of the run in a file.
-pub(crate) fn read_run_file<S: Shelf>(
+/// The explanation in a file.
+pub(crate) fn read_explanation_file<S: Shelf>(
     alloc: Global,
     shelf: &mut S,
     name: &str,
-) -> Result<Vec<u8>, Refusal>
-    ensures holds { IfOk result (λ run. Holds (S.held shelf.old) SpellsRun name.now run.items) }
+) -> Result<Explanation, Refusal>
+    ensures holds { IfOk result (λ explanation.
+        Holds (S.held shelf.old) TellsExplanation name.now (explanation_value explanation)) }
     ensures refused { let failed = FailedLast S.fetched S.faults shelf.old shelf.new in
         IfErr result (λ refusal. (refusal_of refusal ≡ no_memory)
-        ⊎ IsRefusedFile (S.held shelf.old) failed IsFaultyRun name.now (refusal_of refusal)) }
+        ⊎ IsRefusedFile (S.held shelf.old) failed IsFaultyExplanation name.now (refusal_of refusal)) }
     ensures fetch { S.fetched shelf.old name.now shelf.new }
     ensures quiet { OnOk result (S.faults shelf.new ≡ S.faults shelf.old) }
     ensures quiet_at { IfErr result
@@ -32,8 +35,8 @@ pub(crate) fn read_run_file<S: Shelf>(
     ensures later { S.faults shelf.old ≤ S.faults shelf.new }
 {
     let bytes = fetch(alloc, shelf, name)?;
-    match check_run(alloc, &bytes) {
-        Ok(()) => Ok(bytes),
+    match read_explanation(alloc, &bytes) {
+        Ok(explanation) => Ok(explanation),
         Err(error) => Err(misread(alloc, name, error)?),
     }
 }

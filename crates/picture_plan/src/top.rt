@@ -14,16 +14,19 @@ use std::alloc::Global;
 /// Writes the picture that the words ask for, and gives the exit status.
 ///
 /// The words are `DOMAIN PROBLEM PLAN`, and `--page` after them for a page to step through the plan in
-/// place of a text in the DOT language; after that RUN, a file with a run as JSON, for a page that
-/// plays it when it opens. The picture goes to `out`. Every other answer goes to `err`: one line, and
+/// place of a text in the DOT language, or `--by-rule` for such a text rule by rule. EXPLANATION
+/// before `--page` or alone is a file with what `mbp_explain .. --json` prints: its run is shown in the
+/// text, or played by the page when it opens. The picture goes to `out`. Every other answer goes to `err`: one line, and
 /// below it, where it is a fault in a file or in the words, what helps to find it. The statuses are
 /// those of `mbp_top::run`'s `check`, but that the plan may be of either kind, and no goal is asked
 /// for:
 ///
 /// - 0: the picture is on `out`;
+/// - 3: a file has a fault; of an explanation that it tells none, or a run that the plan doesn't have;
 /// - 4: a limit is passed, one of those of `check`, or: the plan may reach more than 400
-///   configurations, for a page more than 20,000;
-/// - 2, 3, 6, 7, 8: as for `check`.
+///   configurations, for a page more than 20,000; or the text has more than 67,108,864 bytes, or,
+///   state by state, a name of more than 4,096;
+/// - 2, 6, 7, 8: as for `check`.
 pub fn picture<S: Shelf, O: Sink, E: Sink>(
     alloc: Global,
     words: &[String],

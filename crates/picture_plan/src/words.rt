@@ -1,29 +1,25 @@
 //! The words: which picture is wanted.
 
 ghost use Rattle.answer_help.specs.Values.{wrong_of};
-ghost use Rattle.command_base.specs.Words.{Bytes};
 ghost use Rattle.picture_plan.specs.Values.{form_value, picture_words_of};
 ghost use Rattle.picture_plan.specs.Words.{
   AskNothing,
-  PictureForm as AskedForm,
   SaysPicture,
-  form_words,
-  wrong_after_page as wrong_in_rest,
-  wrong_after_rules as wrong_in_rules,
+  as_page_with,
+  form_by_one,
+  form_by_two,
+  form_said,
+  is_by_rule as is_rule_word,
+  is_option as is_option_word,
+  is_page as is_page_word,
+  is_unknown as is_unknown_word,
+  with_file,
+  wrong_form as wrong_in_form,
+  wrong_of_two as wrong_in_two,
   wrong_picture as wrong_in,
 };
-ghost use Rattle.std.specs.Prelude.{
-  ◌≡◌,
-  ◌∷◌,
-  List,
-  MatchOption,
-  codes,
-  false,
-  map,
-  string_bytes,
-  true,
-};
-ghost use Rattle.std.specs.Str.{bytes_eq};
+ghost use Rattle.std.specs.Option.{option_map};
+ghost use Rattle.std.specs.Prelude.{◌≡◌, MatchOption, map, string_bytes};
 
 use answer_help::{NO_OPTION, ONE_TOO_MANY, WrongWords};
 
@@ -32,11 +28,13 @@ use answer_help::{NO_OPTION, ONE_TOO_MANY, WrongWords};
 pub(crate) enum PictureForm<'a> {
     /// As a text in the DOT language, state by state.
     Graph,
+    /// The same with the run of the explanation in the file of this name.
+    GraphWith(&'a str),
     /// As a text in the DOT language, rule by rule.
     Rules,
     /// As a page to step through it.
     Page,
-    /// As a page that plays the run in the file of this name when it opens.
+    /// As a page that plays the explanation in the file of this name when it opens.
     PageWith(&'a str),
 }
 
@@ -50,8 +48,8 @@ pub(crate) struct PictureWords<'a> {
     pub(crate) form: PictureForm<'a>,
 }
 
-/// What the words ask: `DOMAIN PROBLEM PLAN`, and `--by-rule` after it for a picture rule by rule, or
-/// `--page` for a page, and RUN after that for a run to play.
+/// What the words ask: `DOMAIN PROBLEM PLAN`, and after it `--by-rule` for a picture rule by rule, or
+/// EXPLANATION for a run to show, `--page` for a page, or both.
 pub(crate) fn read_words<'a>(words: &'a [String]) -> Option<PictureWords<'a>>
     ensures { let said = map string_bytes words.now in
         MatchOption result (AskNothing said) (λ asked. SaysPicture said (picture_words_of asked)) }
@@ -69,100 +67,129 @@ pub(crate) fn read_words<'a>(words: &'a [String]) -> Option<PictureWords<'a>>
 
 /// The form that these words ask for.
 fn form_of<'a>(words: &'a [String]) -> Option<PictureForm<'a>>
-    ensures { let said = map string_bytes words.now in
-        MatchOption result ((form : AskedForm) → said ≡ form_words form → ⊥)
-        (λ form. said ≡ form_words (form_value form)) }
+    ensures { option_map form_value result ≡ form_said (map string_bytes words.now) }
 {
     match words {
         [] => Some(PictureForm::Graph),
-        [option, rest @ ..] => form_with(option, rest),
-    }
-}
-
-/// The form that the word of an option and the words after it ask for.
-fn form_with<'a>(option: &str, rest: &'a [String]) -> Option<PictureForm<'a>>
-    ensures { let said : List Bytes = option.now ∷ map string_bytes rest.now in
-        MatchOption result ((form : AskedForm) → said ≡ form_words form → ⊥)
-        (λ form. said ≡ form_words (form_value form)) }
-{
-    if option == "--by-rule" {
-        return rules_form(option, rest);
-    }
-    page_form(option, rest)
-}
-
-/// The form that is asked for rule by rule, if no words follow.
-fn rules_form<'a>(option: &str, rest: &'a [String]) -> Option<PictureForm<'a>>
-    requires { bytes_eq option.now (codes "--by-rule") ≡ true }
-    ensures { let said : List Bytes = option.now ∷ map string_bytes rest.now in
-        MatchOption result ((form : AskedForm) → said ≡ form_words form → ⊥)
-        (λ form. said ≡ form_words (form_value form)) }
-{
-    if rest.is_empty() {
-        Some(PictureForm::Rules)
-    } else {
-        None
-    }
-}
-
-/// The form of a page that the word of an option and the words after it ask for.
-fn page_form<'a>(option: &str, rest: &'a [String]) -> Option<PictureForm<'a>>
-    requires { bytes_eq option.now (codes "--by-rule") ≡ false }
-    ensures { let said : List Bytes = option.now ∷ map string_bytes rest.now in
-        MatchOption result ((form : AskedForm) → said ≡ form_words form → ⊥)
-        (λ form. said ≡ form_words (form_value form)) }
-{
-    if option != "--page" {
-        return None;
-    }
-    match rest {
-        [] => Some(PictureForm::Page),
-        [run] => Some(PictureForm::PageWith(run)),
+        [word] => form_of_one(word),
+        [first, second] => form_of_two(first, second),
         _ => None,
     }
+}
+
+/// The form that one word asks for.
+fn form_of_one(word: &str) -> Option<PictureForm<'_>>
+    ensures { option_map form_value result ≡ form_by_one word.now }
+{
+    if is_page(word) {
+        return Some(PictureForm::Page);
+    }
+    if is_by_rule(word) {
+        return Some(PictureForm::Rules);
+    }
+    if is_option(word) {
+        return None;
+    }
+    Some(PictureForm::GraphWith(word))
+}
+
+/// The form that two words ask for.
+fn form_of_two<'a>(first: &'a str, second: &'a str) -> Option<PictureForm<'a>>
+    ensures { option_map form_value result ≡ form_by_two first.now second.now }
+{
+    if is_page(second) {
+        return page_with(first);
+    }
+    if is_page(first) {
+        return page_with(second);
+    }
+    None
+}
+
+/// A page that plays the explanation in a file, unless the word is an option.
+fn page_with(word: &str) -> Option<PictureForm<'_>>
+    ensures { option_map form_value result ≡ with_file as_page_with word.now }
+{
+    if is_option(word) {
+        return None;
+    }
+    Some(PictureForm::PageWith(word))
+}
+
+/// Whether a word is an option, which begins with two hyphens.
+fn is_option(word: &str) -> bool
+    ensures { result ≡ is_option_word word.now }
+{
+    word.as_bytes().starts_with(b"--")
+}
+
+/// Whether a word asks for a page.
+fn is_page(word: &str) -> bool
+    ensures { result ≡ is_page_word word.now }
+{
+    word == "--page"
+}
+
+/// Whether a word asks for a picture rule by rule.
+fn is_by_rule(word: &str) -> bool
+    ensures { result ≡ is_rule_word word.now }
+{
+    word == "--by-rule"
+}
+
+/// Whether a word is an option that none of the forms has.
+fn is_unknown(word: &str) -> bool
+    ensures { result ≡ is_unknown_word word.now }
+{
+    is_option(word) && !is_page(word) && !is_by_rule(word)
 }
 
 /// What is wrong with words that ask for no picture.
 pub(crate) fn wrong_picture<'a>(words: &'a [String]) -> WrongWords<'a>
     ensures { wrong_of result ≡ wrong_in (map string_bytes words.now) }
 {
-    let [_domain, _problem, _plan, option, rest @ ..] = words else {
+    let [_domain, _problem, _plan, rest @ ..] = words else {
         return WrongWords::TooFew;
     };
-    if option.as_str() == "--page" {
-        return wrong_after_page(rest);
-    }
-    if option.as_str() == "--by-rule" {
-        return wrong_after_rules(rest);
-    }
-    WrongWords::Word {
-        word: option,
-        why: NO_OPTION,
+    wrong_form(rest)
+}
+
+/// What is wrong with the words after the plan's.
+fn wrong_form<'a>(words: &'a [String]) -> WrongWords<'a>
+    ensures { wrong_of result ≡ wrong_in_form (map string_bytes words.now) }
+{
+    match words {
+        [] => WrongWords::TooFew,
+        [word] => WrongWords::Word {
+            word,
+            why: NO_OPTION,
+        },
+        [first, second] => wrong_of_two(first, second),
+        [_first, _second, word, ..] => WrongWords::Word {
+            word,
+            why: ONE_TOO_MANY,
+        },
     }
 }
 
-/// What is wrong with the words after a picture rule by rule was asked for.
-fn wrong_after_rules<'a>(words: &'a [String]) -> WrongWords<'a>
-    ensures { wrong_of result ≡ wrong_in_rules (map string_bytes words.now) }
+/// What is wrong with two words that ask for no form.
+fn wrong_of_two<'a>(first: &'a str, second: &'a str) -> WrongWords<'a>
+    ensures { wrong_of result ≡ wrong_in_two first.now second.now }
 {
-    let [word, ..] = words else {
-        return WrongWords::TooFew;
-    };
-    WrongWords::Word {
-        word,
-        why: ONE_TOO_MANY,
+    if is_unknown(first) {
+        return WrongWords::Word {
+            word: first,
+            why: NO_OPTION,
+        };
     }
-}
-
-/// What is wrong with the words after a page was asked for.
-fn wrong_after_page<'a>(words: &'a [String]) -> WrongWords<'a>
-    ensures { wrong_of result ≡ wrong_in_rest (map string_bytes words.now) }
-{
-    let [_run, word, ..] = words else {
-        return WrongWords::TooFew;
-    };
+    if is_unknown(second) {
+        return WrongWords::Word {
+            word: second,
+            why: NO_OPTION,
+        };
+    }
     WrongWords::Word {
-        word,
+        word: second,
         why: ONE_TOO_MANY,
     }
 }

@@ -3,7 +3,8 @@
 // The data: names of fluents and actions, how many outcomes each action has, the rules of the plan,
 // and a node for each configuration (a state with a context) that the plan may reach. Places in
 // these lists are the numbers by which all else speaks of them. The first nodes are the initial
-// states, in the order in which `mbp replay` counts them. And the run that was handed in, or null.
+// states, in the order in which `mbp replay` counts them. And the explanation that was handed in, or
+// null.
 const data = JSON.parse(document.getElementById("data").textContent);
 const handed = JSON.parse(document.getElementById("handed").textContent);
 const { nodes, rules } = data;
@@ -13,14 +14,12 @@ const MINUS = "\u2212";
 const MOST_RANDOM_STEPS = 50;
 const MOST_LISTED = 500;
 const MOST_FOUND = 50;
-const MOST_IN_COLUMN = 12;
-const WIDE = 250;
-const SPACE = 96;
 
 // ---- Elements. A name gets into the page as a text node or an attribute, never as HTML.
 
 const byId = (id) => document.getElementById(id);
 const show = (id, ...children) => byId(id).replaceChildren(...children);
+const kinds = (...names) => names.filter(Boolean).join(" ");
 const counted = (count, word) => `${count} ${word}${count === 1 ? "" : "s"}`;
 
 function fill(element, attributes, children) {
@@ -209,22 +208,49 @@ function runTo(at) {
   begin(start, steps, `A shortest run to configuration #${at}.`);
 }
 
-// Plays a run that was made elsewhere: the number of its initial state, the numbers of outcomes and
-// those of rules (from 0; where they are missing, the first that matches), and a sentence.
-function play(witness) {
-  if (!isInitial(witness.initial)) throw new Error("it begins in no initial state");
+// ---- An explanation that was made elsewhere: a verdict, and a run that shows it
+
+const WITNESS = "\u25c6";
+const witness = { start: 0, steps: [], edges: new Set() };
+const edgeKey = (from, action, outcome) => `${from} ${action} ${outcome}`;
+const isOnWitness = (from, action, outcome) => witness.edges.has(edgeKey(from, action, outcome));
+
+// Whether the run that is shown is the witness up to here.
+const isWitness = () =>
+  run.start === witness.start && run.steps.length <= witness.steps.length &&
+  run.steps.every((step, i) => isSameStep(step, witness.steps[i]));
+const isSameStep = (a, b) =>
+  a.from === b.from && a.action === b.action && a.outcome === b.outcome;
+
+// The steps of an explanation: its rules and outcomes are numbers from 0. Where the rules are
+// missing, the first rule that matches is taken.
+function stepsOf({ initial, outcomes, rules: numbers }) {
+  if (!isInitial(initial)) throw new Error("it begins in no initial state");
   const steps = [];
-  let at = witness.initial;
-  for (const outcome of witness.outcomes) {
-    const rule = rules[witness.rules?.[steps.length]];
+  let at = initial;
+  for (const outcome of outcomes) {
+    const rule = rules[numbers?.[steps.length]];
     const choice = choicesAt(at).find((one) => rule === undefined || one.action === rule.action);
     const step = choice?.steps.find((one) => one[1] === outcome);
     if (step === undefined) throw new Error(`the plan has no such step ${steps.length + 1}`);
     steps.push(madeStep(at, choice, step));
     at = step[2];
   }
-  byId("sentence").textContent = witness.sentence ?? "";
-  begin(witness.initial, steps, `A run of ${counted(steps.length, "step")} was loaded.`);
+  return steps;
+}
+
+function play(explanation) {
+  const { verdict, initial, cycle_from: cycleFrom, sentence } = explanation;
+  const hasRun = initial !== null;
+  const steps = hasRun ? stepsOf(explanation) : [];
+  const edges = new Set(steps.map((step) => edgeKey(step.from, step.action, step.outcome)));
+  Object.assign(witness, { start: initial ?? 0, steps, edges });
+  const parts = [typeof verdict === "string" ? `Verdict: ${verdict}.` : "", sentence ?? ""];
+  if (Number.isInteger(cycleFrom)) parts.push(`It repeats from step ${cycleFrom + 1} on.`);
+  if (!hasRun) parts.push("No run shows this verdict.");
+  byId("sentence").textContent = parts.filter((part) => part !== "").join(" ");
+  if (hasRun) begin(initial, [...steps], `A run of ${counted(steps.length, "step")} was loaded.`);
+  else render("An explanation without a run was loaded.");
 }
 
 function tryToPlay(read) {
@@ -276,10 +302,10 @@ function showState() {
   show("gone", ...(gone.length === 0 ? [] : [title, make("ul", {}, ...gone)]));
 }
 
-const fluentItem = (fluent, added) =>
-  added.includes(fluent)
-    ? marked("added", "+", "became true", fluent)
-    : make("li", { class: "name" }, fluentName(fluent));
+function fluentItem(fluent, added) {
+  if (added.includes(fluent)) return marked("added", "+", "became true", fluent);
+  return make("li", { class: "name" }, fluentName(fluent));
+}
 
 function showChoices() {
   const at = current();
@@ -310,9 +336,12 @@ function outcomeItems(at, choice, nextKey) {
 }
 
 function outcomeItem(at, choice, step, key) {
-  const names = { type: "button", class: "outcome", "aria-keyshortcuts": key < 10 && key };
+  const isNext = isWitness() && isOnWitness(at, step[0], step[1]);
+  const kind = kinds("outcome", isNext && "witness");
+  const names = { type: "button", class: kind, "aria-keyshortcuts": key < 10 && key };
   const sign = key < 10 ? [make("kbd", { class: "key" }, key)] : [];
-  const text = `outcome ${step[1]}: ${changeText(at, step[2])}`;
+  const also = isNext ? ` ${WITNESS} on the run that was loaded` : "";
+  const text = `outcome ${step[1]}: ${changeText(at, step[2])}${also}`;
   const button = make("button", { ...names, onclick: () => take(choice, step) }, ...sign, text);
   return make("li", {}, button);
 }
@@ -323,9 +352,10 @@ function showRun() {
   const hidden = Math.max(0, run.steps.length - MOST_LISTED);
   const items = run.steps.slice(hidden).map(({ from, to, action, outcome }, i) => {
     const text = `${data.actions[action]} outcome ${outcome}: ${changeText(from, to)}`;
-    return stepItem(hidden + i + 1, text);
+    const isMarked = run.start === witness.start && isOnWitness(from, action, outcome);
+    return stepItem(hidden + i + 1, text, isMarked);
   });
-  items.unshift(stepItem(0, `initial state ${run.start}: ${stateText(run.start)}`));
+  items.unshift(stepItem(0, `initial state ${run.start}: ${stateText(run.start)}`, false));
   if (hidden > 0) items[1].value = hidden + 1;
   show("steps", ...items);
   byId("steps").scrollTop = byId("steps").scrollHeight;
@@ -336,161 +366,13 @@ function showRun() {
     other < 0 ? "" : `mbp replay takes another rule at step ${other + 1}, the first that matches.`;
 }
 
-function stepItem(length, text) {
+function stepItem(length, text, isMarked) {
   const isHere = length === run.steps.length;
-  const mark = { class: isHere ? "plain here" : "plain", "aria-current": isHere && "step" };
+  const kind = kinds("plain", isHere && "here", isMarked && "witness");
+  const mark = { class: kind, "aria-current": isHere && "step" };
   const button = { type: "button", ...mark, onclick: () => goBack(length) };
-  return make("li", {}, make("button", button, text));
-}
-
-// ---- The map: who leads here, here, and what may come within two steps, a column each
-
-const before = nodes.map(() => []);
-nodes.forEach(({ steps }, at) => steps.forEach((step) => before[step[2]].push(at)));
-
-function columns() {
-  const here = current();
-  const seen = new Set([here]);
-  const fresh = (list) => list.filter((at) => !seen.has(at) && seen.add(at));
-  const following = (list) => fresh(list.flatMap((at) => nodes[at].steps.map((step) => step[2])));
-  const first = following([here]);
-  const second = following(first);
-  return [fresh(before[here]), [here], first, second].filter((column) => column.length > 0);
-}
-
-const view = {};
-const whole = {};
-const applyView = () =>
-  byId("drawing").setAttribute("viewBox", `${view.x} ${view.y} ${view.width} ${view.height}`);
-
-function drawMap() {
-  const places = new Map();
-  const notes = [];
-  columns().forEach((column, i) => {
-    const listed = column.slice(0, MOST_IN_COLUMN);
-    const top = (-(listed.length - 1) * SPACE) / 2;
-    listed.forEach((at, j) => places.set(at, { x: i * WIDE, y: top + j * SPACE, column: i }));
-    if (column.length > listed.length) {
-      const text = `and ${column.length - listed.length} more`;
-      notes.push(draw("text", { x: i * WIDE, y: top + listed.length * SPACE - 30 }, text));
-    }
-  });
-  const visited = new Set([run.start, ...run.steps.map((step) => step.to)]);
-  const edges = [...places.keys()].flatMap((from) => edgesFrom(from, places));
-  const shapes = [...places].map(([at, place]) => nodeShape(at, place, visited));
-  const tip = draw("path", { d: "M0 0L8 4L0 8z" });
-  const size = { refX: 7, refY: 4, markerWidth: 9, markerHeight: 9, markerUnits: "userSpaceOnUse" };
-  const arrow = draw("marker", { id: "arrow", ...size, orient: "auto" }, tip);
-  show("drawing", draw("defs", {}, arrow), ...edges, ...shapes, ...notes);
-  const ends = [...places.values()];
-  const low = Math.max(...ends.map((place) => place.y));
-  const right = Math.max(...ends.map((place) => place.x));
-  Object.assign(whole, { x: -110, y: -low - 90, width: right + 220, height: 2 * low + 180 });
-  showWhole();
-}
-
-const showWhole = () => applyView(Object.assign(view, whole));
-
-// The edges from a node, one for each other end, with the actions and outcomes in its title.
-function edgesFrom(from, places) {
-  const shown = nodes[from].steps.filter((step) => places.has(step[2]));
-  return [...grouped(shown, (step) => step[2])].map(([to, steps]) => {
-    const names = steps.map(([action, outcome]) => `${data.actions[action]} ${outcome}`);
-    const kind = from === current() ? "edge onward" : "edge";
-    const d = edgePath(places.get(from), places.get(to));
-    const title = draw("title", {}, names.join("\n"));
-    return draw("path", { class: kind, d, "marker-end": "url(#arrow)" }, title);
-  });
-}
-
-function edgePath(from, to) {
-  if (from === to) {
-    const { x, y } = from;
-    return `M${x - 18} ${y - 27}C${x - 40} ${y - 68} ${x + 40} ${y - 68} ${x + 18} ${y - 28}`;
-  }
-  if (from.column < to.column) {
-    const middle = (from.x + to.x) / 2;
-    return `M${from.x + 80} ${from.y}C${middle} ${from.y} ${middle} ${to.y} ${to.x - 82} ${to.y}`;
-  }
-  const low = Math.max(from.y, to.y) + 62;
-  const [begins, ends] = [from.x - 20, to.x + 20];
-  return `M${begins} ${from.y + 27}C${begins} ${low} ${ends} ${low} ${ends} ${to.y + 29}`;
-}
-
-function nodeShape(at, { x, y }, visited) {
-  const trouble = troubleAt(at);
-  const kinds = ["node"];
-  if (visited.has(at)) kinds.push("lit");
-  if (at === current()) kinds.push("current");
-  if (trouble !== null) kinds.push("stopped");
-  const parts = [nodeText(at)];
-  if (nodes[at].goal) parts.push("goal state");
-  if (trouble !== null) parts.push(trouble.text);
-  const label = parts.join(", ");
-  const sign = trouble === null ? "" : `${trouble.sign} `;
-  const change = at === current() ? "here" : changeText(current(), at);
-  const press = ({ key }) => key === "Enter" && stepTo(at);
-  const names = { class: kinds.join(" "), role: "link", tabindex: 0, "aria-label": label };
-  const place = { transform: `translate(${x} ${y})` };
-  return draw(
-    "g",
-    { ...names, ...place, onclick: () => stepTo(at), onkeydown: press },
-    draw("title", {}, label),
-    outline(at, trouble, 80, 27, "shape"),
-    ...(nodes[at].goal ? [outline(at, trouble, 75, 22, "inner")] : []),
-    draw("text", { y: -3 }, `${sign}#${at}${contextText(at)}`),
-    draw("text", { y: 13 }, shortened(change)),
-  );
-}
-
-const shortened = (text) => (text.length > 17 ? `${text.slice(0, 16)}\u2026` : text);
-
-function outline(at, trouble, width, height, kind) {
-  const size = { class: kind, width: 2 * width, height: 2 * height };
-  if (nodes[at].initial) return draw("rect", { ...size, x: -width, y: -height });
-  if (trouble === null) return draw("ellipse", { class: kind, rx: width, ry: height });
-  const [w, h] = [width * 0.8, height * 0.5];
-  const upper = [-width, -h, -w, -height, w, -height, width, -h];
-  const lower = [width, h, w, height, -w, height, -width, h];
-  return draw("polygon", { class: kind, points: [...upper, ...lower].join(" ") });
-}
-
-// Goes on to a node of the map; to one that isn't ahead by a run from the beginning.
-function stepTo(at) {
-  const found = path([current()], (other) => other === at);
-  if (found === null) runTo(at);
-  else if (found.steps.length > 0) goOn(found.steps, `to configuration #${at}`);
-}
-
-function zoom(factor) {
-  const { width, height } = view;
-  Object.assign(view, { width: width * factor, height: height * factor });
-  move((width * (1 - factor)) / 2, (height * (1 - factor)) / 2);
-}
-
-function move(x, y) {
-  view.x += x;
-  view.y += y;
-  applyView();
-}
-
-function listenToMap() {
-  const drawing = byId("drawing");
-  let held = null;
-  const hold = (event) => (held = { x: event.clientX, y: event.clientY });
-  drawing.addEventListener("pointerdown", hold);
-  window.addEventListener("pointermove", (event) => {
-    if (held === null) return;
-    const scale = Math.max(view.width / drawing.clientWidth, view.height / drawing.clientHeight);
-    move((held.x - event.clientX) * scale, (held.y - event.clientY) * scale);
-    hold(event);
-  });
-  window.addEventListener("pointerup", () => (held = null));
-  const turn = (event) => zoom(event.deltaY < 0 ? 0.85 : 1.18, event.preventDefault());
-  drawing.addEventListener("wheel", turn, { passive: false });
-  byId("zoom-in").addEventListener("click", () => zoom(0.8));
-  byId("zoom-out").addEventListener("click", () => zoom(1.25));
-  byId("zoom-reset").addEventListener("click", showWhole);
+  const sign = isMarked ? [make("span", { "aria-hidden": "true" }, `${WITNESS} `)] : [];
+  return make("li", {}, make("button", button, ...sign, text));
 }
 
 // ---- Search: nodes that have each word in the name of a true fluent or of an action that is taken
@@ -594,7 +476,9 @@ function listen() {
   listenToMap();
 }
 
-listen();
-render("");
-if (handed !== null) tryToPlay(() => handed);
-countAll(0, new Set(), []);
+function start() {
+  listen();
+  render("");
+  if (handed !== null) tryToPlay(() => handed);
+  countAll(0, new Set(), []);
+}

@@ -8,6 +8,9 @@ use Rattle.task_core.specs.Names.{Name}
 use Rattle.task_core.specs.Systems.{System}
 use Rattle.plan_picture.specs.Pictures.{PlainNode}
 use Rattle.plan_rules.specs.Rules.{ContextRule, PlainPlan, PlanCase, PlanNext, PlanRule, always, automaton, by_cases, table}
+use Rattle.std.specs.Prelude.{Option, None, Some}
+use Rattle.plan_picture.specs.Runs.{PlainMove}
+use Rattle.plan_page.specs.Explanations.{PlainExplanation, PlainShownRun, count_or_null, handed_data, told}
 use Rattle.plan_page.specs.Pages.{case_data, context_rule_data, count_data, cube_data, list_data, literal_data, name_data, next_data, node_data, outcomes_below, page_data, step_data, table_rule_data, true_below}
 
 -- no item of a mapped list has one where no value has
@@ -43,3 +46,19 @@ data_free fluents actions sys (table class rules) nodes =
     rw (names_free actions, names_free fluents, items_free (node_data sys.fluents) (node_free sys.fluents) nodes, items_free count_data (λ count. refl) (outcomes_below sys sys.actions), items_free table_rule_data table_rule_free rules) refl
 data_free fluents actions sys (automaton contexts rules) nodes =
     rw (names_free actions, names_free fluents, items_free (node_data sys.fluents) (node_free sys.fluents) nodes, items_free count_data (λ count. refl) (outcomes_below sys sys.actions), items_free context_rule_data context_rule_free rules) refl
+
+counts_free : (counts : List ℕ) → has_float (list_data count_data counts) ≡ false
+counts_free = items_free count_data (λ count. refl)
+
+cycle_free : (count : Option ℕ) → has_float (count_or_null count) ≡ false
+cycle_free None = refl
+cycle_free (Some count) = refl
+
+told_free : (verdict : List ℕ) (shown : Option PlainShownRun) → has_float (told verdict shown) ≡ false
+told_free verdict None = refl
+told_free verdict (Some shown) =
+    rw (cycle_free shown.run.cycle_from, counts_free (map (λ (move : PlainMove). move.outcome) shown.run.moves), counts_free (map (λ (move : PlainMove). move.rule) shown.run.moves)) refl
+
+pub handed_free : (explanation : Option PlainExplanation) → has_float (handed_data explanation) ≡ false
+handed_free None = refl
+handed_free (Some explanation) = told_free explanation.verdict explanation.shown

@@ -1,3 +1,5 @@
+pub mod Data
+pub mod Explanations
+pub mod ExplanationValues
 pub mod Frame
-pub mod Handed
 pub mod Pages

@@ -1,12 +1,11 @@
--- The text of a page: its head, the data of a plan and of its picture as JSON, a run that is handed in
--- to be played, and its tail. Fluents, actions and nodes are named by their numbers, which are their
+-- The text of a page: its head, the data of a plan and of its picture as JSON, an explanation that is
+-- handed in to be played, and its tail. Fluents, actions and nodes are named by their numbers, which are their
 -- places in the lists of the data. An object has its members in the order of their keys.
-use Rattle.std.specs.Prelude.{ℕ, zero, suc, ◌==◌, ◌||◌, Bool, List, [], ◌∷◌, ◌++◌, codes, map}
+use Rattle.std.specs.Prelude.{ℕ, zero, suc, ◌==◌, ◌||◌, Bool, List, [], ◌∷◌, ◌++◌, Option, codes}
 use Rattle.std.specs.Prelude.{if◌then◌else◌}
 use Rattle.std.specs.List.{flat_map}
-use Rattle.serde_json.specs.Data.{Data, array, boolean, number, object, string, unsigned}
+use Rattle.serde_json.specs.Data.{Data, array, boolean, object, string}
 use Rattle.serde_json.specs.Data.{item, member, no_items, no_members}
-use Rattle.serde_json.specs.View.{items_of}
 use Rattle.serde_json.specs.Written.{compact_text}
 use Rattle.task_core.specs.Cubes.{Cube}
 use Rattle.task_core.specs.Names.{Name}
@@ -17,14 +16,9 @@ use Rattle.plan_picture.specs.Pictures.{PlainNode, PlainStep}
 use Rattle.plan_rules.specs.Rules.{ContextRule, PlainPlan, PlanCase, PlanNext, PlanRule, always}
 use Rattle.plan_rules.specs.Rules.{automaton, by_cases, table}
 use Rattle.plan_rules.specs.Texts.{atom_text, class_word}
+pub use Rattle.plan_page.specs.Data.{count_data, list_data}
+use Rattle.plan_page.specs.Explanations.{PlainExplanation, handed_data}
 use Rattle.plan_page.specs.Frame.{head_text, middle_text, tail_text}
-
-abbrev pub count_data : ℕ → Data
-count_data count = number (unsigned count)
-
--- an array of what each element is
-abbrev pub list_data : {X : Type 0} → (X → Data) → List X → Data
-list_data part xs = array (items_of (map part xs))
 
 -- a name as in the text of a plan, as "(at a)"
 abbrev pub name_data : Name → Data
@@ -138,15 +132,14 @@ escaped_byte byte =
 abbrev pub escaped : List ℕ → List ℕ
 escaped = flat_map escaped_byte
 
--- a page with these data, and with this run
+-- a page with these data, and with what it is handed
 abbrev pub framed_text : List ℕ → List ℕ → List ℕ
-framed_text json run = head_text ++ escaped json ++ middle_text ++ escaped run ++ tail_text
+framed_text json handed =
+    head_text ++ escaped json ++ middle_text ++ escaped handed ++ tail_text
 
--- what stands in the place of a run where none is handed in
-abbrev pub no_run : List ℕ
-no_run = codes "null"
-
--- the text of the page, to which the bytes of a run are handed in
-abbrev pub page_of : List Name → List Name → System → PlainPlan → List PlainNode → List ℕ → List ℕ
-page_of fluents actions sys plan nodes run =
-    framed_text (compact_text (page_data fluents actions sys plan nodes)) run
+-- the text of the page, which plays the explanation that it is handed, if there is one
+abbrev pub page_of : List Name → List Name → System → PlainPlan → List PlainNode
+    → Option PlainExplanation → List ℕ
+page_of fluents actions sys plan nodes explanation =
+    framed_text (compact_text (page_data fluents actions sys plan nodes))
+    (compact_text (handed_data explanation))

@@ -1,15 +1,21 @@
 //! The text of a page.
 
+ghost use Rattle.plan_page.specs.ExplanationValues.{explanation_value};
+ghost use Rattle.plan_page.specs.Explanations.{handed_data};
 ghost use Rattle.plan_page.specs.Pages.{data_object as data_of, framed_text, page_data, page_of};
 ghost use Rattle.plan_picture.specs.Values.{nodes_of};
 ghost use Rattle.plan_rules.specs.Rules.{plain_of};
 ghost use Rattle.serde_json.specs.View.{view};
-ghost use Rattle.std.specs.Prelude.{◌≡◌, IfOk};
+ghost use Rattle.serde_json.specs.Written.{compact_text};
+ghost use Rattle.std.specs.Option.{option_map};
+ghost use Rattle.std.specs.Prelude.{◌≡◌, IfOk, string_bytes};
 ghost use Rattle.task_core.specs.Tasks.{action_names, fluent_count, fluent_names, system_of};
 
 use crate::escaped::{push_escaped, push_text};
+use crate::explanations::Explanation;
 use crate::frame::{page_head, page_middle, page_tail};
 use crate::plans::plan_values;
+use crate::told::handed_value;
 use crate::values::{
     action_names as action_values, fluent_names as fluent_values, node_values, outcome_counts,
 };
@@ -19,11 +25,8 @@ use serde_json::{Map, Value, put};
 use std::alloc::{AllocError, Global};
 use task_core::Task;
 
-/// What stands in the place of a run where none is handed in.
-pub const NO_RUN: &[u8] = b"null";
-
-/// The page of a plan for a task, with the plan's picture: the text of an HTML file. The bytes of a
-/// run are played when it opens.
+/// The page of a plan for a task, with the plan's picture: the text of an HTML file. It plays the
+/// explanation that it is handed, if there is one, when it opens.
 ///
 /// The page takes the first nodes of the picture for the initial states in the order of the task's.
 pub fn page_text(
@@ -31,26 +34,51 @@ pub fn page_text(
     task: &Task,
     plan: &Plan,
     picture: &Picture,
-    run: &[u8],
+    explanation: Option<&Explanation>,
 ) -> Result<Vec<u8>, AllocError>
     ensures { IfOk result (λ text. text.items
         ≡ page_of (fluent_names task.now) (action_names task.now) (system_of task.now)
-        (plain_of plan.now) (nodes_of (fluent_count task.now) picture.now) run.now) }
+        (plain_of plan.now) (nodes_of (fluent_count task.now) picture.now)
+        (option_map (λ some. explanation_value some.now) explanation.entry)) }
 {
-    let value = page_value(alloc, task, plan, picture)?;
-    let text = value.to_string(alloc)?;
-    framed(alloc, text.as_bytes(), run)
+    let data = page_text_of_data(alloc, task, plan, picture)?;
+    let handed = handed_text(alloc, explanation)?;
+    framed(alloc, data.as_bytes(), handed.as_bytes())
 }
 
-/// A page with these data and this run.
-fn framed(alloc: Global, json: &[u8], run: &[u8]) -> Result<Vec<u8>, AllocError>
-    ensures { IfOk result (λ text. text.items ≡ framed_text json.now run.now) }
+/// The text of the data of a page.
+fn page_text_of_data(
+    alloc: Global,
+    task: &Task,
+    plan: &Plan,
+    picture: &Picture,
+) -> Result<String, AllocError>
+    ensures { IfOk result (λ text. string_bytes text
+        ≡ compact_text (page_data (fluent_names task.now) (action_names task.now)
+        (system_of task.now) (plain_of plan.now) (nodes_of (fluent_count task.now) picture.now))) }
+{
+    let value = page_value(alloc, task, plan, picture)?;
+    value.to_string(alloc)
+}
+
+/// The text of what a page is handed.
+fn handed_text(alloc: Global, explanation: Option<&Explanation>) -> Result<String, AllocError>
+    ensures { IfOk result (λ text. string_bytes text
+        ≡ compact_text (handed_data (option_map (λ some. explanation_value some.now) explanation.entry))) }
+{
+    let value = handed_value(alloc, explanation)?;
+    value.to_string(alloc)
+}
+
+/// A page with these data, and with what it is handed.
+fn framed(alloc: Global, json: &[u8], handed: &[u8]) -> Result<Vec<u8>, AllocError>
+    ensures { IfOk result (λ text. text.items ≡ framed_text json.now handed.now) }
 {
     let mut out = Vec::new(alloc);
     push_text(&mut out, page_head())?;
     push_escaped(&mut out, json)?;
     push_text(&mut out, page_middle())?;
-    push_escaped(&mut out, run)?;
+    push_escaped(&mut out, handed)?;
     push_text(&mut out, page_tail())?;
     Ok(out)
 }

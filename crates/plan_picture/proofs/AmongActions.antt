@@ -1,4 +1,4 @@
--- The actions of the rules that match a state.
+-- The steps by the actions of the rules that match a state.
 use Rattle.std.proofs.Common.{◌≡◌, ◌==◌, ◌+◌, ◌++◌, ℕ, suc, Bool, true, false, List, [], ◌∷◌, append-nil, arith, cond, refl, ap, sym, ◌∙◌}
 use Rattle.std.specs.Prelude.{◌&&◌, ◌||◌}
 use Rattle.std.specs.List.{list_any}
@@ -9,23 +9,7 @@ use Rattle.plan_rules.specs.Rules.{PlanRule}
 use Rattle.task_core.specs.ContextPlans.{Configuration}
 use Rattle.task_core.specs.Systems.{System}
 use Rattle.plan_picture.specs.Pictures.{PlainStep}
-use Rattle.plan_picture.specs.Places.{advised_actions, advised_in_table, steps_by, table_steps_below}
-
-abbrev among : List ℕ → ℕ → Bool
-among actions a = list_any (λ (other : ℕ). other == a) actions
-
--- one rule more
-more_rules : (rule : PlanRule) (rules : List PlanRule) (s : Vector) (a : ℕ) (m same : Bool) → matches rule.cube s ≡ m → (rule.action == a) ≡ same
-    → among (advised_actions rules s) a ≡ advises rules s a → among (advised_actions (rule ∷ rules) s) a ≡ advises (rule ∷ rules) s a
-more_rules rule rules s a false true is equal rest = rw (is, equal) rest
-more_rules rule rules s a false false is equal rest = rw (is, equal) rest
-more_rules rule rules s a true true is equal rest = rw (is, equal) refl
-more_rules rule rules s a true false is equal rest = rw (is, equal) rest
-
--- an action is among them where a rule that matches has it
-pub among_advised : (rules : List PlanRule) (s : Vector) (a : ℕ) → among (advised_actions rules s) a ≡ advises rules s a
-among_advised [] s a = refl
-among_advised (rule ∷ rules) s a = more_rules rule rules s a (matches rule.cube s) (rule.action == a) refl refl (among_advised rules s a)
+use Rattle.plan_picture.specs.Places.{advised_in_table, steps_by, table_steps_below}
 
 -- the steps by one action more, where some rule that matches has it, and where none does
 pub more_steps : (sys : System) (places : List Configuration) (rules : List PlanRule) (s : Vector) (k : ℕ) (old new : List PlainStep) → advises rules s k ≡ true

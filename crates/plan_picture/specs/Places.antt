@@ -2,10 +2,9 @@
 -- it makes.
 use Rattle.std.specs.Prelude.{◌≡◌, ◌↔◌, ℕ, zero, suc, Bool, ◌&&◌, ◌==◌, All, IsTrue, List, [], ◌∷◌, ◌++◌}
 use Rattle.std.specs.Prelude.{Option, Some, None, map, option_to_list, slice_get, if◌then◌else◌}
-use Rattle.std.specs.List.{Contains, flat_map, range_with_len}
+use Rattle.std.specs.List.{Contains, range_with_len}
 use Rattle.std.specs.Option.{option_map, option_and_then}
 use Rattle.task_core.specs.States.{IsWithin, vector}
-use Rattle.task_core.specs.Cubes.{matches}
 use Rattle.task_core.specs.Vectors.{Vector, same_vector}
 use Rattle.task_core.specs.Systems.{System, goal_states}
 use Rattle.task_core.specs.ContextPlans.{Configuration, first_context}
@@ -71,13 +70,6 @@ steps_if sys places s (Some advised) = steps_by sys places s advised
 -- Private: what is advised by a table that has the action; it keeps the first context
 abbrev pub advised_in_table : ℕ → Advised
 advised_in_table action = record { action = action; next = always first_context }
-
--- Private: the action of a rule that matches the state s, and the actions of all such rules
-abbrev pub action_if_matched : Vector → PlanRule → List ℕ
-action_if_matched s rule = if matches rule.cube s then rule.action ∷ [] else []
-
-abbrev pub advised_actions : List PlanRule → Vector → List ℕ
-advised_actions rules s = flat_map (action_if_matched s) rules
 
 -- Private: the steps of a table by the actions below a number
 abbrev pub table_steps_below : System → List Configuration → List PlanRule → Vector → ℕ

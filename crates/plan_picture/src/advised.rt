@@ -2,8 +2,6 @@
 
 ghost use Rattle.plan_picture.specs.Places.{
   AreWithin,
-  action_if_matched,
-  advised_actions,
   configuration_of,
   configurations_of,
   outcome_steps,
@@ -15,25 +13,30 @@ ghost use Rattle.plan_picture.specs.Places.{
 };
 ghost use Rattle.plan_picture.specs.Values.{step_value};
 ghost use Rattle.plan_rules.specs.Advices.{AreCasesOf, IsAdviceOf, advice_value, advised_by, onward_value};
-ghost use Rattle.plan_rules.specs.Denoted.{rule_at};
+ghost use Rattle.plan_rules.specs.Denoted.{advises, rule_at};
 ghost use Rattle.plan_rules.specs.Named.{NamesRule};
 ghost use Rattle.plan_rules.specs.Plans.{IsPlanOf, IsRuleOf};
 ghost use Rattle.plan_rules.specs.Rules.{context_rule_of, plain_of, rule_of};
-ghost use Rattle.std.specs.List.{list_any};
 ghost use Rattle.std.specs.Option.{option_map};
 ghost use Rattle.std.specs.Prelude.{
   ◌≡◌,
   ◌==◌,
   ◌<◌,
   ◌++◌,
+  ◌&&◌,
+  ◌||◌,
   All,
   IfOk,
   IfSome,
   OnOk,
   Some,
+  false,
   length,
   map,
+  slice_index_or,
+  ℕ,
 };
+ghost use Rattle.task_core.specs.Cubes.{matches};
 ghost use Rattle.task_core.specs.States.{IsWithin, vector};
 ghost use Rattle.task_core.specs.Systems.{Exec};
 ghost use Rattle.task_core.specs.Tasks.{action_count, fluent_count, if_state, outcomes_at, system_of};
@@ -89,10 +92,10 @@ fn table_steps(
         (configurations_of n places.now) (map rule_of rules.now) (vector n state.now)
         (action_count task.now)) }
 {
-    let advised = actions_at(alloc, task, rules, state)?;
+    let marks = marks_at(alloc, task, rules, state)?;
     let mut steps = Vec::new(alloc);
     for number in 0..task.actions.len() as u32 {
-        if is_among(&advised, number) {
+        if is_marked(&marks, number) {
             let advice = Advice {
                 action: ActionId(number),
                 onward: Onward::Always(FIRST_CONTEXT),
@@ -103,47 +106,56 @@ fn table_steps(
     Ok(steps)
 }
 
-/// The actions of the rules that match the state, in the order of the rules.
-fn actions_at(
+/// Marks of the actions that some rule has which matches the state.
+fn marks_at(
     alloc: Global,
     task: &Task,
     rules: &[Rule],
     state: &State,
-) -> Result<Vec<u32>, AllocError>
+) -> Result<Vec<bool>, AllocError>
     requires in_task { let n = fluent_count task.now in let m = action_count task.now in
         All (λ rule. IsRuleOf n m (rule_of rule)) rules.now }
-    ensures { IfOk result (λ actions. actions.items
-        ≡ advised_actions (map rule_of rules.now) (vector (fluent_count task.now) state.now)) }
+    ensures count { IfOk result (λ marks. length marks.items ≡ action_count task.now) }
+    ensures marks { IfOk result (λ marks. (a : ℕ) → a < action_count task.now
+        → slice_index_or marks.items a false
+        ≡ advises (map rule_of rules.now) (vector (fluent_count task.now) state.now) a) }
 {
-    let mut actions = Vec::new(alloc);
+    let mut marks = no_marks(alloc, task)?;
     for rule in rules {
-        push_action(&mut actions, task, rule, state)?;
+        mark_action(&mut marks, task, rule, state);
     }
-    Ok(actions)
+    Ok(marks)
 }
 
-/// Appends the action of the rule, if it matches the state.
-fn push_action(
-    actions: &mut Vec<u32>,
-    task: &Task,
-    rule: &Rule,
-    state: &State,
-) -> Result<(), AllocError>
+/// No marks.
+fn no_marks(alloc: Global, task: &Task) -> Result<Vec<bool>, AllocError>
+    ensures count { IfOk result (λ marks. length marks.items ≡ action_count task.now) }
+    ensures none { IfOk result (λ marks. (a : ℕ) → a < action_count task.now
+        → slice_index_or marks.items a false ≡ false) }
+{
+    vec![in alloc; false; task.actions.len()]
+}
+
+/// Marks the action of the rule, if it matches the state.
+fn mark_action(marks: &mut Vec<bool>, task: &Task, rule: &Rule, state: &State)
     requires in_task { IsRuleOf (fluent_count task.now) (action_count task.now) (rule_of rule.now) }
-    ensures { OnOk result (actions.new.items ≡ actions.old.items
-        ++ action_if_matched (vector (fluent_count task.now) state.now) (rule_of rule.now)) }
+    requires count { length marks.old.items ≡ action_count task.now }
+    ensures count { length marks.new.items ≡ action_count task.now }
+    ensures marks { (a : ℕ) → a < action_count task.now → slice_index_or marks.new.items a false
+        ≡ (slice_index_or marks.old.items a false || ((rule.now.action.0 == a)
+        && matches (rule_of rule.now).cube (vector (fluent_count task.now) state.now))) }
 {
     if has_all(task, &rule.cube, state) {
-        actions.push(rule.action.0)?;
+        marks[rule.action.0 as usize] = true;
     }
-    Ok(())
 }
 
-/// Whether the action is among these.
-fn is_among(actions: &[u32], action: u32) -> bool
-    ensures { result ≡ list_any (λ other. other == action) actions.now }
+/// Whether an action has a mark.
+fn is_marked(marks: &[bool], action: u32) -> bool
+    requires { action < length marks.now }
+    ensures { result ≡ slice_index_or marks.now action false }
 {
-    actions.iter().any(|other| *other == action)
+    marks[action as usize]
 }
 
 /// What the rule of an automaton says that counts in a configuration: the first of the context that

@@ -18,3 +18,6 @@ returns-in-Some-clause-fetches g c = λ asked says.
 
 pub returns-in-Some-clause-no_fetch : goal.returns-in-Some-clause-no_fetch
 returns-in-Some-clause-no_fetch g c = λ nothing. absurd (nothing (picture_words_of c.in-Some.asked) c.in-Some.ensures)
+
+pub returns-in-None-clause-fetches : goal.returns-in-None-clause-fetches
+returns-in-None-clause-fetches g c = λ asked says. absurd (c.in-None.ensures asked says)

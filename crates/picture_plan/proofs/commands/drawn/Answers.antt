@@ -16,12 +16,13 @@ returns-then-is_blank c =
       ap refused c.in_ok-no_initial-in-Ok.ensures,
     ))))
 
-pub returns-in_ok-text-in-Ok : goal.returns-in_ok-text-in-Ok
-returns-in_ok-text-in-Ok c =
+pub returns-else-is_blank : goal.returns-else-is_blank
+returns-else-is_blank c =
     let n = fluent_count c.args.wanted.now.task.now in
     let picture = c.in-Ok.picture in
     let some : length picture.nodes.items ≡ 0 → ⊥ = search rules in
-    inr (inr (inr (inr (
-      shows_some (system_of c.args.wanted.now.task.now) (plain_of c.args.wanted.now.plan.now) (nodes_of n picture) c.in-Ok.ensures.picture (some_nodes (node_value n) picture.nodes.items some),
-      record { nodes = nodes_of n picture; picture = c.in-Ok.ensures.picture; shown = search rules },
-    ))))
+    let there = shows_some (system_of c.args.wanted.now.task.now) (plain_of c.args.wanted.now.plan.now) (nodes_of n picture) c.in-Ok.ensures.picture (some_nodes (node_value n) picture.nodes.items some) in
+    elim c.shown_picture.ensures [
+      | inl memory ↦ inl memory
+      | inr shows ↦ inr (inr (inr (inr (there, record { nodes = nodes_of n picture; picture = c.in-Ok.ensures.picture; shown = shows }))))
+    ]

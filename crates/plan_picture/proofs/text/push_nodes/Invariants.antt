@@ -1,9 +1,7 @@
-use Rattle.std.proofs.Common.{◌≡◌, ◌++◌, map, take}
-use Rattle.task_core.specs.Tasks.{fluent_count, fluent_names}
-use Rattle.plan_picture.specs.Values.{node_value}
-use Rattle.plan_picture.specs.Texts.{node_line, numbered}
+use Rattle.std.proofs.Common.{◌≡◌, ◌++◌, take}
+use Rattle.plan_picture.specs.Labels.{line_of_node}
+use Rattle.plan_picture.specs.Texts.{numbered}
 use Rattle.plan_picture.proofs.text.push_nodes.Given as goal
 
 abbrev pub invariant-loop-i : goal.invariant-loop-i
-invariant-loop-i l =
-    l.out.items ≡ l.fn.out.items ++ numbered (node_line l.is_told (fluent_names l.task)) 0 (map (node_value (fluent_count l.task)) (take l.i l.nodes))
+invariant-loop-i l = l.out.items ≡ l.fn.out.items ++ numbered (line_of_node l.shown) 0 (take l.i l.nodes)
