@@ -1,0 +1,4 @@
+pub mod Runs
+pub mod Tried
+pub mod Whys
+pub mod Words
