@@ -8,6 +8,7 @@ ghost use Rattle.command_base.specs.Values.{answer_of, bytes_of, kind_of, plan_w
 ghost use Rattle.command_base.specs.Words.{IsNodeLimit, kind_word as word_of, of_class};
 ghost use Rattle.pddl_ast.specs.Values.{domain_value, problem_value};
 ghost use Rattle.plan_command.specs.PlanCommand.{MayBeTooFew, PlanThen};
+ghost use Rattle.why_plan.specs.Lines.{files_end, problem_end};
 ghost use Rattle.why_plan.specs.Tried.{HasSaid, HasTried};
 ghost use Rattle.why_plan.specs.Whys.{
   IsAsPlanned,
@@ -74,8 +75,24 @@ fn push_exists(text: &mut Vec<u8>, asked: &PlanWords) -> Result<(), AllocError>
 {
     text.extend_from_slice(b"a plan exists: mbp plan ")?;
     text.extend_from_slice(kind_word(asked.kind).as_bytes())?;
+    push_files(text, asked)
+}
+
+/// Appends both files, and the end of the line.
+fn push_files(text: &mut Vec<u8>, asked: &PlanWords) -> Result<(), AllocError>
+    ensures { OnOk result (text.new.items
+        ≡ text.old.items ++ files_end (plan_words_of asked.now)) }
+{
     text.extend_from_slice(b" ")?;
     text.extend_from_slice(asked.domain.as_bytes())?;
+    push_problem(text, asked)
+}
+
+/// Appends the problem's file, and the end of the line.
+fn push_problem(text: &mut Vec<u8>, asked: &PlanWords) -> Result<(), AllocError>
+    ensures { OnOk result (text.new.items
+        ≡ text.old.items ++ problem_end (plan_words_of asked.now)) }
+{
     text.extend_from_slice(b" ")?;
     text.extend_from_slice(asked.problem.as_bytes())?;
     text.extend_from_slice(b"\n")
