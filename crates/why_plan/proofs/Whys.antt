@@ -1,8 +1,12 @@
 -- From what follows the reading of both files to the answer.
-use Rattle.std.proofs.Common.{◌≡◌, ◌⊎◌, ◌++◌, ◌∷◌, [], Bool, List, inl, inr, refl, sym, subst, ap, ◌∙◌, append_assoc, None, Some, true, false}
+use Rattle.std.proofs.Common.{◌≡◌, ◌⊎◌, ◌++◌, ◌∷◌, [], Bool, List, inl, inr, refl, sym, subst, ap, ◌∙◌, append_assoc, if◌then◌else◌, None, Some, true, false}
 use Rattle.std.proofs.lemmas.Bool.{false≢true}
 use Rattle.std.proofs.lemmas.List.{append-nil}
 use Rattle.std.specs.List.{Contains}
+use Rattle.std.specs.Prelude.{IfSome, OnOk, Option, Result, Ok, Err, String, Vec, string_bytes, ℕ}
+use Rattle.std.specs.Result.{is_ok}
+use Rattle.std.specs.declared.alloc.Global.{Global}
+use Rattle.std.specs.String.{string_vec}
 use Rattle.pddl_ast.specs.Trees.{DomainTree, ProblemTree}
 use Rattle.pddl_system.specs.Sizes.{first_passed}
 use Rattle.pddl_system.specs.Systems.{system}
@@ -48,7 +52,7 @@ pub after_why : (held : Bytes → Held) (failed : Bytes → Type 0) (asked : Pla
     → (a ≡ refused no_memory) ⊎ IsWhyAnswer held failed asked a
 after_why held failed asked d p a both (inl memory) = inl memory
 after_why held failed asked d p a both (inr (inl (few, is))) = inr (inl (record { domain = d; problem = p; both = both; few = few }, is))
-after_why held failed asked d p a both (inr (inr then)) = inr (inr (inr (d, both.holds_domain, inr (p, both.holds_problem, then))))
+after_why held failed asked d p a both (inr (inr next)) = inr (inr (inr (d, both.holds_domain, inr (p, both.holds_problem, next))))
 
 -- once the goal and the limits are found to be as they are wanted, what follows is the answer
 pub why_then : (asked : PlanWords) (d : DomainTree) (p : ProblemTree) (a : Answer) → has_goal_for asked.kind p ≡ true → first_passed d p ≡ None
@@ -56,7 +60,7 @@ pub why_then : (asked : PlanWords) (d : DomainTree) (p : ProblemTree) (a : Answe
     → (a ≡ refused no_memory) ⊎ (MayBeTooFew asked d p × (a ≡ refused (full asked.options.nodes))) ⊎ IsWhy asked d p a
 why_then asked d p a goal within (inl memory) = inl memory
 why_then asked d p a goal within (inr (inl few)) = inr (inl few)
-why_then asked d p a goal within (inr (inr then)) = inr (inr (inr (goal, inr (within, then))))
+why_then asked d p a goal within (inr (inr next)) = inr (inr (inr (goal, inr (within, next))))
 
 -- what is said for the answer of `plan`
 pub planned_then : (asked : PlanWords) (d : DomainTree) (p : ProblemTree) (a : Answer)
@@ -128,6 +132,17 @@ tried_refused asked d p class other refusal text planned same is why =
     refuses (inr (inl (few, full_is))) = inr (inl (few, same_refusal (sym is ∙ full_is)))
     refuses (inr (inr judged)) = inr (inr (subst (λ (x : Answer). PlanThen other d p x) is judged))
 
+-- no class is left
+pub said_of_none : (asked : PlanWords) (d : DomainTree) (p : ProblemTree) (classes : List Class) (text : Bytes) → classes ≡ [] → HasSaid asked d p classes text text
+said_of_none asked d p [] text is = ([], sym (append-nil text), none_left)
+said_of_none asked d p (class ∷ more) text is = cc is
+
+-- two pieces that are added in turn
+pub joined : {T E : Type 0} (r : Result T E) (before mid end first second word : Bytes) → mid ≡ before ++ first → end ≡ (if is_ok r then mid ++ second else mid) → second ≡ word → OnOk r (end ≡ before ++ (first ++ word))
+joined (Ok done) before mid end first second word is next same =
+    next ∙ ap (λ xs. xs ++ second) is ∙ append_assoc before first second ∙ ap (λ xs. before ++ (first ++ xs)) same
+joined (Err e) before mid end first second word is next same = tt
+
 -- one class after another
 pub said_of_one : (asked : PlanWords) (d : DomainTree) (p : ProblemTree) (class : Class) (before after : Bytes) (more : Bool)
     → HasTried asked d p class before after more → HasSaid asked d p (class ∷ []) before after
@@ -143,9 +158,9 @@ said_of_first asked d p class rest before after false e (added, is, said) = (add
 pub said_of_more : (asked : PlanWords) (d : DomainTree) (p : ProblemTree) (class : Class) (rest : List Class) (before between after : Bytes) (more : Bool)
     → more ≡ true → HasTried asked d p class before between more → HasSaid asked d p rest between after → HasSaid asked d p (class ∷ rest) before after
 said_of_more asked d p class rest before between after false e tried said = absurd (false≢true e)
-said_of_more asked d p class rest before between after true e (added, is, (text, judged, same)) (further, then, said) =
+said_of_more asked d p class rest before between after true e (added, is, (text, judged, same)) (further, next, said) =
     (none_line (of_class class) ++ further,
-    then ∙ ap (λ xs. xs ++ further) (is ∙ ap (λ xs. before ++ xs) same) ∙ append_assoc before (none_line (of_class class)) further,
+    next ∙ ap (λ xs. xs ++ further) (is ∙ ap (λ xs. before ++ xs) same) ∙ append_assoc before (none_line (of_class class)) further,
     missing class rest text further judged said)
 
 -- a goal that never holds
@@ -162,3 +177,10 @@ goal_never asked d p class task a law kind of_task never =
       why = never;
       unreached = subst IsGoalNeverReached of_task.system_is (law never.set never.least.relaxed never.goal never.wanted never.never);
     })))
+
+-- the text that was found for it, as its bytes
+pub never_found : (task : Task) (got : Option (String Global)) (text : String Global) (bytes : Vec ℕ Global) → got ≡ Some text → bytes ≡ string_vec text
+    → IfSome got (λ (t : String Global). IsNever task (denied (string_bytes t))) → IsNever task (denied bytes.items)
+never_found task got text bytes is same why =
+    subst (λ (xs : Bytes). IsNever task (denied xs)) (sym (ap (λ (v : Vec ℕ Global). v.items) same))
+    (subst (λ (f : Option (String Global)). IfSome f (λ (t : String Global). IsNever task (denied (string_bytes t)))) is why)

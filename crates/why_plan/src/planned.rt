@@ -8,7 +8,7 @@ ghost use Rattle.command_base.specs.Values.{answer_of, bytes_of, kind_of, plan_w
 ghost use Rattle.command_base.specs.Words.{IsNodeLimit, kind_word as word_of, of_class};
 ghost use Rattle.pddl_ast.specs.Values.{domain_value, problem_value};
 ghost use Rattle.plan_command.specs.PlanCommand.{MayBeTooFew, PlanThen};
-ghost use Rattle.why_plan.specs.Lines.{files_end, problem_end};
+ghost use Rattle.why_plan.specs.Lines.{files_end, problem_end, question};
 ghost use Rattle.why_plan.specs.Tried.{HasSaid, HasTried};
 ghost use Rattle.why_plan.specs.Whys.{
   IsAsPlanned,
@@ -73,9 +73,16 @@ fn push_exists(text: &mut Vec<u8>, asked: &PlanWords) -> Result<(), AllocError>
     ensures { OnOk result (text.new.items
         ≡ text.old.items ++ exists_line (plan_words_of asked.now)) }
 {
-    text.extend_from_slice(b"a plan exists: mbp plan ")?;
-    text.extend_from_slice(kind_word(asked.kind).as_bytes())?;
+    push_question(text, asked.kind)?;
     push_files(text, asked)
+}
+
+/// Appends what comes before both files.
+fn push_question(text: &mut Vec<u8>, kind: PlanKind) -> Result<(), AllocError>
+    ensures { OnOk result (text.new.items ≡ text.old.items ++ question (kind_of kind)) }
+{
+    text.extend_from_slice(b"a plan exists: mbp plan ")?;
+    text.extend_from_slice(kind_word(kind).as_bytes())
 }
 
 /// Appends both files, and the end of the line.
@@ -134,12 +141,55 @@ fn none_text(alloc: Global, asked: &PlanWords, read: &Read<'_>) -> Result<Text, 
 {
     let mut text = Vec::new(alloc);
     push_none(&mut text, asked.kind)?;
-    match asked.kind {
-        PlanKind::Class(Class::Strong) => push_after_strong(alloc, asked, read, &mut text)?,
-        PlanKind::Class(Class::Cyclic) => push_weak(alloc, asked, read, &mut text)?,
-        PlanKind::Class(Class::Weak) | PlanKind::Contexts => {}
-    }
+    push_weaker(alloc, asked, read, &mut text)?;
     Ok(Text::Made(text))
+}
+
+/// Appends what there is of weaker classes.
+fn push_weaker(
+    alloc: Global,
+    asked: &PlanWords,
+    read: &Read<'_>,
+    text: &mut Vec<u8>,
+) -> Result<(), AllocError>
+    requires room { IsNodeLimit asked.now.options.nodes }
+    requires goal { has_goal_for (kind_of asked.now.kind) (problem_value read.now.problem.now)
+        ≡ true }
+    requires grounded { IsGroundedOf (domain_value read.now.domain.now)
+        (problem_value read.now.problem.now) read.now.grounded.now }
+    ensures { let asked = plan_words_of asked.now in
+        let domain = domain_value read.now.domain.now in
+        let problem = problem_value read.now.problem.now in
+        OnOk result (HasSaid asked domain problem (weaker asked.kind)
+        text.old.items text.new.items) }
+{
+    match asked.kind {
+        PlanKind::Class(class) => push_weaker_than(alloc, asked, read, class, text),
+        PlanKind::Contexts => Ok(()),
+    }
+}
+
+/// Appends what there is of the classes that are weaker than one.
+fn push_weaker_than(
+    alloc: Global,
+    asked: &PlanWords,
+    read: &Read<'_>,
+    class: Class,
+    text: &mut Vec<u8>,
+) -> Result<(), AllocError>
+    requires room { IsNodeLimit asked.now.options.nodes }
+    requires goal { has_goal_for (of_class class) (problem_value read.now.problem.now) ≡ true }
+    requires grounded { IsGroundedOf (domain_value read.now.domain.now)
+        (problem_value read.now.problem.now) read.now.grounded.now }
+    ensures { OnOk result (HasSaid (plan_words_of asked.now) (domain_value read.now.domain.now)
+        (problem_value read.now.problem.now) (weaker (of_class class))
+        text.old.items text.new.items) }
+{
+    match class {
+        Class::Strong => push_after_strong(alloc, asked, read, text),
+        Class::Cyclic => push_weak(alloc, asked, read, text),
+        Class::Weak => Ok(()),
+    }
 }
 
 /// Appends what there is of the classes that are weaker than strong.
