@@ -1,16 +1,16 @@
 //! The program `mbp_explain`: its words, the real files and the standard streams, handed to
-//! `explain_plan::explain`.
+//! `explain_top::explain_words`.
 #![tactic(auto)]
 
 use answer_help::KeepingShelf;
 use command_base::{NO_MEMORY, command_words};
-use explain_plan::explain;
+use explain_top::explain_words;
 use plan_io::{DiskShelf, StdSink};
 use std::io;
 use std::process::ExitCode;
 
 fn main(rt: HostRuntime) -> ExitCode {
-    match explain_words(&rt) {
+    match run_words(&rt) {
         Ok(status) => ExitCode::from(status),
         Err(_) => ExitCode::from(NO_MEMORY),
     }
@@ -18,10 +18,10 @@ fn main(rt: HostRuntime) -> ExitCode {
 
 /// Does what the program's words say, and gives the exit status. Fails only where memory runs out,
 /// and then nothing is written.
-fn explain_words(rt: &HostRuntime) -> io::Result<u8> {
+fn run_words(rt: &HostRuntime) -> io::Result<u8> {
     let words = command_words(rt)?;
     let mut shelf = KeepingShelf::new(rt.alloc(), DiskShelf::new(rt));
     let mut out = StdSink::new(rt.stdout());
     let mut err = StdSink::new(rt.stderr());
-    Ok(explain(rt.alloc(), &words, &mut shelf, &mut out, &mut err))
+    Ok(explain_words(rt.alloc(), &words, &mut shelf, &mut out, &mut err))
 }

@@ -1,0 +1,7 @@
+//! The commands of `mbp_explain`: the words say whether a plan is to be explained, or why there is
+//! none.
+#![tactic(auto)]
+
+mod top;
+
+pub use top::explain_words;

@@ -1,0 +1,5 @@
+pub mod Lines
+pub mod Runs
+pub mod Tried
+pub mod Whys
+pub mod Words
