@@ -28,28 +28,28 @@ pub fn explain_words<S: Shelf, O: Sink, E: Sink>(
     requires { kept_in shelf.old ≡ [] }
     ensures why { (asked : AskedPlan) → SaysWhy (map string_bytes words.now) asked
         → HasWhy (held_by S.held) (faults_by S.faults) (KeepsAfter S.held S.fetched) (record {
-      words = map string_bytes words.now;
-      handed = tt;
-      shelf = shelf.old;
-      shelf_after = shelf.new;
-      out = seen (O.written out.old) (O.faults out.old);
-      out_after = seen (O.written out.new) (O.faults out.new);
-      err = seen (E.written err.old) (E.faults err.old);
-      err_after = seen (E.written err.new) (E.faults err.new);
-      status = result;
-    }) }
+          words = map string_bytes words.now;
+          handed = tt;
+          shelf = shelf.old;
+          shelf_after = shelf.new;
+          out = seen (O.written out.old) (O.faults out.old);
+          out_after = seen (O.written out.new) (O.faults out.new);
+          err = seen (E.written err.old) (E.faults err.old);
+          err_after = seen (E.written err.new) (E.faults err.new);
+          status = result;
+        }) }
     ensures explain { AskNothing (map string_bytes words.now)
         → HasExplained (held_by S.held) (faults_by S.faults) (KeepsAfter S.held S.fetched) (record {
-      words = map string_bytes words.now;
-      handed = tt;
-      shelf = shelf.old;
-      shelf_after = shelf.new;
-      out = seen (O.written out.old) (O.faults out.old);
-      out_after = seen (O.written out.new) (O.faults out.new);
-      err = seen (E.written err.old) (E.faults err.old);
-      err_after = seen (E.written err.new) (E.faults err.new);
-      status = result;
-    }) }
+          words = map string_bytes words.now;
+          handed = tt;
+          shelf = shelf.old;
+          shelf_after = shelf.new;
+          out = seen (O.written out.old) (O.faults out.old);
+          out_after = seen (O.written out.new) (O.faults out.new);
+          err = seen (E.written err.old) (E.faults err.old);
+          err_after = seen (E.written err.new) (E.faults err.new);
+          status = result;
+        }) }
 {
     if says_why(words) {
         why(alloc, words, shelf, out, err)

@@ -1,5 +1,5 @@
 -- From an answer to a run.
-use Rattle.std.proofs.Common.{◌≡◌, ◌≤◌, ℕ, List, [], ◌∷◌, inl, inr, refl, sym, subst, ap, ◌∙◌, codes}
+use Rattle.std.proofs.Common.{◌≡◌, ◌≤◌, ℕ, List, [], ◌∷◌, inl, inr, sym, subst, codes}
 use Rattle.std.specs.Prelude.{⊤}
 use Rattle.plan_io.specs.Fetches.{FetchesNothing, MayFetch}
 use Rattle.plan_io.specs.Held.{Held}
@@ -7,7 +7,7 @@ use Rattle.command_base.specs.Answers.{Answer}
 use Rattle.command_base.specs.Faults.{IsQuietAt}
 use Rattle.command_base.specs.Fetching.{FetchesBoth, HoldsDomain}
 use Rattle.command_base.specs.Frame.{FailedIn}
-use Rattle.command_base.specs.Words.{Bytes, Command, PlanWords, plan}
+use Rattle.command_base.specs.Words.{Bytes, PlanWords, plan}
 use Rattle.command_base.proofs.Frames.{IsGivenFor}
 use Rattle.command_base.proofs.OneCommand.{one_command}
 use Rattle.answer_help.specs.Helped.{IsHelpFor, IsHelpedDelivery}

@@ -9,25 +9,24 @@ use Rattle.std.specs.declared.alloc.Global.{Global}
 use Rattle.std.specs.String.{string_vec}
 use Rattle.pddl_ast.specs.Trees.{DomainTree, ProblemTree}
 use Rattle.pddl_system.specs.Sizes.{first_passed}
-use Rattle.pddl_system.specs.Systems.{system}
 use Rattle.plan_io.specs.Held.{Held}
 use Rattle.command_base.specs.Answers.{Answer, Refusal, affirmed, denied, full, no_memory, refused}
 use Rattle.command_base.specs.Grounded.{IsTaskOf}
 use Rattle.command_base.specs.Grounding.{has_goal_for}
 use Rattle.command_base.specs.PddlTexts.{HoldBoth, ReadBoth}
-use Rattle.command_base.specs.Words.{Bytes, PlanKind, PlanWords, of_class}
+use Rattle.command_base.specs.Words.{Bytes, PlanWords, of_class}
 use Rattle.plan_command.specs.PlanCommand.{MayBeTooFew, PlanThen}
 use Rattle.relaxed_reach.specs.Literals.{LiteralSet, can_be}
 use Rattle.relaxed_reach.specs.Reached.{IsReachable}
 use Rattle.relaxed_reach.specs.Relaxed.{IsRelaxed}
-use Rattle.task_core.specs.Systems.{System, goal_states}
+use Rattle.task_core.specs.Systems.{goal_states}
 use Rattle.task_core.specs.Tasks.{system_of}
 use Rattle.task_core.specs.Vectors.{Vector}
 use Rattle.task_core.specs.declared.classes.Class.{Class}
 use Rattle.task_core.specs.declared.conditions.Cond.{Cond}
 use Rattle.task_core.specs.declared.tasks.Task.{Task}
 use Rattle.why_plan.specs.Tried.{HasSaid, HasTried}
-use Rattle.why_plan.specs.Whys.{IsAsPlanned, IsGoalNever, IsGoalNeverReached, IsNever, IsSaidOf, IsWhy, IsWhyAnswer, MayRefuse, WhyThen, asked_for, exists_line, found, missing, none_left, none_line, unknown, weaker}
+use Rattle.why_plan.specs.Whys.{IsAsPlanned, IsGoalNeverReached, IsNever, IsWhy, IsWhyAnswer, MayRefuse, WhyThen, asked_for, exists_line, found, missing, none_left, none_line, unknown, weaker}
 
 not_affirmed : {refusal : Refusal} (text : Bytes) → affirmed text ≡ refused refusal → ⊥
 not_affirmed text is = cc is
@@ -116,9 +115,11 @@ pub tried_denied : (asked : PlanWords) (d : DomainTree) (p : ProblemTree) (class
     → after ≡ before ++ none_line other.kind → HasTried asked d p class before after true
 tried_denied asked d p class other text before after planned same is (inl memory) e = absurd (not_denied text (sym is ∙ memory))
 tried_denied asked d p class other text before after planned same is (inr (inl (few, full_is))) e = absurd (not_denied text (sym is ∙ full_is))
-tried_denied asked d p class other text before after planned same is (inr (inr judged)) e =
-    (none_line (of_class class), e ∙ ap (λ (w : PlanWords). before ++ none_line w.kind) same,
-    (text, subst (λ (w : PlanWords). PlanThen w d p (denied text)) same (subst (λ (x : Answer). PlanThen other d p x) is judged), refl))
+tried_denied asked d p class other text before after planned same is (inr (inr judged)) e = (
+  none_line (of_class class),
+  e ∙ ap (λ (w : PlanWords). before ++ none_line w.kind) same,
+  (text, subst (λ (w : PlanWords). PlanThen w d p (denied text)) same (subst (λ (x : Answer). PlanThen other d p x) is judged), refl),
+)
 
 pub tried_refused : (asked : PlanWords) (d : DomainTree) (p : ProblemTree) (class : Class) (other : PlanWords) (refusal : Refusal) (text : Bytes) (planned : Answer)
     → other ≡ asked_for asked class → planned ≡ refused refusal
@@ -158,10 +159,11 @@ said_of_first asked d p class rest before after false e (added, is, said) = (add
 pub said_of_more : (asked : PlanWords) (d : DomainTree) (p : ProblemTree) (class : Class) (rest : List Class) (before between after : Bytes) (more : Bool)
     → more ≡ true → HasTried asked d p class before between more → HasSaid asked d p rest between after → HasSaid asked d p (class ∷ rest) before after
 said_of_more asked d p class rest before between after false e tried said = absurd (false≢true e)
-said_of_more asked d p class rest before between after true e (added, is, (text, judged, same)) (further, next, said) =
-    (none_line (of_class class) ++ further,
-    next ∙ ap (λ xs. xs ++ further) (is ∙ ap (λ xs. before ++ xs) same) ∙ append_assoc before (none_line (of_class class)) further,
-    missing class rest text further judged said)
+said_of_more asked d p class rest before between after true e (added, is, (text, judged, same)) (further, next, said) = (
+  none_line (of_class class) ++ further,
+  next ∙ ap (λ xs. xs ++ further) (is ∙ ap (λ xs. before ++ xs) same) ∙ append_assoc before (none_line (of_class class)) further,
+  missing class rest text further judged said,
+)
 
 -- a goal that never holds
 pub goal_never : (asked : PlanWords) (d : DomainTree) (p : ProblemTree) (class : Class) (task : Task) (a : Answer)

@@ -20,9 +20,7 @@ ghost use Rattle.why_plan.specs.Words.{AskNothing, SaysWhy};
 use crate::never::never_reached;
 use crate::planned::{Read, said_for};
 use crate::words::read_words;
-use command_base::{
-    PlanKind, PlanWords, Refusal, Shown, Text, check_goal, ground_both, read_both,
-};
+use command_base::{PlanKind, PlanWords, Refusal, Shown, Text, check_goal, ground_both, read_both};
 use ground_task::Grounded;
 use pddl_ast::{Domain, Problem};
 use plan_io::Shelf;

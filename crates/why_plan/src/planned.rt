@@ -34,11 +34,7 @@ pub(crate) struct Read<'a> {
 }
 
 /// What is said for the answer of `plan`.
-pub(crate) fn said_for(
-    alloc: Global,
-    asked: &PlanWords,
-    read: &Read<'_>,
-) -> Result<Shown, Refusal>
+pub(crate) fn said_for(alloc: Global, asked: &PlanWords, read: &Read<'_>) -> Result<Shown, Refusal>
     requires room { IsNodeLimit asked.now.options.nodes }
     requires goal { has_goal_for (kind_of asked.now.kind) (problem_value read.now.problem.now)
         ≡ true }
