@@ -36,10 +36,7 @@ function drawMap() {
   const visited = new Set([run.start, ...run.steps.map((step) => step.to)]);
   const edges = [...places.keys()].flatMap((from) => edgesFrom(from, places));
   const shapes = [...places].map(([at, place]) => nodeShape(at, place, visited));
-  const tip = draw("path", { d: "M0 0L8 4L0 8z" });
-  const size = { refX: 7, refY: 4, markerWidth: 9, markerHeight: 9, markerUnits: "userSpaceOnUse" };
-  const arrow = draw("marker", { id: "arrow", ...size, orient: "auto" }, tip);
-  show("drawing", draw("defs", {}, arrow), ...edges, ...shapes, ...notes);
+  show("drawing", ...edges, ...shapes, ...notes);
   const ends = [...places.values()];
   const low = Math.max(...ends.map((place) => place.y));
   const right = Math.max(...ends.map((place) => place.x));
@@ -52,7 +49,7 @@ const showWhole = () => applyView(Object.assign(view, whole));
 // The edges from a node, one for each other end, with the actions and outcomes in its title.
 function edgesFrom(from, places) {
   const shown = nodes[from].steps.filter((step) => places.has(step[2]));
-  return [...grouped(shown, (step) => step[2])].map(([to, steps]) => {
+  return [...Map.groupBy(shown, (step) => step[2])].map(([to, steps]) => {
     const names = steps.map(([action, outcome]) => `${data.actions[action]} ${outcome}`);
     const isMarked = steps.some(([action, outcome]) => isOnWitness(from, action, outcome));
     const kind = kinds("edge", from === current() && "onward", isMarked && "witness");
@@ -79,35 +76,25 @@ function edgePath(from, to) {
 function nodeShape(at, { x, y }, visited) {
   const trouble = troubleAt(at);
   const isHere = at === current();
-  const isStopped = trouble !== null;
-  const kind = kinds("node", visited.has(at) && "lit", isHere && "current", isStopped && "stopped");
-  const parts = [nodeText(at)];
-  if (nodes[at].goal) parts.push("goal state");
-  if (trouble !== null) parts.push(trouble.text);
-  const label = parts.join(", ");
-  const sign = trouble === null ? "" : `${trouble.sign} `;
+  const { goal } = nodes[at];
+  const kind = kinds("node", visited.has(at) && "lit", isHere && "current", trouble && "stopped");
+  const label = joined([nodeText(at), goal && "goal state", trouble?.text], ", ");
   const change = isHere ? "here" : changeText(current(), at);
-  const press = ({ key }) => key === "Enter" && stepTo(at);
-  const names = { class: kind, role: "link", tabindex: 0, "aria-label": label };
-  const place = { transform: `translate(${x} ${y})` };
-  const children = [draw("title", {}, label), outline(at, trouble, 80, 27, "shape")];
-  if (nodes[at].goal) children.push(outline(at, trouble, 75, 22, "inner"));
-  children.push(draw("text", { y: -3 }, `${sign}#${at}${contextText(at)}`));
+  const children = [draw("title", {}, label), outline(at, 80, 27, "shape")];
+  if (goal) children.push(outline(at, 75, 22, "inner"));
+  children.push(draw("text", { y: -3 }, kinds(trouble?.sign, `#${at}${contextText(at)}`)));
   children.push(draw("text", { y: 13 }, shortened(change)));
-  const listeners = { onclick: () => stepTo(at), onkeydown: press };
-  return draw("g", { ...names, ...place, ...listeners }, ...children);
+  const onclick = () => stepTo(at);
+  const onkeydown = ({ key }) => key === "Enter" && onclick();
+  const names = { class: kind, role: "link", tabindex: 0, "aria-label": label, onclick, onkeydown };
+  return draw("g", { ...names, transform: `translate(${x} ${y})` }, ...children);
 }
 
 const shortened = (text) => (text.length > 17 ? `${text.slice(0, 16)}\u2026` : text);
 
-function outline(at, trouble, width, height, kind) {
-  const size = { class: kind, width: 2 * width, height: 2 * height };
-  if (nodes[at].initial) return draw("rect", { ...size, x: -width, y: -height });
-  if (trouble === null) return draw("ellipse", { class: kind, rx: width, ry: height });
-  const [w, h] = [width * 0.8, height * 0.5];
-  const upper = [-width, -h, -w, -height, w, -height, width, -h];
-  const lower = [width, h, w, height, -w, height, -width, h];
-  return draw("polygon", { class: kind, points: [...upper, ...lower].join(" ") });
+function outline(at, width, height, kind) {
+  const size = { width: 2 * width, height: 2 * height, rx: nodes[at].initial ? 0 : height };
+  return draw("rect", { class: kind, x: -width, y: -height, ...size });
 }
 
 // Goes on to a node of the map; to one that isn't ahead by a run from the beginning.
@@ -132,14 +119,13 @@ function move(x, y) {
 function listenToMap() {
   const drawing = byId("drawing");
   let held = null;
-  const hold = (event) => (held = { x: event.clientX, y: event.clientY });
-  drawing.addEventListener("pointerdown", hold);
+  drawing.addEventListener("pointerdown", (event) => (held = event));
   window.addEventListener("pointermove", (event) => {
     if (held === null) return;
     const { clientWidth: width, clientHeight: height } = drawing;
     const scale = Math.max(view.width / width, view.height / height);
-    move((held.x - event.clientX) * scale, (held.y - event.clientY) * scale);
-    hold(event);
+    move((held.clientX - event.clientX) * scale, (held.clientY - event.clientY) * scale);
+    held = event;
   });
   window.addEventListener("pointerup", () => (held = null));
   const turn = (event) => zoom(event.deltaY < 0 ? 0.85 : 1.18, event.preventDefault());

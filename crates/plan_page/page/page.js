@@ -1,10 +1,9 @@
 "use strict";
 
 // The data: names of fluents and actions, how many outcomes each action has, the rules of the plan,
-// and a node for each configuration (a state with a context) that the plan may reach. Places in
-// these lists are the numbers by which all else speaks of them. The first nodes are the initial
-// states, in the order in which `mbp replay` counts them. And the explanation that was handed in, or
-// null.
+// and a node for each configuration (a state with a context) that the plan may reach: first the
+// initial states, as `mbp replay` counts them. Places in these lists are the numbers by which all
+// else speaks of them. And the explanation that was handed in, or null.
 const data = JSON.parse(document.getElementById("data").textContent);
 const handed = JSON.parse(document.getElementById("handed").textContent);
 const { nodes, rules } = data;
@@ -19,7 +18,8 @@ const MOST_FOUND = 50;
 
 const byId = (id) => document.getElementById(id);
 const show = (id, ...children) => byId(id).replaceChildren(...children);
-const kinds = (...names) => names.filter(Boolean).join(" ");
+const joined = (parts, between) => parts.filter(Boolean).join(between);
+const kinds = (...names) => joined(names, " ");
 const counted = (count, word) => `${count} ${word}${count === 1 ? "" : "s"}`;
 
 function fill(element, attributes, children) {
@@ -36,23 +36,10 @@ const make = (tag, attributes, ...children) =>
 const draw = (tag, attributes, ...children) =>
   fill(document.createElementNS("http://www.w3.org/2000/svg", tag), attributes, children);
 
-function grouped(items, keyOf) {
-  const groups = new Map();
-  for (const item of items) {
-    const key = keyOf(item);
-    if (!groups.has(key)) groups.set(key, []);
-    groups.get(key).push(item);
-  }
-  return groups;
-}
-
 // ---- The plan
 
-const fluentCount = data.fluents.length;
-const truths = new Uint8Array(nodes.length * fluentCount);
-nodes.forEach((node, at) => node.true.forEach((fluent) => (truths[at * fluentCount + fluent] = 1)));
-
-const isTrue = (at, fluent) => truths[at * fluentCount + fluent] === 1;
+const truths = nodes.map((node) => new Set(node.true));
+const isTrue = (at, fluent) => truths[at].has(fluent);
 const matches = (literals, at) => literals.every(([fluent, value]) => isTrue(at, fluent) === value);
 
 const fluentName = (fluent) => data.fluents[fluent];
@@ -126,8 +113,10 @@ const run = { start: 0, steps: [] };
 const isInitial = (number) => Number.isInteger(number) && nodes[number]?.initial === true;
 const current = () => (run.steps.length === 0 ? run.start : run.steps.at(-1).to);
 
+const edgeKey = (from, action, outcome) => `${from} ${action} ${outcome}`;
 const madeStep = (from, choice, [action, outcome, to]) => {
-  return { from, to, action, outcome, isFirst: choice === choicesAt(from)[0] };
+  const isFirst = choice === choicesAt(from)[0];
+  return { from, to, action, outcome, isFirst, key: edgeKey(from, action, outcome) };
 };
 
 function begin(start, steps, news) {
@@ -158,13 +147,11 @@ const onward = (at, all) =>
 // The shortest steps from one of the first nodes to one that is wanted, or null.
 function shortest(firsts, isWanted, all) {
   const before = new Map(firsts.map((at) => [at, null]));
-  const queue = [...firsts];
-  for (let i = 0; i < queue.length; i++) {
-    if (isWanted(queue[i])) return stepsBack(before, queue[i]);
-    for (const step of onward(queue[i], all)) {
-      if (before.has(step.to)) continue;
-      before.set(step.to, step);
-      queue.push(step.to);
+  // Nodes that are added meanwhile are visited, too.
+  for (const at of before.keys()) {
+    if (isWanted(at)) return stepsBack(before, at);
+    for (const step of onward(at, all)) {
+      if (!before.has(step.to)) before.set(step.to, step);
     }
   }
   return null;
@@ -212,15 +199,11 @@ function runTo(at) {
 
 const WITNESS = "\u25c6";
 const witness = { start: 0, steps: [], edges: new Set() };
-const edgeKey = (from, action, outcome) => `${from} ${action} ${outcome}`;
 const isOnWitness = (from, action, outcome) => witness.edges.has(edgeKey(from, action, outcome));
 
 // Whether the run that is shown is the witness up to here.
 const isWitness = () =>
-  run.start === witness.start && run.steps.length <= witness.steps.length &&
-  run.steps.every((step, i) => isSameStep(step, witness.steps[i]));
-const isSameStep = (a, b) =>
-  a.from === b.from && a.action === b.action && a.outcome === b.outcome;
+  run.start === witness.start && run.steps.every(({ key }, i) => key === witness.steps[i]?.key);
 
 // The steps of an explanation: its rules and outcomes are numbers from 0. Where the rules are
 // missing, the first rule that matches is taken.
@@ -243,12 +226,12 @@ function play(explanation) {
   const { verdict, initial, cycle_from: cycleFrom, sentence } = explanation;
   const hasRun = initial !== null;
   const steps = hasRun ? stepsOf(explanation) : [];
-  const edges = new Set(steps.map((step) => edgeKey(step.from, step.action, step.outcome)));
+  const edges = new Set(steps.map((step) => step.key));
   Object.assign(witness, { start: initial ?? 0, steps, edges });
-  const parts = [typeof verdict === "string" ? `Verdict: ${verdict}.` : "", sentence ?? ""];
-  if (Number.isInteger(cycleFrom)) parts.push(`It repeats from step ${cycleFrom + 1} on.`);
-  if (!hasRun) parts.push("No run shows this verdict.");
-  byId("sentence").textContent = parts.filter((part) => part !== "").join(" ");
+  const told = typeof verdict === "string" && `Verdict: ${verdict}.`;
+  const round = Number.isInteger(cycleFrom) && `It repeats from step ${cycleFrom + 1} on.`;
+  const missing = !hasRun && "No run shows this verdict.";
+  byId("sentence").textContent = joined([told, sentence, round, missing], " ");
   if (hasRun) begin(initial, [...steps], `A run of ${counted(steps.length, "step")} was loaded.`);
   else render("An explanation without a run was loaded.");
 }
@@ -284,14 +267,12 @@ function marked(kind, sign, word, fluent) {
 
 function showState() {
   const at = current();
-  const last = run.steps.at(-1);
-  const { added, removed } = last ? changes(last.from, at) : { added: [], removed: [] };
-  const marks = [`Configuration #${at}`];
-  if (!isTable) marks.push(`context ${nodes[at].context} of ${data.contexts}`);
-  if (nodes[at].initial) marks.push("initial state");
-  if (nodes[at].goal) marks.push("goal state");
-  show("place", marks.join(", "));
-  const groups = grouped(nodes[at].true, (fluent) => predicate(fluentName(fluent)));
+  const { added, removed } = changes(run.steps.at(-1)?.from ?? at, at);
+  const { context, initial, goal } = nodes[at];
+  const turn = !isTable && `context ${context} of ${data.contexts}`;
+  const marks = [`Configuration #${at}`, turn, initial && "initial state", goal && "goal state"];
+  show("place", joined(marks, ", "));
+  const groups = Map.groupBy(nodes[at].true, (fluent) => predicate(fluentName(fluent)));
   const shown = [...groups].flatMap(([key, fluents]) => [
     make("h3", {}, key),
     make("ul", {}, ...fluents.map((fluent) => fluentItem(fluent, added))),
@@ -466,10 +447,9 @@ function listen() {
   byId("goal").addEventListener("click", runToGoal);
   byId("copy").addEventListener("click", copyRecord);
   byId("query").addEventListener("input", (event) => search(event.target.value));
-  byId("witness").addEventListener("change", async (event) => {
-    const text = (await event.target.files[0]?.text()) ?? "";
-    tryToPlay(() => JSON.parse(text));
-  });
+  byId("witness").addEventListener("change", ({ target }) =>
+    target.files[0]?.text().then((text) => tryToPlay(() => JSON.parse(text))),
+  );
   document.addEventListener("keydown", onKey);
   const names = [...data.fluents, ...data.actions].slice(0, MOST_LISTED);
   show("names", ...names.map((name) => make("option", { value: name })));

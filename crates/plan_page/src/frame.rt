@@ -249,7 +249,7 @@ svg [tabindex]:focus-visible {
   stroke-width: 3.5;
   stroke-dasharray: 9 4;
 }
-#drawing marker path {
+marker path {
   fill: context-stroke;
 }
 #start {
@@ -315,8 +315,9 @@ svg [tabindex]:focus-visible {
 <button type="button" id="zoom-out" aria-label="Zoom out">&minus;</button>
 <button type="button" id="zoom-reset">Whole map</button>
 </p>
+<svg class="hidden" aria-hidden="true"><marker id="arrow" refX="7" refY="4" markerWidth="9" markerHeight="9" markerUnits="userSpaceOnUse" orient="auto"><path d="M0 0L8 4L0 8z"/></marker></svg>
 <svg id="drawing" role="group" aria-label="Configurations within two steps"></svg>
-<p class="legend">Thick border: here. Box: initial. Double border: goal. Filled: on this run. Thick dashed arrow: on the run that was loaded, which &ldquo;&#9670;&rdquo; marks in the lists. Octagon with &ldquo;!&rdquo;: stuck. Octagon with &ldquo;&times;&rdquo;: the action can't be executed. Drag to move, turn the wheel to zoom.</p>
+<p class="legend">Thick border: here. Box: initial. Double border: goal. Filled: on this run. Thick dashed arrow: on the run that was loaded, which &ldquo;&#9670;&rdquo; marks in the lists. Dashed with &ldquo;!&rdquo;: stuck. Dashed with &ldquo;&times;&rdquo;: the action can't be executed. Drag to move, turn the wheel to zoom.</p>
 </section>
 <section id="search" aria-labelledby="search-title">
 <h2 id="search-title">Search</h2>
@@ -338,10 +339,9 @@ const TAIL: &str = r##"</script>
 "use strict";
 
 // The data: names of fluents and actions, how many outcomes each action has, the rules of the plan,
-// and a node for each configuration (a state with a context) that the plan may reach. Places in
-// these lists are the numbers by which all else speaks of them. The first nodes are the initial
-// states, in the order in which `mbp replay` counts them. And the explanation that was handed in, or
-// null.
+// and a node for each configuration (a state with a context) that the plan may reach: first the
+// initial states, as `mbp replay` counts them. Places in these lists are the numbers by which all
+// else speaks of them. And the explanation that was handed in, or null.
 const data = JSON.parse(document.getElementById("data").textContent);
 const handed = JSON.parse(document.getElementById("handed").textContent);
 const { nodes, rules } = data;
@@ -356,7 +356,8 @@ const MOST_FOUND = 50;
 
 const byId = (id) => document.getElementById(id);
 const show = (id, ...children) => byId(id).replaceChildren(...children);
-const kinds = (...names) => names.filter(Boolean).join(" ");
+const joined = (parts, between) => parts.filter(Boolean).join(between);
+const kinds = (...names) => joined(names, " ");
 const counted = (count, word) => `${count} ${word}${count === 1 ? "" : "s"}`;
 
 function fill(element, attributes, children) {
@@ -373,23 +374,10 @@ const make = (tag, attributes, ...children) =>
 const draw = (tag, attributes, ...children) =>
   fill(document.createElementNS("http://www.w3.org/2000/svg", tag), attributes, children);
 
-function grouped(items, keyOf) {
-  const groups = new Map();
-  for (const item of items) {
-    const key = keyOf(item);
-    if (!groups.has(key)) groups.set(key, []);
-    groups.get(key).push(item);
-  }
-  return groups;
-}
-
 // ---- The plan
 
-const fluentCount = data.fluents.length;
-const truths = new Uint8Array(nodes.length * fluentCount);
-nodes.forEach((node, at) => node.true.forEach((fluent) => (truths[at * fluentCount + fluent] = 1)));
-
-const isTrue = (at, fluent) => truths[at * fluentCount + fluent] === 1;
+const truths = nodes.map((node) => new Set(node.true));
+const isTrue = (at, fluent) => truths[at].has(fluent);
 const matches = (literals, at) => literals.every(([fluent, value]) => isTrue(at, fluent) === value);
 
 const fluentName = (fluent) => data.fluents[fluent];
@@ -463,8 +451,10 @@ const run = { start: 0, steps: [] };
 const isInitial = (number) => Number.isInteger(number) && nodes[number]?.initial === true;
 const current = () => (run.steps.length === 0 ? run.start : run.steps.at(-1).to);
 
+const edgeKey = (from, action, outcome) => `${from} ${action} ${outcome}`;
 const madeStep = (from, choice, [action, outcome, to]) => {
-  return { from, to, action, outcome, isFirst: choice === choicesAt(from)[0] };
+  const isFirst = choice === choicesAt(from)[0];
+  return { from, to, action, outcome, isFirst, key: edgeKey(from, action, outcome) };
 };
 
 function begin(start, steps, news) {
@@ -495,13 +485,11 @@ const onward = (at, all) =>
 // The shortest steps from one of the first nodes to one that is wanted, or null.
 function shortest(firsts, isWanted, all) {
   const before = new Map(firsts.map((at) => [at, null]));
-  const queue = [...firsts];
-  for (let i = 0; i < queue.length; i++) {
-    if (isWanted(queue[i])) return stepsBack(before, queue[i]);
-    for (const step of onward(queue[i], all)) {
-      if (before.has(step.to)) continue;
-      before.set(step.to, step);
-      queue.push(step.to);
+  // Nodes that are added meanwhile are visited, too.
+  for (const at of before.keys()) {
+    if (isWanted(at)) return stepsBack(before, at);
+    for (const step of onward(at, all)) {
+      if (!before.has(step.to)) before.set(step.to, step);
     }
   }
   return null;
@@ -549,15 +537,11 @@ function runTo(at) {
 
 const WITNESS = "\u25c6";
 const witness = { start: 0, steps: [], edges: new Set() };
-const edgeKey = (from, action, outcome) => `${from} ${action} ${outcome}`;
 const isOnWitness = (from, action, outcome) => witness.edges.has(edgeKey(from, action, outcome));
 
 // Whether the run that is shown is the witness up to here.
 const isWitness = () =>
-  run.start === witness.start && run.steps.length <= witness.steps.length &&
-  run.steps.every((step, i) => isSameStep(step, witness.steps[i]));
-const isSameStep = (a, b) =>
-  a.from === b.from && a.action === b.action && a.outcome === b.outcome;
+  run.start === witness.start && run.steps.every(({ key }, i) => key === witness.steps[i]?.key);
 
 // The steps of an explanation: its rules and outcomes are numbers from 0. Where the rules are
 // missing, the first rule that matches is taken.
@@ -580,12 +564,12 @@ function play(explanation) {
   const { verdict, initial, cycle_from: cycleFrom, sentence } = explanation;
   const hasRun = initial !== null;
   const steps = hasRun ? stepsOf(explanation) : [];
-  const edges = new Set(steps.map((step) => edgeKey(step.from, step.action, step.outcome)));
+  const edges = new Set(steps.map((step) => step.key));
   Object.assign(witness, { start: initial ?? 0, steps, edges });
-  const parts = [typeof verdict === "string" ? `Verdict: ${verdict}.` : "", sentence ?? ""];
-  if (Number.isInteger(cycleFrom)) parts.push(`It repeats from step ${cycleFrom + 1} on.`);
-  if (!hasRun) parts.push("No run shows this verdict.");
-  byId("sentence").textContent = parts.filter((part) => part !== "").join(" ");
+  const told = typeof verdict === "string" && `Verdict: ${verdict}.`;
+  const round = Number.isInteger(cycleFrom) && `It repeats from step ${cycleFrom + 1} on.`;
+  const missing = !hasRun && "No run shows this verdict.";
+  byId("sentence").textContent = joined([told, sentence, round, missing], " ");
   if (hasRun) begin(initial, [...steps], `A run of ${counted(steps.length, "step")} was loaded.`);
   else render("An explanation without a run was loaded.");
 }
@@ -621,14 +605,12 @@ function marked(kind, sign, word, fluent) {
 
 function showState() {
   const at = current();
-  const last = run.steps.at(-1);
-  const { added, removed } = last ? changes(last.from, at) : { added: [], removed: [] };
-  const marks = [`Configuration #${at}`];
-  if (!isTable) marks.push(`context ${nodes[at].context} of ${data.contexts}`);
-  if (nodes[at].initial) marks.push("initial state");
-  if (nodes[at].goal) marks.push("goal state");
-  show("place", marks.join(", "));
-  const groups = grouped(nodes[at].true, (fluent) => predicate(fluentName(fluent)));
+  const { added, removed } = changes(run.steps.at(-1)?.from ?? at, at);
+  const { context, initial, goal } = nodes[at];
+  const turn = !isTable && `context ${context} of ${data.contexts}`;
+  const marks = [`Configuration #${at}`, turn, initial && "initial state", goal && "goal state"];
+  show("place", joined(marks, ", "));
+  const groups = Map.groupBy(nodes[at].true, (fluent) => predicate(fluentName(fluent)));
   const shown = [...groups].flatMap(([key, fluents]) => [
     make("h3", {}, key),
     make("ul", {}, ...fluents.map((fluent) => fluentItem(fluent, added))),
@@ -803,10 +785,9 @@ function listen() {
   byId("goal").addEventListener("click", runToGoal);
   byId("copy").addEventListener("click", copyRecord);
   byId("query").addEventListener("input", (event) => search(event.target.value));
-  byId("witness").addEventListener("change", async (event) => {
-    const text = (await event.target.files[0]?.text()) ?? "";
-    tryToPlay(() => JSON.parse(text));
-  });
+  byId("witness").addEventListener("change", ({ target }) =>
+    target.files[0]?.text().then((text) => tryToPlay(() => JSON.parse(text))),
+  );
   document.addEventListener("keydown", onKey);
   const names = [...data.fluents, ...data.actions].slice(0, MOST_LISTED);
   show("names", ...names.map((name) => make("option", { value: name })));
@@ -857,10 +838,7 @@ function drawMap() {
   const visited = new Set([run.start, ...run.steps.map((step) => step.to)]);
   const edges = [...places.keys()].flatMap((from) => edgesFrom(from, places));
   const shapes = [...places].map(([at, place]) => nodeShape(at, place, visited));
-  const tip = draw("path", { d: "M0 0L8 4L0 8z" });
-  const size = { refX: 7, refY: 4, markerWidth: 9, markerHeight: 9, markerUnits: "userSpaceOnUse" };
-  const arrow = draw("marker", { id: "arrow", ...size, orient: "auto" }, tip);
-  show("drawing", draw("defs", {}, arrow), ...edges, ...shapes, ...notes);
+  show("drawing", ...edges, ...shapes, ...notes);
   const ends = [...places.values()];
   const low = Math.max(...ends.map((place) => place.y));
   const right = Math.max(...ends.map((place) => place.x));
@@ -873,7 +851,7 @@ const showWhole = () => applyView(Object.assign(view, whole));
 // The edges from a node, one for each other end, with the actions and outcomes in its title.
 function edgesFrom(from, places) {
   const shown = nodes[from].steps.filter((step) => places.has(step[2]));
-  return [...grouped(shown, (step) => step[2])].map(([to, steps]) => {
+  return [...Map.groupBy(shown, (step) => step[2])].map(([to, steps]) => {
     const names = steps.map(([action, outcome]) => `${data.actions[action]} ${outcome}`);
     const isMarked = steps.some(([action, outcome]) => isOnWitness(from, action, outcome));
     const kind = kinds("edge", from === current() && "onward", isMarked && "witness");
@@ -900,35 +878,25 @@ function edgePath(from, to) {
 function nodeShape(at, { x, y }, visited) {
   const trouble = troubleAt(at);
   const isHere = at === current();
-  const isStopped = trouble !== null;
-  const kind = kinds("node", visited.has(at) && "lit", isHere && "current", isStopped && "stopped");
-  const parts = [nodeText(at)];
-  if (nodes[at].goal) parts.push("goal state");
-  if (trouble !== null) parts.push(trouble.text);
-  const label = parts.join(", ");
-  const sign = trouble === null ? "" : `${trouble.sign} `;
+  const { goal } = nodes[at];
+  const kind = kinds("node", visited.has(at) && "lit", isHere && "current", trouble && "stopped");
+  const label = joined([nodeText(at), goal && "goal state", trouble?.text], ", ");
   const change = isHere ? "here" : changeText(current(), at);
-  const press = ({ key }) => key === "Enter" && stepTo(at);
-  const names = { class: kind, role: "link", tabindex: 0, "aria-label": label };
-  const place = { transform: `translate(${x} ${y})` };
-  const children = [draw("title", {}, label), outline(at, trouble, 80, 27, "shape")];
-  if (nodes[at].goal) children.push(outline(at, trouble, 75, 22, "inner"));
-  children.push(draw("text", { y: -3 }, `${sign}#${at}${contextText(at)}`));
+  const children = [draw("title", {}, label), outline(at, 80, 27, "shape")];
+  if (goal) children.push(outline(at, 75, 22, "inner"));
+  children.push(draw("text", { y: -3 }, kinds(trouble?.sign, `#${at}${contextText(at)}`)));
   children.push(draw("text", { y: 13 }, shortened(change)));
-  const listeners = { onclick: () => stepTo(at), onkeydown: press };
-  return draw("g", { ...names, ...place, ...listeners }, ...children);
+  const onclick = () => stepTo(at);
+  const onkeydown = ({ key }) => key === "Enter" && onclick();
+  const names = { class: kind, role: "link", tabindex: 0, "aria-label": label, onclick, onkeydown };
+  return draw("g", { ...names, transform: `translate(${x} ${y})` }, ...children);
 }
 
 const shortened = (text) => (text.length > 17 ? `${text.slice(0, 16)}\u2026` : text);
 
-function outline(at, trouble, width, height, kind) {
-  const size = { class: kind, width: 2 * width, height: 2 * height };
-  if (nodes[at].initial) return draw("rect", { ...size, x: -width, y: -height });
-  if (trouble === null) return draw("ellipse", { class: kind, rx: width, ry: height });
-  const [w, h] = [width * 0.8, height * 0.5];
-  const upper = [-width, -h, -w, -height, w, -height, width, -h];
-  const lower = [width, h, w, height, -w, height, -width, h];
-  return draw("polygon", { class: kind, points: [...upper, ...lower].join(" ") });
+function outline(at, width, height, kind) {
+  const size = { width: 2 * width, height: 2 * height, rx: nodes[at].initial ? 0 : height };
+  return draw("rect", { class: kind, x: -width, y: -height, ...size });
 }
 
 // Goes on to a node of the map; to one that isn't ahead by a run from the beginning.
@@ -953,14 +921,13 @@ function move(x, y) {
 function listenToMap() {
   const drawing = byId("drawing");
   let held = null;
-  const hold = (event) => (held = { x: event.clientX, y: event.clientY });
-  drawing.addEventListener("pointerdown", hold);
+  drawing.addEventListener("pointerdown", (event) => (held = event));
   window.addEventListener("pointermove", (event) => {
     if (held === null) return;
     const { clientWidth: width, clientHeight: height } = drawing;
     const scale = Math.max(view.width / width, view.height / height);
-    move((held.x - event.clientX) * scale, (held.y - event.clientY) * scale);
-    hold(event);
+    move((held.clientX - event.clientX) * scale, (held.clientY - event.clientY) * scale);
+    held = event;
   });
   window.addEventListener("pointerup", () => (held = null));
   const turn = (event) => zoom(event.deltaY < 0 ? 0.85 : 1.18, event.preventDefault());
