@@ -7,6 +7,7 @@ pub mod Judged
 pub mod Laws
 pub mod Runs
 pub mod SetRoom
+pub mod Sought
 pub mod Values
 pub mod Words
 pub mod WrongWords
