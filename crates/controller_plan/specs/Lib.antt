@@ -1,6 +1,7 @@
 pub mod Controllers
 pub mod FairControllers
 pub mod FairJudged
+pub mod FairSought
 pub mod FairWords
 pub mod Followed
 pub mod Judged

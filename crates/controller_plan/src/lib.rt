@@ -19,6 +19,7 @@
 mod commands;
 mod context_searches;
 mod fair;
+mod fair_controllers;
 mod fair_search;
 mod fair_words;
 mod followed;
