@@ -58,7 +58,7 @@ use Rattle.plan_command.specs.GoalSets.{goal_sets}
 use Rattle.plan_command.specs.PlanCommand.{no_plan_text}
 use Rattle.controller_plan.specs.FairControllers.{FairThen, HasLongFairText, IsFairAnswer, IsFairController, IsFairResult, IsFairShown, IsTried, MeetsFairly, fair_goal_of, fair_sets, most_fair_parts}
 use Rattle.controller_plan.specs.FairJudged.{HasLongFairly, IsFairlyFound, IsFairlyMade, IsFairlyRefused, IsFairlyShown, IsTranslated, LacksFairRoom, most_fair_of, with_goal}
-use Rattle.controller_plan.specs.FairSought.{FollowsFairly, IsFairMadeRefusal, IsFairShownFor, IsFairTask, wanted_fairly}
+use Rattle.controller_plan.specs.FairSought.{FollowsFairly, IsFairGoal, IsFairMadeRefusal, IsFairShownFor, IsFairTask, wanted_fairly}
 use Rattle.controller_plan.specs.FairWords.{FairWords}
 use Rattle.controller_plan.specs.Values.{fair_words_of}
 use Rattle.controller_plan.specs.declared.fair.FairSought.{FairSought}
@@ -283,6 +283,19 @@ module _ (n : ℕ) where
     few = few;
     each = all_over Named Deep (IsConditionOver n) cond_over visits.items names deep;
   }
+
+-- a task with the goal that stands for another
+pub ready_fairly : (s : FairSought) (t : FairTask) (task : Task) (made : Ctl) → t.judged.now ≡ with_goal task made → IsTranslated t.goal.now made
+    → count_of t.goal.now ≤ most_fair_of t.goal.now → IsFairGoal s task t.goal.now → IsFairTask s t
+ready_fairly s t task made is translated few of_goal =
+    let same : t.judged.now.task ≡ task = ap (λ (g : Grounded). g.task) is in
+    record {
+      of_goal = subst (λ (k : Task). IsFairGoal s k t.goal.now) (sym same) of_goal;
+      few = few;
+      made = made;
+      translated = translated;
+      judged = is ∙ ap (λ (k : Task). with_goal k made) (sym same);
+    }
 
 -- what is judged by the goal that stands for another
 module _ (s : FairSought) (t : FairTask) (ready : IsFairTask s t) (w : Wanted) (is : w ≡ wanted_fairly s t) where
