@@ -46,7 +46,8 @@ use Rattle.command_base.specs.Grounded.{IsTaskOf}
 use Rattle.command_base.specs.Grounding.{has_goal_for}
 use Rattle.command_base.specs.InitialStates.{empty_init}
 use Rattle.command_base.specs.PddlTexts.{HoldBoth}
-use Rattle.command_base.specs.Values.{answer_of, refusal_of, shown_of}
+use Rattle.command_base.specs.Values.{answer_of, kind_of, refusal_of, shown_of}
+use Rattle.pddl_ast.specs.Values.{domain_value, problem_value}
 use Rattle.command_base.specs.Words.{Bytes, IsNodeLimit, with_contexts}
 use Rattle.command_base.specs.declared.answers.Refusal.{Refusal as CodeRefusal}
 use Rattle.command_base.specs.declared.answers.Shown.{Shown}
@@ -56,8 +57,13 @@ use Rattle.plan_command.specs.GoalConditions.{HasSomeVisit, count_of, limit_of_g
 use Rattle.plan_command.specs.GoalSets.{goal_sets}
 use Rattle.plan_command.specs.PlanCommand.{no_plan_text}
 use Rattle.controller_plan.specs.FairControllers.{FairThen, HasLongFairText, IsFairAnswer, IsFairController, IsFairResult, IsFairShown, IsTried, MeetsFairly, fair_goal_of, fair_sets, most_fair_parts}
-use Rattle.controller_plan.specs.FairJudged.{HasLongFairly, IsFairlyFound, IsFairlyRefused, IsFairlyShown, IsTranslated, LacksFairRoom, most_fair_of, with_goal}
+use Rattle.controller_plan.specs.FairJudged.{HasLongFairly, IsFairlyFound, IsFairlyMade, IsFairlyRefused, IsFairlyShown, IsTranslated, LacksFairRoom, most_fair_of, with_goal}
+use Rattle.controller_plan.specs.FairSought.{FollowsFairly, IsFairGoal, IsFairMadeRefusal, IsFairShownFor, IsFairTask, wanted_fairly}
 use Rattle.controller_plan.specs.FairWords.{FairWords}
+use Rattle.controller_plan.specs.Values.{fair_words_of}
+use Rattle.controller_plan.specs.declared.fair.FairSought.{FairSought}
+use Rattle.controller_plan.specs.declared.fair_controllers.FairTask.{FairTask}
+use Rattle.controller_plan.specs.declared.made.Wanted.{Wanted}
 use Rattle.controller_plan.specs.Judged.{CanBeJudged, HasLongJudged, IsFoundGood, IsJudged, IsJudgedShown, IsMadeRefusal}
 use Rattle.controller_plan.proofs.Yes.{text_long, text_shown}
 
@@ -179,7 +185,11 @@ module _ (asked : FairWords) (d : DomainTree) (p : ProblemTree) (goal : ContextG
 
   -- what is answered where a search was made
   answered : initial_states t ≢ [] → count_of goal ≤ most_fair_of goal → (a : Answer) → IsFairResult asked d p wanted a → FairThen asked d p a
-  answered some few a result = inr (s.parts, s.is, inr (inr (inr (λ none. some (ap (λ (sys : System). sys.initial) of.system_is ∙ none), result))))
+  answered some few a result = inr (s.parts, s.is, inr (inr (inr (inr (λ none. some (ap (λ (sys : System). sys.initial) of.system_is ∙ none), result)))))
+
+  -- a controller that was found state by state
+  pub guessed_fairly : FairGoalsAreTrue → (a : Answer) → IsFairlyShown asked.json t goal a → FairThen asked d p a
+  guessed_fairly law a shown = inr (s.parts, s.is, inr (inl (shown_fairly law a shown)))
 
   pub found_fairly : FairGoalsAreTrue → initial_states t ≢ [] → count_of goal ≤ most_fair_of goal → CanBeHad (system_of t) (sets_of_goal goal) → (r : Result Shown CodeRefusal)
       → IfOk r (λ shown. IsFairlyShown asked.json t goal (shown_of shown)) → IfErr r (λ refusal. IsFairlyRefused t goal (refusal_of refusal))
@@ -187,9 +197,9 @@ module _ (asked : FairWords) (d : DomainTree) (p : ProblemTree) (goal : ContextG
   found_fairly law some few can (Ok shown) is why = inr (answered some few (shown_of shown) (inl (shown_fairly law (shown_of shown) is)))
   found_fairly law some few can (Err refusal) is why = go (refusal_of refusal) why where
     go : (r : Refusal) → IsFairlyRefused t goal r → (refused r ≡ refused no_memory) ⊎ FairThen asked d p (refused r)
-    go r (inl memory) = inl (ap refused memory)
-    go r (inr (inl limit)) = inr (answered some few (refused r) (inr (inr (codes "configurations", inl (refl, had can), ap refused limit))))
-    go r (inr (inr (long, limit))) = inr (answered some few (refused r) (inr (inr (codes "file", inr (refl, long_fairly law long), ap refused limit))))
+    go r (inl (inl memory)) = inl (ap refused memory)
+    go r (inr limit) = inr (answered some few (refused r) (inr (inr (codes "configurations", inl (refl, had can), ap refused limit))))
+    go r (inl (inr (long, limit))) = inr (answered some few (refused r) (inr (inr (codes "file", inr (refl, long_fairly law long), ap refused limit))))
 
   pub none_fairly : initial_states t ≢ [] → count_of goal ≤ most_fair_of goal → HasNoFairPlan (system_of t) (sets_of_goal goal) → (a : Answer) → a ≡ denied no_plan_text → FairThen asked d p a
   none_fairly some few none a is = answered some few a (inr (inl (record {
@@ -198,10 +208,10 @@ module _ (asked : FairWords) (d : DomainTree) (p : ProblemTree) (goal : ContextG
   })))
 
   pub empty_fairly : initial_states t ≡ [] → count_of goal ≤ most_fair_of goal → (a : Answer) → a ≡ refused (empty_init asked.problem p) → FairThen asked d p a
-  empty_fairly none few a is = inr (s.parts, s.is, inr (inr (inl (sym (ap (λ (sys : System). sys.initial) of.system_is) ∙ none, is))))
+  empty_fairly none few a is = inr (s.parts, s.is, inr (inr (inr (inl (sym (ap (λ (sys : System). sys.initial) of.system_is) ∙ none, is)))))
 
   pub full_fairly : IsFull asked.options.nodes t → count_of goal ≤ most_fair_of goal → (a : Answer) → a ≡ refused (full asked.options.nodes) → FairThen asked d p a
-  full_fairly tight few a is = inr (s.parts, s.is, inr (inl ((t, of, tight), is)))
+  full_fairly tight few a is = inr (s.parts, s.is, inr (inr (inl ((t, of, tight), is))))
 
   pub many_fairly : most_fair_of goal < count_of goal → (a : Answer) → a ≡ refused (over_limit (limit_of_goal goal)) → FairThen asked d p a
   many_fairly many a is =
@@ -274,23 +284,59 @@ module _ (n : ℕ) where
     each = all_over Named Deep (IsConditionOver n) cond_over visits.items names deep;
   }
 
+-- a task with the goal that stands for another
+pub ready_fairly : (s : FairSought) (t : FairTask) (task : Task) (made : Ctl) → t.judged.now ≡ with_goal task made → IsTranslated t.goal.now made
+    → count_of t.goal.now ≤ most_fair_of t.goal.now → IsFairGoal s task t.goal.now → IsFairTask s t
+ready_fairly s t task made is translated few of_goal =
+    let same : t.judged.now.task ≡ task = ap (λ (g : Grounded). g.task) is in
+    record {
+      of_goal = subst (λ (k : Task). IsFairGoal s k t.goal.now) (sym same) of_goal;
+      few = few;
+      made = made;
+      translated = translated;
+      judged = is ∙ ap (λ (k : Task). with_goal k made) (sym same);
+    }
+
 -- what is judged by the goal that stands for another
-pub can_be_judged : (nodes : ℕ) (t : Task) (goal : ContextGoal) (made : Ctl) (g : Grounded) → g ≡ with_goal t made → IsNodeLimit nodes → IsTranslated goal made → GoalNamesBelow (fluent_count t) goal
-    → CanBeJudged with_contexts nodes g
-can_be_judged nodes t goal made g is room translated names =
-    subst (CanBeJudged with_contexts nodes) (sym is) (record { room = room; goal = refl; names = translated_names (fluent_count t) goal made translated names })
+module _ (s : FairSought) (t : FairTask) (ready : IsFairTask s t) (w : Wanted) (is : w ≡ wanted_fairly s t) where
+  abbrev task : Task
+  task = t.judged.now.task
 
-pub fairly_shown : (json : Bool) (t : Task) (goal : ContextGoal) (made : Ctl) (g : Grounded) (a : Answer) → g ≡ with_goal t made → IsTranslated goal made → IsJudgedShown with_contexts json g a
-    → IsFairlyShown json t goal a
-fairly_shown json t goal made g a is translated shown =
-    record { made = made; translated = translated; shown = subst (λ (h : Grounded). IsJudgedShown with_contexts json h a) is shown }
+  abbrev judged : Grounded
+  judged = with_goal task ready.made
 
-pub some_fairly_shown : (json : Bool) (t : Task) (goal : ContextGoal) (made : Ctl) (g : Grounded) (found : Option Shown) (shown : Shown) → g ≡ with_goal t made → IsTranslated goal made → found ≡ Some shown
-    → IfSome found (λ s. IsJudgedShown with_contexts json g (shown_of s)) → IsFairlyShown json t goal (shown_of shown)
-some_fairly_shown json t goal made g found shown is translated some judged =
-    fairly_shown json t goal made g (shown_of shown) is translated (subst (λ (o : Option Shown). IfSome o (λ s. IsJudgedShown with_contexts json g (shown_of s))) some judged)
+  can_here : CanBeJudged with_contexts s.asked.now.nodes judged
+  can_here = record { room = ready.of_goal.room; goal = refl; names = translated_names (fluent_count task) t.goal.now ready.made ready.translated ready.of_goal.names }
 
-pub fairly_refused : (t : Task) (goal : ContextGoal) (made : Ctl) (g : Grounded) (r : Refusal) → g ≡ with_goal t made → IsTranslated goal made → IsMadeRefusal with_contexts g r → IsFairlyRefused t goal r
-fairly_refused t goal made g r is translated (inl memory) = inl memory
-fairly_refused t goal made g r is translated (inr (long, limit)) =
-    inr (inr (record { made = made; translated = translated; long = subst (HasLongJudged with_contexts) is long }, limit))
+  pub can_be_judged : CanBeJudged (kind_of w.kind) w.nodes w.grounded.now
+  can_be_judged =
+      subst (λ (x : Wanted). CanBeJudged (kind_of x.kind) x.nodes x.grounded.now) (sym is)
+      (subst (CanBeJudged with_contexts s.asked.now.nodes) (sym ready.judged) can_here)
+
+  pub fairly_shown : (r : Result (Option Shown) CodeRefusal) → IfOk r (λ found. IfSome found (λ shown. IsJudgedShown (kind_of w.kind) w.json w.grounded.now (shown_of shown)))
+      → IfOk r (λ found. IfSome found (IsFairShownFor s t))
+  fairly_shown (Ok (Some shown)) is_shown =
+      record {
+        made = ready.made;
+        translated = ready.translated;
+        shown = subst (λ (g : Grounded). IsJudgedShown with_contexts s.asked.now.json g (shown_of shown)) ready.judged
+            (subst (λ (x : Wanted). IsJudgedShown (kind_of x.kind) x.json x.grounded.now (shown_of shown)) is is_shown);
+      }
+  fairly_shown (Ok None) none = tt
+  fairly_shown (Err refusal) none = tt
+
+  made_fairly : (r : Refusal) → IsMadeRefusal with_contexts t.judged.now r → IsFairlyMade task t.goal.now r
+  made_fairly r (inl memory) = inl memory
+  made_fairly r (inr (long, limit)) =
+      inr (record { made = ready.made; translated = ready.translated; long = subst (HasLongJudged with_contexts) ready.judged long }, limit)
+
+  pub fairly_refused : (r : Result (Option Shown) CodeRefusal) → IfErr r (λ refusal. IsMadeRefusal (kind_of w.kind) w.grounded.now (refusal_of refusal)) → IfErr r (IsFairMadeRefusal t)
+  fairly_refused (Ok found) why = tt
+  fairly_refused (Err refusal) why =
+      made_fairly (refusal_of refusal) (subst (λ (x : Wanted). IsMadeRefusal (kind_of x.kind) x.grounded.now (refusal_of refusal)) is why)
+
+-- what is shown of it is an answer to the words
+pub guessed_for : FairGoalsAreTrue → (s : FairSought) (t : FairTask) → IsFairTask s t → (found : Option Shown) → IfSome found (IsFairShownFor s t) → IfSome found (FollowsFairly s)
+guessed_for law s t ready (Some shown) is =
+    inr (guessed_fairly (fair_words_of s.asked.now) (domain_value s.domain.now) (problem_value s.problem.now) t.goal.now ready.of_goal.stands t.judged.now.task ready.of_goal.of_task law (shown_of shown) is)
+guessed_for law s t ready None is = tt

@@ -37,8 +37,10 @@ found_then : (held : Bytes → Held) (asked : FairWords) (d : DomainTree) (p : P
     → FoundFor held asked a
 found_then held asked d p a both shown (inl (none, is)) = absurd (not_refused _ a is shown)
 found_then held asked d p a both shown (inr (goal, goal_is, inl (many, is))) = absurd (not_refused _ a is shown)
-found_then held asked d p a both shown (inr (goal, goal_is, inr (inl (full, is)))) = absurd (not_refused _ a is shown)
-found_then held asked d p a both shown (inr (goal, goal_is, inr (inr then))) = record {
+found_then held asked d p a both shown (inr (goal, goal_is, inr (inl guessed))) =
+    record { domain = d; problem = p; both = both; goal = goal; is = goal_is; result = inl guessed }
+found_then held asked d p a both shown (inr (goal, goal_is, inr (inr (inl (full, is))))) = absurd (not_refused _ a is shown)
+found_then held asked d p a both shown (inr (goal, goal_is, inr (inr (inr then)))) = record {
   domain = d;
   problem = p;
   both = both;

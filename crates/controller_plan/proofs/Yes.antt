@@ -20,7 +20,7 @@ use Rattle.task_core.specs.declared.classes.Class.{Class}
 use Rattle.plan_check.specs.declared.verdicts.Verdict.{Verdict}
 use Rattle.plan_check.specs.declared.verdicts.Verdict.TheVariants.{Yes, No}
 use Rattle.plan_rules.specs.Readings.{SpellsPlain}
-use Rattle.plan_rules.specs.Rules.{PlainPlan, PlanRule, automaton, table}
+use Rattle.plan_rules.specs.Rules.{PlainPlan, PlanRule, automaton, plain_of, table}
 use Rattle.task_core.specs.Names.{Name}
 use Rattle.task_core.specs.Systems.{IsSystem, System}
 use Rattle.task_core.specs.Tasks.{action_names as names_of_actions, fluent_names as names_of_fluents}
@@ -30,7 +30,8 @@ use Rattle.command_base.specs.Grounding.{has_goal_for}
 use Rattle.check_command.specs.Judged.{HasGoalIn, IsTaskVerdict}
 use Rattle.plan_meets.specs.Meets.{Meets, PlanMeets}
 use Rattle.command_base.specs.Reading.{file_limit}
-use Rattle.command_base.specs.Values.{refusal_of, shown_of}
+use Rattle.command_base.specs.Values.{kind_of, refusal_of, shown_of}
+use Rattle.pddl_ast.specs.Values.{domain_value, problem_value}
 use Rattle.command_base.specs.declared.answers.Refusal.{Refusal as CodeRefusal}
 use Rattle.command_base.specs.declared.answers.Shown.{Shown}
 use Rattle.command_base.specs.Words.{Bytes, PlanKind, of_class, with_contexts}
@@ -38,9 +39,14 @@ use Rattle.check_command.proofs.CheckAnswers.{goal_in, verdict_for}
 use Rattle.check_command.proofs.YesMeets.{YesSolves, yes_is_met}
 use Rattle.command_base.proofs.TaskNames.{same_actions, same_fluents}
 use Rattle.controller_plan.specs.Controllers.{HasLongText, IsController, IsControllerShown, run_meaning, shown_bytes, text_for}
-use Rattle.controller_plan.specs.Judged.{HasLongJudged, HasNoGraph, IsControlRefusal, IsFoundGood, IsGoodAlong, IsJudged, IsJudgedShown, IsMadeRefusal, IsRoomRefusal, IsTableGoodOnSets, bytes_as, text_over}
+use Rattle.controller_plan.specs.Judged.{CanBeJudged, HasLongJudged, HasNoGraph, IsControlRefusal, IsFoundGood, IsGoodAlong, IsJudged, IsJudgedShown, IsMadeRefusal, IsRoomRefusal, IsTableGoodOnSets, bytes_as, text_over}
 use Rattle.controller_plan.proofs.Limits.{no_room, too_much}
+use Rattle.controller_plan.specs.Sought.{IsFoundFor, IsReady, IsRefusedFor, IsShownFor, JudgedPlansControl, wanted_for}
+use Rattle.controller_plan.specs.Values.{control_words_of}
 use Rattle.controller_plan.specs.Words.{ControlWords}
+use Rattle.controller_plan.specs.declared.made.Wanted.{Wanted}
+use Rattle.controller_plan.specs.declared.sought.Found.{Found}
+use Rattle.controller_plan.specs.declared.sought.Sought.{Sought}
 
 -- what is known of rules that are good as they are run
 abbrev pub GoodRulesControl : Type 0
@@ -173,7 +179,7 @@ is_long kind g plan steps found judged is within =
     record { plan = plan; steps = steps; judged = judged; long = subst (IsTextWithin file_limit (text_over g.task plan steps)) is within }
 
 -- a plan that was judged for the task of a problem is a controller for the problem
-module _ (true_goals : GroundedGoalsAreTrue) (law : YesSolves) (control : GoodRulesControl) (asked : ControlWords) (d : DomainTree) (p : ProblemTree) (g : Grounded) (of : IsGroundedOf d p g) where
+module _ (control : JudgedPlansControl) (asked : ControlWords) (d : DomainTree) (p : ProblemTree) (g : Grounded) (of : IsGroundedOf d p g) where
   shown_controller : (a : Answer) → IsJudgedShown asked.plan.kind asked.json g a → IsControllerShown asked d p a
   shown_controller a shown =
       let text = text_shown asked.plan.kind asked.json d p g a of.of_task shown in
@@ -181,7 +187,7 @@ module _ (true_goals : GroundedGoalsAreTrue) (law : YesSolves) (control : GoodRu
         plan = shown.plan;
         steps = shown.steps;
         text = record {
-          controller = judged_controller true_goals law control asked.plan.kind d p g shown.plan of shown.judged;
+          controller = control asked.plan.kind d p g shown.plan of shown.judged;
           spelled = text.spelled;
           short = text.short;
         };
@@ -192,26 +198,61 @@ module _ (true_goals : GroundedGoalsAreTrue) (law : YesSolves) (control : GoodRu
   long_controller judged = record {
     plan = judged.plan;
     steps = judged.steps;
-    controller = judged_controller true_goals law control asked.plan.kind d p g judged.plan of judged.judged;
+    controller = control asked.plan.kind d p g judged.plan of judged.judged;
     long = text_long asked.plan.kind d p g of.of_task judged;
   }
 
-  pub made_refusal : (r : Refusal) → IsMadeRefusal asked.plan.kind g r → IsControlRefusal asked d p r
+  made_refusal : (r : Refusal) → IsMadeRefusal asked.plan.kind g r → IsControlRefusal asked d p r
   made_refusal r (inl memory) = inl memory
   made_refusal r (inr (long, is)) = inr (inl (codes "file", inr (inr (refl, inl (long_controller long))), is))
 
-  pub made_shown : (r : Result (Option Shown) CodeRefusal) → IfOk r (λ found. IfSome found (λ shown. IsJudgedShown asked.plan.kind asked.json g (shown_of shown)))
+  made_shown : (r : Result (Option Shown) CodeRefusal) → IfOk r (λ found. IfSome found (λ shown. IsJudgedShown asked.plan.kind asked.json g (shown_of shown)))
       → IfOk r (λ found. IfSome found (λ shown. IsControllerShown asked d p (shown_of shown)))
   made_shown (Ok (Some shown)) is = shown_controller (shown_of shown) is
   made_shown (Ok None) is = tt
   made_shown (Err refusal) is = tt
 
-  pub made_refused : (r : Result (Option Shown) CodeRefusal) → IfErr r (λ refusal. IsMadeRefusal asked.plan.kind g (refusal_of refusal)) → IfErr r (λ refusal. IsControlRefusal asked d p (refusal_of refusal))
+  made_refused : (r : Result (Option Shown) CodeRefusal) → IfErr r (λ refusal. IsMadeRefusal asked.plan.kind g (refusal_of refusal)) → IfErr r (λ refusal. IsControlRefusal asked d p (refusal_of refusal))
   made_refused (Ok found) is = tt
   made_refused (Err refusal) is = made_refusal (refusal_of refusal) is
 
   -- the plan that `plan` finds, of which a text may be too long, or the judge may find no room
-  pub found_refusal : (text : Bytes) (plan : PlainPlan) (r : Refusal) → PlanThen asked.plan d p (affirmed text)
+  found_refusal : (text : Bytes) (plan : PlainPlan) (r : Refusal) → PlanThen asked.plan d p (affirmed text)
       → SpellsPlain (names_of_fluents g.task) (names_of_actions g.task) text plan → IsRoomRefusal asked.plan.kind asked.plan.options.nodes g plan r → IsControlRefusal asked d p r
   found_refusal text plan r found spelled (inl why) = made_refusal r why
   found_refusal text plan r found spelled (inr (tight, is)) = no_room asked d p g.task text plan r of.of_task found spelled tight is
+
+-- the same of what is looked for
+module _ (control : JudgedPlansControl) (s : Sought) (ready : IsReady s) (w : Wanted) (is : w ≡ wanted_for s) where
+  abbrev words : ControlWords
+  words = control_words_of s.asked.now
+
+  abbrev domain : DomainTree
+  domain = domain_value s.domain.now
+
+  abbrev problem : ProblemTree
+  problem = problem_value s.problem.now
+
+  pub can_judge : CanBeJudged (kind_of w.kind) w.nodes w.grounded.now
+  can_judge =
+      subst (λ (x : Wanted). CanBeJudged (kind_of x.kind) x.nodes x.grounded.now) (sym is) (record {
+        room = ready.room;
+        goal = has_goal (kind_of s.asked.now.plan.kind) domain problem s.grounded.now ready.grounded ready.goal;
+        names = ready.grounded.names;
+      })
+
+  pub shown_for : (r : Result (Option Shown) CodeRefusal) → IfOk r (λ found. IfSome found (λ shown. IsJudgedShown (kind_of w.kind) w.json w.grounded.now (shown_of shown)))
+      → IfOk r (λ found. IfSome found (IsShownFor s))
+  shown_for r shown =
+      made_shown control words domain problem s.grounded.now ready.grounded r
+      (subst (λ (x : Wanted). IfOk r (λ found. IfSome found (λ shown. IsJudgedShown (kind_of x.kind) x.json x.grounded.now (shown_of shown)))) is shown)
+
+  pub refused_for : (r : Result (Option Shown) CodeRefusal) → IfErr r (λ refusal. IsMadeRefusal (kind_of w.kind) w.grounded.now (refusal_of refusal)) → IfErr r (IsRefusedFor s)
+  refused_for r refused =
+      made_refused control words domain problem s.grounded.now ready.grounded r
+      (subst (λ (x : Wanted). IfErr r (λ refusal. IsMadeRefusal (kind_of x.kind) x.grounded.now (refusal_of refusal))) is refused)
+
+  pub found_for : (f : Found) (r : CodeRefusal) → IsFoundFor s f → IsRoomRefusal (kind_of w.kind) w.nodes w.grounded.now (plain_of f.plan.now) (refusal_of r) → IsRefusedFor s r
+  found_for f r found room =
+      found_refusal control words domain problem s.grounded.now ready.grounded f.text.now (plain_of f.plan.now) (refusal_of r) found.by_plan found.spelled
+      (subst (λ (x : Wanted). IsRoomRefusal (kind_of x.kind) x.nodes x.grounded.now (plain_of f.plan.now) (refusal_of r)) is room)

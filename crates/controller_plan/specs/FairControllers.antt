@@ -99,11 +99,13 @@ IsFairResult asked domain problem goal answer =
     ⊎ ((name : Bytes) × IsFairLimit domain problem goal name
     × (answer ≡ refused (over_limit name)))
 
--- the table of nodes is full for the sets of the task or of the search; or it isn't, and there is no
--- initial state, or there is one and a controller is looked for
+-- a controller is shown, be the table of nodes full or not: it may be found state by state; or the table
+-- is full for the sets of the task or of the search; or it isn't, and there is no initial state, or there
+-- is one and a controller is looked for
 abbrev pub IsFairSearched : FairWords → DomainTree → ProblemTree → SetGoal → Answer → Type 0
 IsFairSearched asked domain problem goal answer =
-    (IsFullForBoth asked.options.nodes domain problem
+    IsFairShown asked domain problem goal answer
+    ⊎ (IsFullForBoth asked.options.nodes domain problem
     × (answer ≡ refused (full asked.options.nodes)))
     ⊎ InitialThen (empty_init asked.problem problem) (system domain problem).initial
     (IsFairResult asked domain problem goal) answer

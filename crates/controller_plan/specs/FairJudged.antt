@@ -63,9 +63,13 @@ pub record HasLongFairly (task : Task) (goal : ContextGoal) : Type 0 where
   pub translated : IsTranslated goal made
   pub long : HasLongJudged with_contexts (with_goal task made)
 
--- why none is shown
+-- why none is shown of a plan: want of memory, or a text that is too long
+abbrev pub IsFairlyMade : Task → ContextGoal → Refusal → Type 0
+IsFairlyMade task goal refusal =
+    (refusal ≡ no_memory)
+    ⊎ (HasLongFairly task goal × (refusal ≡ over_limit (codes "file")))
+
+-- the same of a plan that may not be judged to be good
 abbrev pub IsFairlyRefused : Task → ContextGoal → Refusal → Type 0
 IsFairlyRefused task goal refusal =
-    (refusal ≡ no_memory)
-    ⊎ (refusal ≡ over_limit (codes "configurations"))
-    ⊎ (HasLongFairly task goal × (refusal ≡ over_limit (codes "file")))
+    IsFairlyMade task goal refusal ⊎ (refusal ≡ over_limit (codes "configurations"))

@@ -13,7 +13,7 @@ ghost use Rattle.plan_rules.specs.Rules.{context_rules_of};
 ghost use Rattle.std.specs.Prelude.{◌≡◌, ◌≤◌, IfSome, IsTrue, OnOk};
 ghost use Rattle.task_core.specs.Tasks.{action_count, fluent_count};
 
-use crate::followed::Followed;
+use crate::followed::{Followed, TakerSets};
 use crate::searches::{Stop, begun, follow_plan};
 use ctl_syntax::{ContextGoal, Ctl, UntilChain, as_context_goal};
 use dd_sets::SetErr;
@@ -31,6 +31,20 @@ const MOST_STAGES: usize = 32;
 
 /// The most visits of a patrol goal.
 const MOST_VISITS: usize = 8;
+
+/// A context of a plan for so many stages, counted from 0.
+#[derive(Clone, Copy)]
+struct StageContext {
+    stages: u32,
+    number: u32,
+}
+
+/// A context, and the one in which the plan goes on.
+#[derive(Clone, Copy)]
+struct StageTurn {
+    from: StageContext,
+    next: u32,
+}
 
 /// What a plan with contexts reaches, if there is one that is looked for.
 pub(crate) fn follow_contexts(
@@ -171,8 +185,9 @@ fn follow_board(
     requires few { stages ≤ 32 }
 {
     let mut followed = begun(alloc, task)?;
-    for context in 0..stages + 1 {
-        follow_context(task, enc, board, stages, context, &mut followed)?;
+    for number in 0..stages + 1 {
+        let context = StageContext { stages, number };
+        follow_context(task, enc, board, context, &mut followed)?;
     }
     // The contexts were gone through one after another, and so not in the order of the steps.
     let mut again = begun(alloc, task)?;
@@ -186,41 +201,40 @@ fn follow_context(
     task: &Task,
     enc: &mut Enc,
     board: &mut Board,
-    stages: u32,
-    context: u32,
+    from: StageContext,
     followed: &mut Followed,
 ) -> Result<(), Stop>
-    requires table { IsTableThere task.now enc.old board.old.slots.items stages }
-    requires few { stages ≤ 32 }
-    requires context { context ≤ stages }
+    requires table { IsTableThere task.now enc.old board.old.slots.items from.stages }
+    requires few { from.stages ≤ 32 }
+    requires context { from.number ≤ from.stages }
     requires within { AreReachedWithin (fluent_count task.now) followed.old.places.items }
-    ensures table { OnOk result (IsTableThere task.now enc.new board.new.slots.items stages) }
+    ensures table { OnOk result
+        (IsTableThere task.now enc.new board.new.slots.items from.stages) }
     ensures within { OnOk result
         (AreReachedWithin (fluent_count task.now) followed.new.places.items) }
 {
-    for next in context..stages + 1 {
-        follow_pair(task, enc, board, stages, context, next, followed)?;
+    for next in from.number..from.stages + 1 {
+        follow_turn(task, enc, board, StageTurn { from, next }, followed)?;
     }
     Ok(())
 }
 
 /// Follows a plan with contexts from the configurations of a context in which it goes on in a next
 /// one.
-fn follow_pair(
+fn follow_turn(
     task: &Task,
     enc: &mut Enc,
     board: &mut Board,
-    stages: u32,
-    context: u32,
-    next: u32,
+    turn: StageTurn,
     followed: &mut Followed,
 ) -> Result<(), Stop>
-    requires table { IsTableThere task.now enc.old board.old.slots.items stages }
-    requires few { stages ≤ 32 }
-    requires context { context ≤ next }
-    requires next { next ≤ stages }
+    requires table { IsTableThere task.now enc.old board.old.slots.items turn.from.stages }
+    requires few { turn.from.stages ≤ 32 }
+    requires context { turn.from.number ≤ turn.next }
+    requires next { turn.next ≤ turn.from.stages }
     requires within { AreReachedWithin (fluent_count task.now) followed.old.places.items }
-    ensures table { OnOk result (IsTableThere task.now enc.new board.new.slots.items stages) }
+    ensures table { OnOk result
+        (IsTableThere task.now enc.new board.new.slots.items turn.from.stages) }
     ensures within { OnOk result
         (AreReachedWithin (fluent_count task.now) followed.new.places.items) }
 {
@@ -228,9 +242,13 @@ fn follow_pair(
     if actions == 0 {
         return Ok(());
     }
-    choose_rules(task, enc, board, actions, stages, context, next)?;
-    let first = rule_place(actions, stages, ActionId(0));
-    followed.visit(task, enc, &board.slots, first, context, next)
+    choose_rules(task, enc, board, actions, turn)?;
+    let sets = TakerSets {
+        enc,
+        slots: &board.slots,
+        first: rule_place(actions, turn.from.stages, ActionId(0)),
+    };
+    followed.visit(task, &sets, turn.from.number, turn.next)
 }
 
 /// Puts the sets in which the plan with contexts takes the actions at their places, for a context
@@ -240,19 +258,19 @@ fn choose_rules(
     enc: &mut Enc,
     board: &mut Board,
     actions: u32,
-    stages: u32,
-    context: u32,
-    next: u32,
+    turn: StageTurn,
 ) -> Result<(), SetErr>
-    requires table { IsTableThere task.now enc.old board.old.slots.items stages }
+    requires table { IsTableThere task.now enc.old board.old.slots.items turn.from.stages }
     requires actions { actions ≡ action_count task.now }
-    requires few { stages ≤ 32 }
-    requires context { context ≤ next }
-    requires next { next ≤ stages }
-    ensures table { OnOk result (IsTableThere task.now enc.new board.new.slots.items stages) }
+    requires few { turn.from.stages ≤ 32 }
+    requires context { turn.from.number ≤ turn.next }
+    requires next { turn.next ≤ turn.from.stages }
+    ensures table { OnOk result
+        (IsTableThere task.now enc.new board.new.slots.items turn.from.stages) }
     ensures live { OnOk result (AreSlotsLive enc.new.sets board.new.slots.items) }
 {
-    rule_sets(enc, board, actions, stages, context, next)
+    let StageContext { stages, number } = turn.from;
+    rule_sets(enc, board, actions, stages, number, turn.next)
 }
 
 /// What the plan with contexts for a patrol goal reaches, if there is one, over the task's sets.

@@ -1,73 +1,69 @@
-//! Controllers for goals whose actions may be tried again.
+//! Controllers for goals whose actions may be tried again: from the words to the goal.
 
 ghost use Rattle.command_base.specs.Answers.{no_memory, refused};
 ghost use Rattle.command_base.specs.Faults.{IsQuietAt};
 ghost use Rattle.command_base.specs.Fetching.{FetchesBoth};
-ghost use Rattle.command_base.specs.Grounded.{IsGroundedOf, IsTaskOf};
+ghost use Rattle.command_base.specs.Grounded.{IsGroundedOf};
 ghost use Rattle.command_base.specs.Grounding.{has_goal_for};
-ghost use Rattle.command_base.specs.Values.{answer_of, limit_of, refusal_of, shown_of};
+ghost use Rattle.command_base.specs.Values.{answer_of, limit_of};
 ghost use Rattle.command_base.specs.Words.{IsNodeLimit, with_contexts};
-ghost use Rattle.controller_plan.specs.FairControllers.{FairThen, IsFairAnswer, IsTried};
-ghost use Rattle.controller_plan.specs.FairJudged.{
-  IsFairlyFound,
-  IsFairlyRefused,
-  IsFairlyShown,
-  most_fair_of,
-  with_goal as grounded_with,
+ghost use Rattle.controller_plan.specs.FairControllers.{IsFairAnswer, IsTried};
+ghost use Rattle.controller_plan.specs.FairJudged.{most_fair_of, with_goal as grounded_with};
+ghost use Rattle.controller_plan.specs.FairSought.{
+  IsFairAnswerFor,
+  IsFairGoal,
+  IsFairlyGrounded,
+  StandsFor,
+  StandsForNone,
 };
 ghost use Rattle.controller_plan.specs.Values.{fair_words_of};
 ghost use Rattle.ctl_syntax.specs.GoalValues.{GoalIsAtMostDeep, GoalNamesBelow};
 ghost use Rattle.ctl_syntax.specs.Values.{IsAtMostDeep, NamesBelow, ctl_value};
-ghost use Rattle.fair_theory.specs.FairPlans.{sets_of_goal};
 ghost use Rattle.pddl_ast.specs.Fits.{FitsDomain, FitsProblem};
 ghost use Rattle.pddl_ast.specs.Values.{domain_value, problem_value};
 ghost use Rattle.pddl_system.specs.CtlGoals.{ctl_goal_of, goal_value};
 ghost use Rattle.pddl_system.specs.Names.{NamesAreWords};
-ghost use Rattle.plan_command.specs.ContextGoals.{context_goal};
-ghost use Rattle.plan_command.specs.FoundGoals.{StandsForGoal};
 ghost use Rattle.plan_command.specs.GoalConditions.{count_of, limit_of_goal};
 ghost use Rattle.plan_io.specs.Fetches.{FailedLast, FetchesNothing};
 ghost use Rattle.std.specs.Prelude.{
   ◌≡◌,
-  ◌≢◌,
   ◌≤◌,
   ◌⊎◌,
   ◌↔◌,
-  [],
-  IfErr,
   IfNone,
   IfOk,
   IfSome,
   IsTrue,
   List,
-  None,
   Some,
   true,
   ℕ,
 };
-ghost use Rattle.task_core.specs.Tasks.{fluent_count, initial_states};
+ghost use Rattle.task_core.specs.Tasks.{fluent_count};
 
-use crate::fair_search::search_fairly;
+use crate::fair_controllers::{FairTask, fair_tried};
 use crate::fair_words::FairWords;
-use crate::made::{Wanted, shown_found};
-use command_base::{
-    Limit, PlanKind, Refusal, Shown, Text, check_goal, goal_in, ground_both, no_initial, read_both,
-};
+use command_base::{Limit, PlanKind, Refusal, Shown, check_goal, goal_in, ground_both, read_both};
 use ctl_syntax::{ContextGoal, Ctl, as_context_goal};
-use dd_sets::SetErr;
-use fair_plan::FairFound;
-use fair_theory::{MOST_STAGES, fair_goal, fair_goals_are_true};
+use fair_theory::{MOST_STAGES, fair_goal};
 use ground_task::Grounded;
 use pddl_ast::{Domain, Problem};
 use pddl_system::grounded_goals_are_true;
 use plan_io::Shelf;
-use plan_rules::{AutoPlan, Plan};
 use sexpr_text::{FaultKind, InputFault};
 use std::alloc::{AllocError, Global};
 use task_core::Task;
 
 /// The most visits of a patrol goal.
 const MOST_VISITS: usize = 8;
+
+/// What is asked for, of the domain and the problem that two files hold.
+#[derive(Clone, Copy)]
+pub(crate) struct FairSought<'a> {
+    pub(crate) asked: &'a FairWords<'a>,
+    pub(crate) domain: &'a Domain,
+    pub(crate) problem: &'a Problem,
+}
 
 /// The controller for the domain and the problem in two files, or that there is no plan.
 pub(crate) fn fair_files<S: Shelf>(
@@ -106,33 +102,31 @@ fn fair_problem(
 {
     check_goal(alloc, PlanKind::Contexts, asked.problem, problem)?;
     let grounded = ground_both(alloc, domain, problem)?;
-    fair_grounded(alloc, asked, domain, problem, grounded)
+    let sought = FairSought {
+        asked,
+        domain,
+        problem,
+    };
+    fair_grounded(alloc, &sought, grounded)
 }
 
 /// The controller for a task and its goals, which are those of the domain and the problem.
 fn fair_grounded(
     alloc: Global,
-    asked: &FairWords,
-    domain: &Domain,
-    problem: &Problem,
+    sought: &FairSought<'_>,
     grounded: Grounded,
 ) -> Result<Shown, Refusal>
-    requires room { IsNodeLimit asked.now.nodes }
-    requires goal { has_goal_for with_contexts (problem_value problem.now) ≡ true }
-    requires grounded { IsGroundedOf (domain_value domain.now) (problem_value problem.now)
-        grounded }
-    ensures { (answer_of result ≡ refused no_memory)
-        ⊎ FairThen (fair_words_of asked.now) (domain_value domain.now) (problem_value problem.now)
-        (answer_of result) }
+    requires { IsFairlyGrounded sought.now grounded }
+    ensures { IsFairAnswerFor sought.now (answer_of result) }
 {
-    let found = goal_parts(alloc, domain, problem, &grounded)?;
+    let found = goal_parts(alloc, sought, &grounded)?;
     match found {
-        Some(goal) => fair_parts(alloc, asked, domain, problem, grounded, &goal),
+        Some(goal) => fair_parts(alloc, sought, grounded, &goal),
         None => Err(Refusal::TextFault(
-            String::from_str(alloc, asked.problem)?,
+            String::from_str(alloc, sought.asked.problem)?,
             InputFault {
                 kind: FaultKind::NotChain,
-                place: problem.ctl_place,
+                place: sought.problem.ctl_place,
             },
         )),
     }
@@ -141,40 +135,32 @@ fn fair_grounded(
 /// The until-chain or the patrol goal that stands for the problem's goal, if it is one.
 fn goal_parts(
     alloc: Global,
-    domain: &Domain,
-    problem: &Problem,
+    sought: &FairSought<'_>,
     grounded: &Grounded,
 ) -> Result<Option<ContextGoal>, AllocError>
-    requires goal { has_goal_for with_contexts (problem_value problem.now) ≡ true }
-    requires grounded { IsGroundedOf (domain_value domain.now) (problem_value problem.now)
-        grounded.now }
-    ensures stands { IfOk result (λ found. IfSome found
-        (StandsForGoal (domain_value domain.now) (problem_value problem.now))) }
-    ensures none { IfOk result (λ found. IfNone found
-        (context_goal (problem_value problem.now) ≡ None)) }
+    requires { IsFairlyGrounded sought.now grounded.now }
+    ensures stands { IfOk result (λ found. IfSome found (StandsFor sought.now)) }
+    ensures none { IfOk result (λ found. IfNone found (StandsForNone sought.now)) }
     ensures names { IfOk result (λ found. IfSome found
         (GoalNamesBelow (fluent_count grounded.now.task))) }
     ensures shallow { IfOk result (λ found. IfSome found (GoalIsAtMostDeep 200)) }
 {
-    parts_of(alloc, domain, problem, &grounded.task, goal_in(grounded))
+    parts_of(alloc, sought, &grounded.task, goal_in(grounded))
 }
 
 /// The same of that goal.
 fn parts_of(
     alloc: Global,
-    domain: &Domain,
-    problem: &Problem,
+    sought: &FairSought<'_>,
     task: &Task,
     goal: &Ctl,
 ) -> Result<Option<ContextGoal>, AllocError>
     requires goal { Some (goal_value goal.now)
-        ≡ ctl_goal_of (domain_value domain.now) (problem_value problem.now) }
+        ≡ ctl_goal_of (domain_value sought.now.domain.now) (problem_value sought.now.problem.now) }
     requires names { NamesBelow (fluent_count task.now) (ctl_value goal.now) }
     requires shallow { IsAtMostDeep 199 (ctl_value goal.now) }
-    ensures stands { IfOk result (λ found. IfSome found
-        (StandsForGoal (domain_value domain.now) (problem_value problem.now))) }
-    ensures none { IfOk result (λ found. IfNone found
-        (context_goal (problem_value problem.now) ≡ None)) }
+    ensures stands { IfOk result (λ found. IfSome found (StandsFor sought.now)) }
+    ensures none { IfOk result (λ found. IfNone found (StandsForNone sought.now)) }
     ensures names { IfOk result (λ found. IfSome found (GoalNamesBelow (fluent_count task.now))) }
     ensures shallow { IfOk result (λ found. IfSome found (GoalIsAtMostDeep 200)) }
 {
@@ -187,59 +173,23 @@ fn parts_of(
 /// The controller for an until-chain or a patrol goal that stands for the problem's goal.
 fn fair_parts(
     alloc: Global,
-    asked: &FairWords,
-    domain: &Domain,
-    problem: &Problem,
+    sought: &FairSought<'_>,
     grounded: Grounded,
     goal: &ContextGoal,
 ) -> Result<Shown, Refusal>
-    requires room { IsNodeLimit asked.now.nodes }
-    requires task { IsTaskOf (domain_value domain.now) (problem_value problem.now) grounded.task }
-    requires goal { StandsForGoal (domain_value domain.now) (problem_value problem.now) goal.now }
-    requires names { GoalNamesBelow (fluent_count grounded.task) goal.now }
-    requires shallow { GoalIsAtMostDeep 200 goal.now }
-    ensures { (answer_of result ≡ refused no_memory)
-        ⊎ FairThen (fair_words_of asked.now) (domain_value domain.now) (problem_value problem.now)
-        (answer_of result) }
+    requires { IsFairGoal sought.now grounded.task goal.now }
+    ensures { IsFairAnswerFor sought.now (answer_of result) }
 {
     if !has_few_parts(goal) {
         return Err(Refusal::OverLimit(part_limit(goal)));
     }
-    match search_fairly(alloc, asked.nodes, &grounded.task, goal) {
-        Ok(Some(found)) => fair_found(alloc, asked, domain, problem, grounded, goal, found),
-        Ok(None) => Err(no_initial(alloc, asked.problem, problem)?),
-        Err(SetErr::Full) => Err(Refusal::Full(asked.nodes)),
-        Err(SetErr::Memory) => Err(Refusal::NoMemory),
-    }
-}
-
-/// The controller for what a search found, or that there is no plan.
-fn fair_found(
-    alloc: Global,
-    asked: &FairWords,
-    domain: &Domain,
-    problem: &Problem,
-    grounded: Grounded,
-    goal: &ContextGoal,
-    found: FairFound,
-) -> Result<Shown, Refusal>
-    requires room { IsNodeLimit asked.now.nodes }
-    requires task { IsTaskOf (domain_value domain.now) (problem_value problem.now) grounded.task }
-    requires goal { StandsForGoal (domain_value domain.now) (problem_value problem.now) goal.now }
-    requires names { GoalNamesBelow (fluent_count grounded.task) goal.now }
-    requires few { count_of goal.now ≤ most_fair_of goal.now }
-    requires some { initial_states grounded.task ≢ [] }
-    requires found { IsFairlyFound grounded.task (sets_of_goal goal.now) found }
-    ensures { (answer_of result ≡ refused no_memory)
-        ⊎ FairThen (fair_words_of asked.now) (domain_value domain.now) (problem_value problem.now)
-        (answer_of result) }
-{
-    // This does nothing: that what is judged to be good has the goal rests on what it promises.
-    fair_goals_are_true();
-    match found {
-        FairFound::Plan(plan) => fair_controller(alloc, asked, grounded, goal, plan),
-        FairFound::NoPlan => Ok(Shown::Denied(Text::Fixed("no plan\n"))),
-    }
+    let made = fair_goal(alloc, goal)?;
+    let judged = with_goal(grounded, made);
+    let task = FairTask {
+        goal,
+        judged: &judged,
+    };
+    fair_tried(alloc, sought, &task)
 }
 
 /// Whether a goal has no more stages or visits than it may have.
@@ -259,36 +209,6 @@ fn part_limit(goal: &ContextGoal) -> Limit
     match goal {
         ContextGoal::Until(_) => Limit::Stages,
         ContextGoal::Patrol(_) => Limit::Patrol,
-    }
-}
-
-/// The controller for what a plan that was found does where it reaches, if it is judged to be one by the
-/// goal that stands for goals whose actions may be tried again.
-fn fair_controller(
-    alloc: Global,
-    asked: &FairWords,
-    grounded: Grounded,
-    goal: &ContextGoal,
-    plan: AutoPlan,
-) -> Result<Shown, Refusal>
-    requires room { IsNodeLimit asked.now.nodes }
-    requires names { GoalNamesBelow (fluent_count grounded.task) goal.now }
-    ensures shown { IfOk result (λ shown.
-        IsFairlyShown asked.now.json grounded.task goal.now (shown_of shown)) }
-    ensures refused { IfErr result (λ refusal.
-        IsFairlyRefused grounded.task goal.now (refusal_of refusal)) }
-{
-    let made = fair_goal(alloc, goal)?;
-    let judged_by = with_goal(grounded, made);
-    let wanted = Wanted {
-        kind: PlanKind::Contexts,
-        nodes: asked.nodes,
-        json: asked.json,
-        grounded: &judged_by,
-    };
-    match shown_found(alloc, &wanted, &Plan::Auto(plan))? {
-        Some(shown) => Ok(shown),
-        None => Err(Refusal::OverLimit(Limit::Configurations)),
     }
 }
 

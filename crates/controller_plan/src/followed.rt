@@ -40,6 +40,15 @@ pub(crate) struct Followed {
     seen: IndexSet<Place>,
 }
 
+/// The sets of states in which a plan takes the actions: in the slots from the first place on, in the order
+/// of the actions' numbers.
+#[derive(Clone, Copy)]
+pub(crate) struct TakerSets<'a> {
+    pub(crate) enc: &'a Enc,
+    pub(crate) slots: &'a [SetId],
+    pub(crate) first: usize,
+}
+
 impl Followed {
     /// The initial configurations.
     pub(crate) fn begin(alloc: Global, states: &[State]) -> Result<Followed, Stop>
@@ -84,18 +93,15 @@ impl Followed {
     }
 
     /// Finds what the plan does in the configurations of a context in which it goes on in a next
-    /// one, and adds what follows them. The states in which it takes the actions are in the slots
-    /// from the first place on, in the order of the actions' numbers.
+    /// one, and adds what follows them.
     pub(crate) fn visit(
         &mut self,
         task: &Task,
-        enc: &Enc,
-        slots: &[SetId],
-        first: usize,
+        sets: &TakerSets<'_>,
         context: u32,
         next: u32,
     ) -> Result<(), Stop>
-        requires live { AreSlotsLive enc.now.sets slots.now }
+        requires live { AreSlotsLive sets.now.enc.now.sets sets.now.slots.now }
         requires within { AreReachedWithin (fluent_count task.now) self.old.places.items }
         ensures within { OnOk result
             (AreReachedWithin (fluent_count task.now) self.new.places.items) }
@@ -104,9 +110,8 @@ impl Followed {
             if number >= self.places.len() {
                 return Ok(());
             }
-            let place = self.places[number];
-            if place.context == context && self.is_idle(number) {
-                self.visit_place(task, enc, slots, first, number, &place, next)?;
+            if self.places[number].context == context && self.is_idle(number) {
+                self.visit_place(task, sets, number, next)?;
             }
         }
         Ok(())
@@ -120,25 +125,23 @@ impl Followed {
         }
     }
 
-    /// Finds what the plan does in a configuration, and adds what follows it.
+    /// Finds what the plan does in the configuration of a number, and adds what follows it.
     fn visit_place(
         &mut self,
         task: &Task,
-        enc: &Enc,
-        slots: &[SetId],
-        first: usize,
+        sets: &TakerSets<'_>,
         number: usize,
-        place: &Place,
         next: u32,
     ) -> Result<(), Stop>
-        requires live { AreSlotsLive enc.now.sets slots.now }
-        requires state { IsWithin (fluent_count task.now) place.now.state }
+        requires live { AreSlotsLive sets.now.enc.now.sets sets.now.slots.now }
+        requires number { number < length self.old.places.items }
         requires within { AreReachedWithin (fluent_count task.now) self.old.places.items }
         ensures within { OnOk result
             (AreReachedWithin (fluent_count task.now) self.new.places.items) }
     {
-        match action_in(task, enc, slots, first, &place.state) {
-            Some(action) => self.take(task, number, &place.state, action, next),
+        let state = self.places[number].state;
+        match action_in(task, sets, &state) {
+            Some(action) => self.take(task, number, &state, Move { action, next }),
             None => Ok(()),
         }
     }
@@ -154,7 +157,7 @@ impl Followed {
             }
             let place = self.places[number];
             if let Some(action) = action_of(task, plan, &place.state) {
-                self.take(task, number, &place.state, action, 0)?;
+                self.take(task, number, &place.state, Move { action, next: 0 })?;
             }
         }
         Ok(())
@@ -171,7 +174,7 @@ impl Followed {
             }
             let place = self.places[number];
             if let Some(taken) = move_in(task, guide, &place) {
-                self.take(task, number, &place.state, taken.action, taken.next)?;
+                self.take(task, number, &place.state, taken)?;
             }
         }
         Ok(())
@@ -188,7 +191,7 @@ impl Followed {
             }
             let place = self.places[number];
             if let Some(taken) = known.move_of(task, &place) {
-                self.take(task, number, &place.state, taken.action, taken.next)?;
+                self.take(task, number, &place.state, taken)?;
             }
         }
         Ok(())
@@ -207,24 +210,17 @@ impl Followed {
         }
     }
 
-    /// Notes that the plan takes an action in the state of a configuration, and adds what follows.
-    fn take(
-        &mut self,
-        task: &Task,
-        number: usize,
-        state: &State,
-        action: ActionId,
-        next: u32,
-    ) -> Result<(), Stop>
-        requires action { action.0 < action_count task.now }
+    /// Notes that the plan makes a move in the state of a configuration, and adds what follows.
+    fn take(&mut self, task: &Task, number: usize, state: &State, taken: Move) -> Result<(), Stop>
+        requires action { taken.action.0 < action_count task.now }
         requires state { IsWithin (fluent_count task.now) state.now }
         requires within { AreReachedWithin (fluent_count task.now) self.old.places.items }
         ensures within { OnOk result
             (AreReachedWithin (fluent_count task.now) self.new.places.items) }
     {
-        self.decide(number, Move { action, next });
+        self.decide(number, taken);
         let steps = self.steps_after(number);
-        self.add_outcomes(task, state, action, next, steps)
+        self.add_outcomes(task, state, taken, steps)
     }
 
     /// Notes what the plan does in the configuration of a number.
@@ -244,21 +240,21 @@ impl Followed {
         }
     }
 
-    /// Adds the configurations that follow a state by an action.
+    /// Adds the configurations that follow a state by a move.
     fn add_outcomes(
         &mut self,
         task: &Task,
         state: &State,
-        action: ActionId,
-        next: u32,
+        taken: Move,
         steps: u32,
     ) -> Result<(), Stop>
-        requires action { action.0 < action_count task.now }
+        requires action { taken.action.0 < action_count task.now }
         requires state { IsWithin (fluent_count task.now) state.now }
         requires within { AreReachedWithin (fluent_count task.now) self.old.places.items }
         ensures within { OnOk result
             (AreReachedWithin (fluent_count task.now) self.new.places.items) }
     {
+        let Move { action, next } = taken;
         for outcome in 0..outcome_count(task, action) {
             let after = step(task, state, action, outcome);
             // An outcome that leads to no state doesn't take place.
@@ -304,19 +300,13 @@ fn move_in(task: &Task, guide: &Guide<'_>, place: &Place) -> Option<Move>
     }
 }
 
-/// The least-numbered action whose slot, from the first place on, has the state in its set.
-fn action_in(
-    task: &Task,
-    enc: &Enc,
-    slots: &[SetId],
-    first: usize,
-    state: &State,
-) -> Option<ActionId>
-    requires live { AreSlotsLive enc.now.sets slots.now }
+/// The least-numbered action in whose set the state is.
+fn action_in(task: &Task, sets: &TakerSets<'_>, state: &State) -> Option<ActionId>
+    requires live { AreSlotsLive sets.now.enc.now.sets sets.now.slots.now }
     ensures { IfSome result (λ action. action.0 < action_count task.now) }
 {
     for number in 0..task.actions.len() {
-        if is_taken_in(enc, slots, first, number, state) {
+        if is_taken_in(sets, number, state) {
             return Some(ActionId(number as u32));
         }
     }
@@ -324,15 +314,15 @@ fn action_in(
 }
 
 /// Whether the state is in the set of the slot that stands so many places after the first one.
-fn is_taken_in(enc: &Enc, slots: &[SetId], first: usize, after: usize, state: &State) -> bool
-    requires live { AreSlotsLive enc.now.sets slots.now }
+fn is_taken_in(sets: &TakerSets<'_>, after: usize, state: &State) -> bool
+    requires live { AreSlotsLive sets.now.enc.now.sets sets.now.slots.now }
 {
-    match first.checked_add(after) {
+    match sets.first.checked_add(after) {
         Some(place) => {
-            if place >= slots.len() {
+            if place >= sets.slots.len() {
                 return false;
             }
-            enc.sets().holds(slots[place], state)
+            sets.enc.sets().holds(sets.slots[place], state)
         }
         None => false,
     }

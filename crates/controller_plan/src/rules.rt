@@ -225,24 +225,17 @@ impl Maker {
         }
         match move_at(followed, number) {
             Some(taken) => {
-                let steps = steps_at(followed, number);
-                self.rule_for(alloc, followed, place, taken, steps)
+                let rule = self.full_rule(place, taken, steps_at(followed, number));
+                Ok(Some(self.cut_short(alloc, followed, rule)?))
             }
             None => Ok(None),
         }
     }
 
-    /// The rule for a configuration in which the plan makes this move, and which was found after so
-    /// many steps.
-    fn rule_for(
-        &mut self,
-        alloc: Global,
-        followed: &Followed,
-        place: &Place,
-        taken: Move,
-        steps: u32,
-    ) -> Result<Option<ShortRule>, AllocError> {
-        let rule = ShortRule {
+    /// The rule for a configuration alone, in which the plan makes this move, and which was found after
+    /// so many steps.
+    fn full_rule(&self, place: &Place, taken: Move, steps: u32) -> ShortRule {
+        ShortRule {
             context: place.context,
             pattern: Pattern {
                 state: place.state,
@@ -251,10 +244,19 @@ impl Maker {
             taken,
             steps,
             length: self.length_now(),
-        };
+        }
+    }
+
+    /// The rule as long as it is to be.
+    fn cut_short(
+        &mut self,
+        alloc: Global,
+        followed: &Followed,
+        rule: ShortRule,
+    ) -> Result<ShortRule, AllocError> {
         match rule.length {
-            Length::Full => Ok(Some(rule)),
-            Length::Short => Ok(Some(self.shortened(alloc, followed, &rule)?)),
+            Length::Full => Ok(rule),
+            Length::Short => self.shortened(alloc, followed, &rule),
         }
     }
 

@@ -10,12 +10,12 @@ ghost use Rattle.std.specs.Prelude.{◌≡◌, ◌≤◌, IfOk, IfSome, IsSome, 
 ghost use Rattle.task_core.specs.Tasks.{action_count, fluent_count};
 
 use crate::context_searches::follow_contexts;
-use crate::followed::Followed;
+use crate::followed::{Followed, TakerSets};
 use crate::staged::{follow_forward, follow_nearest};
 use crate::state_plans::StatePlan;
 use command_base::{PlanKind, PlanWords};
 use cyclic_plan::{cyclic_takers, takers_of};
-use dd_sets::{SetErr, SetId};
+use dd_sets::SetErr;
 use encode_task::{Enc, encode};
 use exec_graph::MAX_CONFIGURATIONS;
 use ground_task::Grounded;
@@ -334,7 +334,14 @@ fn follow_layers(
     requires goal { IsSome task.now.goal }
 {
     match find_takers(alloc, task, enc, class)? {
-        Takers::Board(board) => follow_table(alloc, task, enc, &board.slots, 0),
+        Takers::Board(board) => {
+            let sets = TakerSets {
+                enc,
+                slots: &board.slots,
+                first: 0,
+            };
+            follow_table(alloc, task, &sets)
+        }
         Takers::NoPlan => Ok(None),
     }
 }
@@ -346,26 +353,23 @@ fn follow_rounds(alloc: Global, task: &Task, enc: &mut Enc) -> Result<Option<Fol
 {
     match cyclic_takers(alloc, task, enc)? {
         Some(board) => {
-            let first = takers_of(task.actions.len() as u32, ActionId(0));
-            follow_table(alloc, task, enc, &board.slots, first)
+            let sets = TakerSets {
+                enc,
+                slots: &board.slots,
+                first: takers_of(task.actions.len() as u32, ActionId(0)),
+            };
+            follow_table(alloc, task, &sets)
         }
         None => Ok(None),
     }
 }
 
-/// What a table reaches, whose actions are taken in the sets of these slots, from the first place
-/// on.
-fn follow_table(
-    alloc: Global,
-    task: &Task,
-    enc: &Enc,
-    slots: &[SetId],
-    first: usize,
-) -> Result<Option<Followed>, Stop>
-    requires live { AreSlotsLive enc.now.sets slots.now }
+/// What a table reaches, whose actions are taken in these sets.
+fn follow_table(alloc: Global, task: &Task, sets: &TakerSets<'_>) -> Result<Option<Followed>, Stop>
+    requires live { AreSlotsLive sets.now.enc.now.sets sets.now.slots.now }
 {
     let mut followed = begun(alloc, task)?;
-    followed.visit(task, enc, slots, first, 0, 0)?;
+    followed.visit(task, sets, 0, 0)?;
     Ok(Some(followed))
 }
 

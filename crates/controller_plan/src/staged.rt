@@ -1,5 +1,6 @@
 //! Plans with contexts that are found state by state: for patrols where few states can be reached, and
-//! for all goals where the sets of states don't fit.
+//! for all goals where the sets of states don't fit. Those whose actions may be tried again are looked for
+//! in the same two ways.
 
 ghost use Rattle.plan_rules.specs.Plans.{IsAutomatonOf};
 ghost use Rattle.plan_rules.specs.Rules.{context_rules_of};
@@ -51,6 +52,30 @@ pub(crate) fn follow_forward(alloc: Global, grounded: &Grounded) -> Result<Optio
         }
         None => Ok(None),
     }
+}
+
+/// The plan for a patrol goal whose actions may be tried again that goes a shortest way to each visit, if
+/// few states can be reached and there is one.
+pub(crate) fn fair_nearest(
+    alloc: Global,
+    task: &Task,
+    goal: &ContextGoal,
+) -> Result<Option<AutoPlan>, AllocError> {
+    if is_patrol(goal) {
+        plan_listed(alloc, task, goal, Way::Fair, &FEW)
+    } else {
+        Ok(None)
+    }
+}
+
+/// A plan for a goal whose actions may be tried again that is found by a heuristic search forward, if one
+/// is.
+pub(crate) fn fair_forward(
+    alloc: Global,
+    task: &Task,
+    goal: &ContextGoal,
+) -> Result<Option<AutoPlan>, AllocError> {
+    plan_forward(alloc, task, goal, Way::Fair, &MANY)
 }
 
 /// The goal, if it is an until-chain or a patrol goal with few stages or visits.

@@ -7,5 +7,6 @@ use Rattle.controller_plan.proofs.commands.after_little.Goals as goal
 
 pub returns-in_err-shown : goal.returns-in_err-shown
 returns-in_err-shown c =
+    let s = c.args.sought.now in
     let p = err_from_is_err_and c.from_residual.result c.from_residual.ensures.1 in
-    rw (p.1, p.2) (limited (control_words_of c.args.asked.now) (domain_value c.args.domain.now) (problem_value c.args.problem.now) (refusal_of c.in_err-shown.field-0.0) c.in_err-shown.ensures.refused)
+    rw (p.1, p.2) (limited (control_words_of s.asked.now) (domain_value s.domain.now) (problem_value s.problem.now) (refusal_of c.in_err-shown.field-0.0) c.in_err-shown.ensures.refused)

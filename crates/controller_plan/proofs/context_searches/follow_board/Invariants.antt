@@ -3,8 +3,8 @@ use Rattle.task_core.specs.Tasks.{fluent_count}
 use Rattle.controller_plan.specs.Followed.{AreReachedWithin, IsTableThere}
 use Rattle.controller_plan.proofs.context_searches.follow_board.Given as goal
 
-abbrev pub invariant-loop-context : goal.invariant-loop-context
-invariant-loop-context l = record {
+abbrev pub invariant-loop-number : goal.invariant-loop-number
+invariant-loop-number l = record {
   table : IsTableThere l.task l.enc l.board.slots.items l.stages;
   within : AreReachedWithin (fluent_count l.task) l.followed.places.items;
 }

@@ -1,19 +1,15 @@
-use Rattle.std.proofs.Common.{inr, refl, rules}
+use Rattle.std.proofs.Common.{inr, rules}
 use Rattle.pddl_ast.specs.Values.{domain_value, problem_value}
 use Rattle.controller_plan.specs.Values.{fair_words_of}
-use Rattle.controller_plan.proofs.FairAnswers.{full_fairly, goal_over, many_fairly}
+use Rattle.controller_plan.proofs.FairAnswers.{many_fairly, ready_fairly}
 use Rattle.controller_plan.proofs.fair.fair_parts.Goals as goal
-
-pub search_fairly-requires-clause-goal : goal.search_fairly-requires-clause-goal
-search_fairly-requires-clause-goal c =
-    goal_over _ c.args.goal.now (search rules) c.requires.goal.counts.some c.requires.names c.requires.shallow
 
 pub returns-then-not-has_few_parts : goal.returns-then-not-has_few_parts
 returns-then-not-has_few_parts c =
-    inr (many_fairly (fair_words_of c.args.asked.now) (domain_value c.args.domain.now) (problem_value c.args.problem.now) c.args.goal.now c.requires.goal c.args.grounded.task c.requires.task
+    let s = c.args.sought.now in
+    inr (many_fairly (fair_words_of s.asked.now) (domain_value s.domain.now) (problem_value s.problem.now) c.args.goal.now c.requires.stands c.args.grounded.task c.requires.of_task
     (search rules) _ (search rules))
 
-pub returns-in-Err-Full : goal.returns-in-Err-Full
-returns-in-Err-Full c =
-    inr (full_fairly (fair_words_of c.args.asked.now) (domain_value c.args.domain.now) (problem_value c.args.problem.now) c.args.goal.now c.requires.goal c.args.grounded.task c.requires.task
-    (search rules) (search rules) _ refl)
+pub fair_tried-requires : goal.fair_tried-requires
+fair_tried-requires c =
+    ready_fairly c.args.sought.now _ c.args.grounded.task c.in_ok-made.made c.with_goal-judged.ensures c.in_ok-made.ensures (search rules) c.requires

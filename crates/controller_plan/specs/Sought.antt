@@ -1,0 +1,103 @@
+-- Private: what a controller is looked for, the plan that `plan` finds for it, and what is answered.
+use Rattle.std.specs.Prelude.{◌≡◌, ◌⊎◌, true}
+use Rattle.pddl_ast.specs.Trees.{DomainTree, ProblemTree}
+use Rattle.pddl_ast.specs.Values.{domain_value, problem_value}
+use Rattle.plan_rules.specs.Plans.{IsPlanOf}
+use Rattle.plan_rules.specs.Readings.{SpellsPlain}
+use Rattle.plan_rules.specs.Rules.{PlainPlan, plain_of}
+use Rattle.task_core.specs.Tasks.{action_count, action_names, fluent_count, fluent_names}
+use Rattle.command_base.specs.Answers.{Answer, affirmed, full, no_memory, refused}
+use Rattle.command_base.specs.Grounded.{IsGroundedOf}
+use Rattle.command_base.specs.Grounding.{has_goal_for}
+use Rattle.command_base.specs.Values.{kind_of, refusal_of, shown_of}
+use Rattle.command_base.specs.Words.{Bytes, IsNodeLimit, PlanKind}
+use Rattle.command_base.specs.declared.answers.Refusal.{Refusal}
+use Rattle.command_base.specs.declared.answers.Shown.{Shown}
+use Rattle.plan_command.specs.PlanCommand.{MayBeTooFew, PlanThen}
+use Rattle.controller_plan.specs.Controllers.{ControlThen, IsController, IsControllerShown, IsRefuted}
+use Rattle.controller_plan.specs.Judged.{IsControlRefusal, IsJudged}
+use Rattle.controller_plan.specs.Values.{control_words_of}
+use Rattle.controller_plan.specs.Words.{ControlWords}
+use Rattle.controller_plan.specs.declared.made.Wanted.{Wanted}
+use Rattle.controller_plan.specs.declared.sought.Found.{Found}
+use Rattle.controller_plan.specs.declared.sought.Sought.{Sought}
+use Rattle.ground_task.specs.declared.grounding.Grounded.{Grounded}
+
+-- so many nodes may be asked for, the problem has a goal for plans of the kind, and the task and the
+-- goals are those of the domain and the problem
+pub record IsReady (sought : Sought) : Type 0 where
+  pub room : IsNodeLimit sought.asked.now.plan.options.nodes
+  pub goal : has_goal_for (kind_of sought.asked.now.plan.kind) (problem_value sought.problem.now)
+      ≡ true
+  pub grounded : IsGroundedOf (domain_value sought.domain.now) (problem_value sought.problem.now)
+      sought.grounded.now
+
+-- what holds of the words, the domain and the problem
+abbrev pub HoldsFor : Sought → (ControlWords → DomainTree → ProblemTree → Type 0) → Type 0
+HoldsFor sought Property =
+    Property (control_words_of sought.asked.now) (domain_value sought.domain.now)
+    (problem_value sought.problem.now)
+
+-- `plan` finds the plan of this text
+abbrev pub IsTextFound : Sought → Bytes → Type 0
+IsTextFound sought text =
+    HoldsFor sought (λ asked domain problem. PlanThen asked.plan domain problem (affirmed text))
+
+-- `plan` finds this plan, whose text spells it
+pub record IsFoundFor (sought : Sought) (found : Found) : Type 0 where
+  pub by_plan : IsTextFound sought found.text.now
+  pub spelled : SpellsPlain (fluent_names sought.grounded.now.task)
+      (action_names sought.grounded.now.task) found.text.now (plain_of found.plan.now)
+  pub in_task : IsPlanOf (fluent_count sought.grounded.now.task)
+      (action_count sought.grounded.now.task) found.plan.now
+
+-- an answer to the words: want of memory, too few nodes for `plan`, or what follows
+abbrev pub IsAnswerIn : (ControlWords → DomainTree → ProblemTree → Answer → Type 0) → ControlWords
+    → DomainTree → ProblemTree → Answer → Type 0
+IsAnswerIn Then asked domain problem answer =
+    (answer ≡ refused no_memory)
+    ⊎ (MayBeTooFew asked.plan domain problem
+    × (answer ≡ refused (full asked.plan.options.nodes)))
+    ⊎ Then asked domain problem answer
+
+abbrev pub IsAnswerFor : Sought → Answer → Type 0
+IsAnswerFor sought answer =
+    HoldsFor sought (λ asked domain problem. IsAnswerIn ControlThen asked domain problem answer)
+
+-- what is shown follows
+abbrev pub FollowsFor : Sought → Shown → Type 0
+FollowsFor sought shown =
+    HoldsFor sought (λ asked domain problem. ControlThen asked domain problem (shown_of shown))
+
+-- a controller is shown
+abbrev pub IsShownFor : Sought → Shown → Type 0
+IsShownFor sought shown =
+    HoldsFor sought (λ asked domain problem. IsControllerShown asked domain problem
+    (shown_of shown))
+
+-- that there is no plan is shown
+abbrev pub IsRefutedFor : Sought → Shown → Type 0
+IsRefutedFor sought shown =
+    HoldsFor sought (λ asked domain problem. IsRefuted asked domain problem (shown_of shown))
+
+-- a refusal has its cause
+abbrev pub IsRefusedFor : Sought → Refusal → Type 0
+IsRefusedFor sought refusal =
+    HoldsFor sought (λ asked domain problem. IsControlRefusal asked domain problem
+    (refusal_of refusal))
+
+-- what a plan is to be, to be shown
+abbrev pub wanted_for : Sought → Wanted
+wanted_for sought = record {
+  kind = sought.asked.now.plan.kind;
+  nodes = sought.asked.now.plan.options.nodes;
+  json = sought.asked.now.json;
+  grounded = sought.grounded;
+}
+
+-- what is judged to be good over the task of a problem is a controller for the problem
+abbrev pub JudgedPlansControl : Type 0
+JudgedPlansControl =
+    (kind : PlanKind) (domain : DomainTree) (problem : ProblemTree) (grounded : Grounded)
+    (plan : PlainPlan) → IsGroundedOf domain problem grounded
+    → IsJudged kind grounded.task grounded.ctl plan → IsController kind domain problem plan
