@@ -1,6 +1,6 @@
 use Rattle.std.proofs.Common.{inl}
 use Rattle.std.proofs.lemmas.Result.{err_from_is_err_and}
-use Rattle.controller_plan.proofs.made.shown_plan.Goals as goal
+use Rattle.controller_plan.proofs.made.shown_as_it_is.Goals as goal
 
 pub returns-in_err-shown-clause-refused : goal.returns-in_err-shown-clause-refused
 returns-in_err-shown-clause-refused c =
