@@ -339,9 +339,7 @@ module _ (s : FairSought) (t : FairTask) (ready : IsFairTask s t) (w : Wanted) (
       made_fairly (refusal_of refusal) (subst (λ (x : Wanted). IsMadeRefusal (kind_of x.kind) x.grounded.now (refusal_of refusal)) is why)
 
 -- what is shown of it is an answer to the words
-pub guessed_for : FairGoalsAreTrue → (s : FairSought) (t : FairTask) → IsFairTask s t → {E : Type 0} (r : Result (Option Shown) E) → IfOk r (λ found. IfSome found (IsFairShownFor s t))
-    → IfOk r (λ found. IfSome found (FollowsFairly s))
-guessed_for law s t ready (Ok (Some shown)) is =
+pub guessed_for : FairGoalsAreTrue → (s : FairSought) (t : FairTask) → IsFairTask s t → (found : Option Shown) → IfSome found (IsFairShownFor s t) → IfSome found (FollowsFairly s)
+guessed_for law s t ready (Some shown) is =
     inr (guessed_fairly (fair_words_of s.asked.now) (domain_value s.domain.now) (problem_value s.problem.now) t.goal.now ready.of_goal.stands t.judged.now.task ready.of_goal.of_task law (shown_of shown) is)
-guessed_for law s t ready (Ok None) is = tt
-guessed_for law s t ready (Err e) is = tt
+guessed_for law s t ready None is = tt

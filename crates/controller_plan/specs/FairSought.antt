@@ -39,7 +39,7 @@ HoldsFairly sought Property =
 pub record IsFairlyGrounded (sought : FairSought) (grounded : Grounded) : Type 0 where
   pub room : IsNodeLimit sought.asked.now.nodes
   pub goal : has_goal_for with_contexts (problem_value sought.problem.now) ≡ true
-  pub grounded : IsGroundedOf (domain_value sought.domain.now) (problem_value sought.problem.now)
+  pub of_both : IsGroundedOf (domain_value sought.domain.now) (problem_value sought.problem.now)
       grounded
 
 -- a goal stands for the problem's goal, or none does
