@@ -35,7 +35,9 @@ def main(file, seed=1):
         if action is None:
             break
         world.act(action)
-        controller.observe(world.observe())
+        if not controller.observe(world.observe()):
+            print("the world left the model")
+            break
         print(f"step {step} {action} context {controller.context}")
 
 

@@ -2,9 +2,11 @@
 
     controller = Controller.load(text)   what `mbp_controller --json` printed, or the text of a plan
     action = controller.act(state)       the action to take, or None where the plan ends
-    controller.observe(state)            the state after the action: goes on to the next context
+    controller.observe(state)            the state after the action: goes on to the next context, and tells whether the
+                                         action may lead there; if not, the world has left the model
 
-A state is a set of the true fluents, named as `mbp ground` lists them: {"(at kitchen)"}.
+A state is a set of the true fluents, named as `mbp ground` lists them: {"(at kitchen)"}. A document knows what each action
+asks and does: an action whose precondition fails isn't taken. The text of a plan knows neither, so every state is expected.
 """
 import json
 import re
@@ -34,19 +36,44 @@ def literals_of(forms):
 
 
 class Rule:
-    """In a context and a state with these literals: an action, and cases of the next context."""
+    """In a context and a state with these literals: an action, cases of the next context, and of the action its precondition
+    and its outcomes, where they are known."""
 
-    def __init__(self, context, literals, action, cases):
+    def __init__(self, context, literals, action, cases, precondition=None, outcomes=None):
         self.context, self.literals, self.action, self.cases = context, literals, action, cases
+        self.precondition, self.outcomes = precondition, outcomes
+
+    def may_act(self, state):
+        return self.precondition is None or is_true(self.precondition, state)
+
+    def may_lead(self, before, after):
+        return self.outcomes is None or any(changed(before, outcome) == after for outcome in self.outcomes)
 
 
 def holds(literals, state):
     return all((fluent in state) == value for fluent, value in literals.items())
 
 
+def is_true(condition, state):
+    """Whether a condition of a document holds: the name of a fluent, or {"not": ..}, {"and": [..]}, {"or": [..]}."""
+    if isinstance(condition, str):
+        return condition in state
+    ((word, parts),) = condition.items()
+    if word == "not":
+        return not is_true(parts, state)
+    return (all if word == "and" else any)(is_true(part, state) for part in parts)
+
+
+def changed(state, outcome):
+    """The state after an outcome. Conditions are read in the state before; what is both added and deleted is added."""
+    changes = [change for change in outcome if is_true(change["if"], state)]
+    deleted = {fluent for change in changes for fluent in change["deletes"]}
+    return (state - deleted) | {fluent for change in changes for fluent in change["adds"]}
+
+
 def rules_of_document(document):
     for rule in document["rules"]:
-        yield Rule(rule["context"], rule["literals"], rule["action"], [({}, rule["next"])])
+        yield Rule(rule["context"], rule["literals"], rule["action"], [({}, rule["next"])], rule["precondition"], rule["outcomes"])
 
 
 def rules_of_text(text):
@@ -62,7 +89,7 @@ class Controller:
 
     def __init__(self, rules, fluents=None):
         self.rules, self.fluents = list(rules), fluents
-        self.context, self.rule = 1, None
+        self.context, self.rule, self.before = 1, None, None
 
     @classmethod
     def load(cls, text):
@@ -77,14 +104,20 @@ class Controller:
             raise ValueError(f"no fluent of the plan: {', '.join(sorted(unknown))}")
 
     def act(self, state):
-        """The action of the first rule that holds in this state and context; None where no rule does."""
+        """The action of the first rule that holds in this state and context; None where no rule does, or where the action's
+        precondition fails."""
         self.look(state)
-        self.rule = next((rule for rule in self.rules if rule.context == self.context and holds(rule.literals, state)), None)
+        rule = next((rule for rule in self.rules if rule.context == self.context and holds(rule.literals, state)), None)
+        self.rule, self.before = (rule, set(state)) if rule and rule.may_act(state) else (None, None)
         return self.rule and self.rule.action
 
     def observe(self, state):
-        """Goes on to the context that the last rule names for the state after its action."""
+        """Goes on to the context that the last rule names for the state after its action. False where no outcome of the action
+        leads to this state: the world has left the model, and the plan promises nothing any more."""
         self.look(state)
-        if self.rule is not None:
-            self.context = next((context for literals, context in self.rule.cases if holds(literals, state)), None)
-            self.rule = None
+        if self.rule is None:
+            return True
+        self.context = next((context for literals, context in self.rule.cases if holds(literals, state)), None)
+        expected = self.rule.may_lead(self.before, set(state))
+        self.rule = self.before = None
+        return expected

@@ -26,13 +26,14 @@ class World:
     """The states that a plan may reach, and the steps between them."""
 
     def __init__(self, picture):
-        self.initial, self.goal, self.steps, self.states = [], set(), {}, {}
+        self.initial, self.goal, self.steps, self.states, self.contexts = [], set(), {}, {}, {}
         for line in picture.splitlines():
             node, step = NODE.match(line), STEP.match(line)
             if node:
                 self.steps[int(node[1])] = {}
                 lines = re.sub(r"\\(.)", lambda escaped: "\n" if escaped[1] == "n" else escaped[1], node[4]).split("\n")
                 self.states[int(node[1])] = {line for line in lines if line.startswith("(")}
+                self.contexts[int(node[1])] = next((int(line[8:]) for line in lines if line.startswith("context ")), 1)
                 self.initial += [int(node[1])] if node[2] == "box" else []
                 self.goal |= {int(node[1])} if node[3] == "peripheries=2" else set()
             elif step:

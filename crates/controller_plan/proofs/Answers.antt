@@ -23,10 +23,10 @@ use Rattle.answer_help.specs.declared.keeping.KeepingShelf.{KeepingShelf}
 use Rattle.answer_help.proofs.HelpedFrames.{IsTold, is_helped_run, over_may_fetch, told_fetch}
 use Rattle.controller_plan.specs.Controllers.{AffirmsNothing, ControlThen, IsControlAnswer, IsControlled, IsControllerShown, IsRefuted}
 use Rattle.controller_plan.specs.Judged.{IsControlRefusal}
-use Rattle.controller_plan.specs.FairWords.{AskNothing, ControlRequest, SaysRequest, domain_of, problem_of}
+use Rattle.controller_words.specs.FairWords.{AskNothing, ControlRequest, SaysRequest, domain_of, problem_of}
 use Rattle.controller_plan.specs.Runs.{ControlRun, FetchesForControl, HasControlCause, HasControlled, IsRequestAnswer}
-use Rattle.controller_plan.specs.Words.{ControlWords}
-use Rattle.controller_plan.specs.WrongWords.{wrong_control}
+use Rattle.controller_words.specs.Words.{ControlWords}
+use Rattle.controller_words.specs.WrongWords.{wrong_control}
 
 -- one of the files is refused
 pub before_control : (held : Bytes → Held) (failed : Bytes → Type 0) (asked : ControlWords) (a : Answer)

@@ -59,8 +59,8 @@ use Rattle.plan_command.specs.PlanCommand.{no_plan_text}
 use Rattle.controller_plan.specs.FairControllers.{FairThen, HasLongFairText, IsFairAnswer, IsFairController, IsFairResult, IsFairShown, IsTried, MeetsFairly, fair_goal_of, fair_sets, most_fair_parts}
 use Rattle.controller_plan.specs.FairJudged.{HasLongFairly, IsFairlyFound, IsFairlyMade, IsFairlyRefused, IsFairlyShown, IsTranslated, LacksFairRoom, most_fair_of, with_goal}
 use Rattle.controller_plan.specs.FairSought.{FollowsFairly, IsFairGoal, IsFairMadeRefusal, IsFairShownFor, IsFairTask, wanted_fairly}
-use Rattle.controller_plan.specs.FairWords.{FairWords}
-use Rattle.controller_plan.specs.Values.{fair_words_of}
+use Rattle.controller_words.specs.FairWords.{FairWords}
+use Rattle.controller_words.specs.Values.{fair_words_of}
 use Rattle.controller_plan.specs.declared.fair.FairSought.{FairSought}
 use Rattle.controller_plan.specs.declared.fair_controllers.FairTask.{FairTask}
 use Rattle.controller_plan.specs.declared.made.Wanted.{Wanted}
@@ -158,9 +158,9 @@ module _ (asked : FairWords) (d : DomainTree) (p : ProblemTree) (goal : ContextG
       }
       go (inr (large, never)) = absurd never
 
-  shown_fairly : FairGoalsAreTrue → (a : Answer) → IsFairlyShown asked.json t goal a → IsFairShown asked d p wanted a
+  shown_fairly : FairGoalsAreTrue → (a : Answer) → IsFairlyShown asked.shape t goal a → IsFairShown asked d p wanted a
   shown_fairly law a shown =
-      let text = text_shown with_contexts asked.json d p (with_goal t shown.made) a of shown.shown in
+      let text = text_shown with_contexts asked.shape d p (with_goal t shown.made) a of shown.shown in
       record {
         plan = shown.shown.plan;
         steps = shown.shown.steps;
@@ -169,6 +169,9 @@ module _ (asked : FairWords) (d : DomainTree) (p : ProblemTree) (goal : ContextG
           spelled = text.spelled;
           short = text.short;
         };
+        guarded = text.guarded;
+        bytes = text.bytes;
+        shown_as = text.shown_as;
         shown = text.shown;
       }
 
@@ -188,11 +191,11 @@ module _ (asked : FairWords) (d : DomainTree) (p : ProblemTree) (goal : ContextG
   answered some few a result = inr (s.parts, s.is, inr (inr (inr (inr (λ none. some (ap (λ (sys : System). sys.initial) of.system_is ∙ none), result)))))
 
   -- a controller that was found state by state
-  pub guessed_fairly : FairGoalsAreTrue → (a : Answer) → IsFairlyShown asked.json t goal a → FairThen asked d p a
+  pub guessed_fairly : FairGoalsAreTrue → (a : Answer) → IsFairlyShown asked.shape t goal a → FairThen asked d p a
   guessed_fairly law a shown = inr (s.parts, s.is, inr (inl (shown_fairly law a shown)))
 
   pub found_fairly : FairGoalsAreTrue → initial_states t ≢ [] → count_of goal ≤ most_fair_of goal → CanBeHad (system_of t) (sets_of_goal goal) → (r : Result Shown CodeRefusal)
-      → IfOk r (λ shown. IsFairlyShown asked.json t goal (shown_of shown)) → IfErr r (λ refusal. IsFairlyRefused t goal (refusal_of refusal))
+      → IfOk r (λ shown. IsFairlyShown asked.shape t goal (shown_of shown)) → IfErr r (λ refusal. IsFairlyRefused t goal (refusal_of refusal))
       → (answer_of r ≡ refused no_memory) ⊎ FairThen asked d p (answer_of r)
   found_fairly law some few can (Ok shown) is why = inr (answered some few (shown_of shown) (inl (shown_fairly law (shown_of shown) is)))
   found_fairly law some few can (Err refusal) is why = go (refusal_of refusal) why where
@@ -313,14 +316,14 @@ module _ (s : FairSought) (t : FairTask) (ready : IsFairTask s t) (w : Wanted) (
       subst (λ (x : Wanted). CanBeJudged (kind_of x.kind) x.nodes x.grounded.now) (sym is)
       (subst (CanBeJudged with_contexts s.asked.now.nodes) (sym ready.judged) can_here)
 
-  pub fairly_shown : (r : Result (Option Shown) CodeRefusal) → IfOk r (λ found. IfSome found (λ shown. IsJudgedShown (kind_of w.kind) w.json w.grounded.now (shown_of shown)))
+  pub fairly_shown : (r : Result (Option Shown) CodeRefusal) → IfOk r (λ found. IfSome found (λ shown. IsJudgedShown (kind_of w.kind) w.shape w.grounded.now (shown_of shown)))
       → IfOk r (λ found. IfSome found (IsFairShownFor s t))
   fairly_shown (Ok (Some shown)) is_shown =
       record {
         made = ready.made;
         translated = ready.translated;
-        shown = subst (λ (g : Grounded). IsJudgedShown with_contexts s.asked.now.json g (shown_of shown)) ready.judged
-            (subst (λ (x : Wanted). IsJudgedShown (kind_of x.kind) x.json x.grounded.now (shown_of shown)) is is_shown);
+        shown = subst (λ (g : Grounded). IsJudgedShown with_contexts s.asked.now.shape g (shown_of shown)) ready.judged
+            (subst (λ (x : Wanted). IsJudgedShown (kind_of x.kind) x.shape x.grounded.now (shown_of shown)) is is_shown);
       }
   fairly_shown (Ok None) none = tt
   fairly_shown (Err refusal) none = tt

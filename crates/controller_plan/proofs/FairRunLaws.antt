@@ -17,11 +17,11 @@ use Rattle.command_base.proofs.PddlDecides.{not_refused, shown_both, shown_goal,
 use Rattle.command_base.proofs.Statuses.{shown_at}
 use Rattle.plan_command.specs.ContextGoals.{context_goal}
 use Rattle.controller_plan.specs.FairControllers.{FairThen, IsFairAnswer, IsFairMissing, IsFairResult, IsFairShown, IsTried, fair_goal_of}
-use Rattle.controller_plan.specs.FairWords.{ControlRequest, FairWords, SaysFair, to_try}
+use Rattle.controller_words.specs.FairWords.{ControlRequest, FairWords, SaysFair, to_try}
 use Rattle.controller_plan.specs.Laws.{IsFairControllerRun, IsNoFairPlanRun}
 use Rattle.controller_plan.specs.Runs.{ControlRun, HasControlCause, HasControlled, IsRequestAnswer}
 use Rattle.controller_plan.proofs.Answers.{denied_affirms_nothing}
-use Rattle.controller_plan.proofs.FairWordLists.{one_request}
+use Rattle.controller_words.proofs.OneAsked.{one_request}
 use Rattle.controller_plan.proofs.RunLaws.{affirms, as_written, delivered_whole, denies}
 
 -- what was found for the goal of the problem that the files spell
@@ -100,7 +100,7 @@ module _ {S : Type 0} (held : S → Bytes → Held) (faults : S → ℕ) (fetche
       let found = found_cause (held run.shelf) failed run.words asked a shown says has.cause in
       let text = affirms a shown code in
       let controller = shown_for (held run.shelf) asked a found text.0 text.1 shown in
-      (found.domain, found.problem, found.goal, controller.plan, controller.steps, found.both, found.is, controller.text, as_written _ a run.out run.out_after controller.shown (whole.text shown))
+      (found.domain, found.problem, found.goal, controller.plan, controller.steps, controller.bytes, found.both, found.is, controller.text, controller.guarded, controller.shown_as, as_written _ a run.out run.out_after controller.shown (whole.text shown))
 
   pub no_fair_plan_run : IsNoFairPlanRun held run
   no_fair_plan_run asked says one =

@@ -2,12 +2,9 @@ pub mod Answers
 pub mod FairAnswers
 pub mod FairGoalParts
 pub mod FairRunLaws
-pub mod FairWordLists
 pub mod Limits
-pub mod OneAsked
 pub mod NoPlans
 pub mod RuleRooms
 pub mod RunLaws
 pub mod Tables
-pub mod WordLists
 pub mod Yes

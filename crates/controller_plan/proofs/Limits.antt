@@ -20,7 +20,7 @@ use Rattle.command_base.proofs.TaskNames.{same_actions, same_fluents}
 use Rattle.controller_plan.specs.Controllers.{IsTooMuchToList, ReachesTooMany}
 use Rattle.controller_plan.specs.Judged.{HasNoGraph, IsControlRefusal, IsReachRefusal}
 use Rattle.controller_plan.specs.SetRoom.{IsTightForPlan}
-use Rattle.controller_plan.specs.Words.{ControlWords}
+use Rattle.controller_words.specs.Words.{ControlWords}
 
 -- too many initial states, or configurations, of a plan with contexts
 pub reach_refusal : (asked : ControlWords) (d : DomainTree) (p : ProblemTree) (task : Task) (TooMany : Type 0) (r : Refusal) → IsTaskOf d p task → asked.plan.kind ≡ with_contexts

@@ -23,7 +23,7 @@ use Rattle.std.specs.declared.alloc.AllocError.{AllocError}
 use Rattle.plan_command.proofs.Meetings.{no_table}
 use Rattle.controller_plan.specs.Controllers.{IsNoPlanShown, IsRefuted}
 use Rattle.controller_plan.specs.Judged.{IsNoPlanTold}
-use Rattle.controller_plan.specs.Words.{ControlWords}
+use Rattle.controller_words.specs.Words.{ControlWords}
 
 -- what is known of certificates
 abbrev pub AcceptedMeansNone : Type 0

@@ -23,11 +23,11 @@ use Rattle.command_base.proofs.Statuses.{shown_at}
 use Rattle.answer_help.specs.Helped.{IsHelpedDelivery}
 use Rattle.controller_plan.specs.Controllers.{ControlThen, IsControlAnswer, IsControlled, IsControllerShown, IsNoPlanShown}
 use Rattle.controller_plan.specs.Laws.{IsControllerRun, IsNoPlanRun}
-use Rattle.controller_plan.specs.FairWords.{ControlRequest, to_plan}
+use Rattle.controller_words.specs.FairWords.{ControlRequest, to_plan}
 use Rattle.controller_plan.specs.Runs.{ControlRun, HasControlCause, HasControlled, IsRequestAnswer}
-use Rattle.controller_plan.specs.Words.{ControlWords, SaysControl}
+use Rattle.controller_words.specs.Words.{ControlWords, SaysControl}
 use Rattle.controller_plan.proofs.Answers.{denied_affirms_nothing}
-use Rattle.controller_plan.proofs.FairWordLists.{one_request}
+use Rattle.controller_words.proofs.OneAsked.{one_request}
 
 -- the trees that the files spell, and what follows for a shown answer
 pub record ShownFor (held : Bytes → Held) (asked : ControlWords) (a : Answer) : Type 0 where
@@ -160,7 +160,7 @@ module _ {S : Type 0} (held : S → Bytes → Held) (faults : S → ℕ) (fetche
       let found = shown_cause (held run.shelf) failed run.words asked a shown says has.cause in
       let text = affirms a shown code in
       let controller = controller_for asked found.domain found.problem a text.0 text.1 shown found.then in
-      (found.domain, found.problem, controller.plan, controller.steps, found.both, controller.text, as_written _ a run.out run.out_after controller.shown (whole.text shown))
+      (found.domain, found.problem, controller.plan, controller.steps, controller.bytes, found.both, controller.text, controller.guarded, controller.shown_as, as_written _ a run.out run.out_after controller.shown (whole.text shown))
 
   pub no_plan_run : IsNoPlanRun held run
   no_plan_run asked says one =

@@ -1,6 +1,6 @@
 -- What is judged to be good is a controller.
 use Rattle.std.proofs.Common.{◌≡◌, ◌↔◌, ◌<◌, ◌≤◌, ◌∙◌, ap, ℕ, Bool, false, true, List, length, refl, subst, sym, Option, None, Some, inl, inr}
-use Rattle.std.specs.Prelude.{codes, Err, IfErr, IfOk, IfSome, Ok, Result, Vec}
+use Rattle.std.specs.Prelude.{codes, Err, IfErr, IfOk, IfSome, IsTrue, Ok, Result, Vec}
 use Rattle.std.specs.declared.alloc.Global.{Global}
 use Rattle.controller_rules.specs.AsRun.{HasNoDeadRule, HasNoHiddenRule, HasOneMove, NamesLastContext}
 use Rattle.controller_rules.specs.Texts.{IsTextWithin, controller_text}
@@ -38,12 +38,17 @@ use Rattle.command_base.specs.Words.{Bytes, PlanKind, of_class, with_contexts}
 use Rattle.check_command.proofs.CheckAnswers.{goal_in, verdict_for}
 use Rattle.check_command.proofs.YesMeets.{YesSolves, yes_is_met}
 use Rattle.command_base.proofs.TaskNames.{same_actions, same_fluents}
-use Rattle.controller_plan.specs.Controllers.{HasLongText, IsController, IsControllerShown, run_meaning, shown_bytes, text_for}
-use Rattle.controller_plan.specs.Judged.{CanBeJudged, HasLongJudged, HasNoGraph, IsControlRefusal, IsFoundGood, IsGoodAlong, IsJudged, IsJudgedShown, IsMadeRefusal, IsRoomRefusal, IsTableGoodOnSets, bytes_as, text_over}
+use Rattle.controller_plan.specs.Controllers.{HasLongText, IsController, IsControllerShown, IsGuardedFor, IsProgramOf, IsShownAs, run_meaning, text_for}
+use Rattle.controller_plan.specs.Judged.{CanBeJudged, HasLongJudged, HasNoGraph, IsControlRefusal, IsFoundGood, IsGoodAlong, IsJudged, IsJudgedShown, IsMadeRefusal, IsRoomRefusal, IsTableGoodOnSets, IsAffirmedAs, IsGuardedOver, IsShownOver, text_over}
 use Rattle.controller_plan.proofs.Limits.{no_room, too_much}
 use Rattle.controller_plan.specs.Sought.{IsFoundFor, IsReady, IsRefusedFor, IsShownFor, JudgedPlansControl, wanted_for}
-use Rattle.controller_plan.specs.Values.{control_words_of}
-use Rattle.controller_plan.specs.Words.{ControlWords}
+use Rattle.controller_words.specs.Values.{control_words_of}
+use Rattle.controller_words.specs.Words.{ControlWords}
+use Rattle.controller_words.specs.declared.shapes.Form.{Form}
+use Rattle.controller_words.specs.declared.shapes.Form.TheVariants.{Code, Json, Text as AsText}
+use Rattle.controller_words.specs.declared.shapes.Shape.{Shape}
+use Rattle.controller_code.specs.declared.texts.Language.{Language}
+use Rattle.task_core.specs.declared.tasks.Task.{Task}
 use Rattle.controller_plan.specs.declared.made.Wanted.{Wanted}
 use Rattle.controller_plan.specs.declared.sought.Found.{Found}
 use Rattle.controller_plan.specs.declared.sought.Sought.{Sought}
@@ -126,29 +131,49 @@ text_is : (most : ℕ) (text : List ℕ) (found : Option (Vec ℕ Global)) (byte
 text_is most text found bytes is within = subst (IsTextWithin most text) is within
 
 -- what is shown, over names that are those of the domain and the problem
-by_json : (json : Bool) (d : DomainTree) (p : ProblemTree) (plan : PlainPlan) (steps : List ℕ) (bytes : Bytes) → bytes ≡ text_for d p plan steps
-    → bytes_as json (fluent_names d p) (action_names d p) plan bytes ≡ shown_bytes json d p plan steps
-by_json false d p plan steps bytes is = is
-by_json true d p plan steps bytes is = refl
+program_for : (language : Language) (d : DomainTree) (p : ProblemTree) (t : Task) (plan : PlainPlan) (bytes : Bytes) → IsTaskOf d p t → IsProgramOf language (names_of_fluents t) (names_of_actions t) plan bytes
+    → IsProgramOf language (fluent_names d p) (action_names d p) plan bytes
+program_for language d p t plan bytes of shown =
+    subst (λ (ys : List Name). IsProgramOf language (fluent_names d p) ys plan bytes) (same_actions d p t of.task_is)
+    (subst (λ (xs : List Name). IsProgramOf language xs (names_of_actions t) plan bytes) (same_fluents d p t of.task_is) shown)
+
+text_same : (d : DomainTree) (p : ProblemTree) (t : Task) (plan : PlainPlan) (steps : List ℕ) → IsTaskOf d p t → text_over t plan steps ≡ text_for d p plan steps
+text_same d p t plan steps of =
+    ap (λ (xs : List Name). controller_text xs (names_of_actions t) plan steps) (same_fluents d p t of.task_is)
+    ∙ ap (λ (ys : List Name). controller_text (fluent_names d p) ys plan steps) (same_actions d p t of.task_is)
+
+by_form : (form : Form) (d : DomainTree) (p : ProblemTree) (t : Task) (plan : PlainPlan) (steps : List ℕ) (bytes : Bytes) → IsTaskOf d p t → IsShownOver form t plan (text_over t plan steps) bytes
+    → IsShownAs form d p plan steps bytes
+by_form AsText d p t plan steps bytes of is = is ∙ text_same d p t plan steps of
+by_form Json d p t plan steps bytes of is = (t, of, is)
+by_form (Code language) d p t plan steps bytes of is = program_for language d p t plan bytes of is
+
+guarded_for : (guarded : Bool) (d : DomainTree) (p : ProblemTree) (t : Task) (plan : PlainPlan) → IsTaskOf d p t → IsGuardedOver guarded t plan → IsGuardedFor guarded d p plan
+guarded_for guarded d p t plan of are = λ wanted. (t, of, are wanted)
 
 -- what is shown of a plan, over these names
-pub record ShownText (json : Bool) (d : DomainTree) (p : ProblemTree) (plan : PlainPlan) (steps : List ℕ) (a : Answer) : Type 0 where
+pub record ShownText (shape : Shape) (d : DomainTree) (p : ProblemTree) (plan : PlainPlan) (steps : List ℕ) (a : Answer) : Type 0 where
   pub spelled : SpellsPlain (fluent_names d p) (action_names d p) (text_for d p plan steps) plan
   pub short : length (text_for d p plan steps) ≤ file_limit
-  pub shown : a ≡ affirmed (shown_bytes json d p plan steps)
+  pub guarded : IsGuardedFor shape.guarded d p plan
+  pub bytes : Bytes
+  pub shown_as : IsShownAs shape.form d p plan steps bytes
+  pub shown : a ≡ affirmed bytes
 
-pub text_shown : (kind : PlanKind) (json : Bool) (d : DomainTree) (p : ProblemTree) (g : Grounded) (a : Answer) → IsTaskOf d p g.task → (shown : IsJudgedShown kind json g a)
-    → ShownText json d p shown.plan shown.steps a
-text_shown kind json d p g a of shown =
+pub text_shown : (kind : PlanKind) (shape : Shape) (d : DomainTree) (p : ProblemTree) (g : Grounded) (a : Answer) → IsTaskOf d p g.task → (shown : IsJudgedShown kind shape g a)
+    → ShownText shape d p shown.plan shown.steps a
+text_shown kind shape d p g a of shown =
     let P : List Name → List Name → Type 0 = λ (xs ys : List Name).
-    (length (controller_text xs ys shown.plan shown.steps) ≤ file_limit) × SpellsPlain xs ys (controller_text xs ys shown.plan shown.steps) shown.plan
-    × (a ≡ affirmed (bytes_as json xs ys shown.plan (controller_text xs ys shown.plan shown.steps))) in
+    (length (controller_text xs ys shown.plan shown.steps) ≤ file_limit) × SpellsPlain xs ys (controller_text xs ys shown.plan shown.steps) shown.plan in
     let all : P (fluent_names d p) (action_names d p) = subst (λ (ys : List Name). P (fluent_names d p) ys) (same_actions d p g.task of.task_is)
-    (subst (λ (xs : List Name). P xs (names_of_actions g.task)) (same_fluents d p g.task of.task_is) (shown.short, shown.spelled, shown.shown)) in
+    (subst (λ (xs : List Name). P xs (names_of_actions g.task)) (same_fluents d p g.task of.task_is) (shown.short, shown.spelled)) in
     record {
       spelled = all.1;
       short = all.0;
-      shown = all.2 ∙ ap affirmed (by_json json d p shown.plan shown.steps (text_for d p shown.plan shown.steps) refl);
+      guarded = guarded_for shape.guarded d p g.task shown.plan of shown.guarded;
+      bytes = shown.shown.bytes;
+      shown_as = by_form shape.form d p g.task shown.plan shown.steps shown.shown.bytes of shown.shown.shown_as;
+      shown = shown.shown.shown;
     }
 
 pub text_long : (kind : PlanKind) (d : DomainTree) (p : ProblemTree) (g : Grounded) → IsTaskOf d p g.task → (judged : HasLongJudged kind g) → file_limit < length (text_for d p judged.plan judged.steps)
@@ -156,12 +181,29 @@ text_long kind d p g of judged =
     subst (λ (ys : List Name). file_limit < length (controller_text (fluent_names d p) ys judged.plan judged.steps)) (same_actions d p g.task of.task_is)
     (subst (λ (xs : List Name). file_limit < length (controller_text xs (names_of_actions g.task) judged.plan judged.steps)) (same_fluents d p g.task of.task_is) judged.long)
 
+-- what is shown in a form
+pub text_affirmed : (form : Form) (t : Task) (plan : PlainPlan) (bytes : Bytes) (a : Answer) → form ≡ AsText → a ≡ affirmed bytes → IsAffirmedAs form t plan bytes a
+text_affirmed form t plan bytes a is shown = subst (λ (f : Form). IsAffirmedAs f t plan bytes a) (sym is) (record { bytes = bytes; shown_as = refl; shown = shown })
+
+pub form_affirmed : {E : Type 0} (form other : Form) (t : Task) (plan : PlainPlan) (text : Bytes) (r : Result Shown E) → form ≡ other
+    → ((bytes : Bytes) → IfOk r (λ shown. IsAffirmedAs other t plan bytes (shown_of shown))) → IfOk r (λ shown. IsAffirmedAs form t plan text (shown_of shown))
+form_affirmed form other t plan text r is shown = subst (λ (f : Form). IfOk r (λ shown. IsAffirmedAs f t plan text (shown_of shown))) (sym is) (shown text)
+
+pub ok_holds : {E Fact : Type 0} (r : Result Bool E) → Fact → IfOk r (λ is. IsTrue is → Fact)
+ok_holds (Ok is) fact = λ true_is. fact
+ok_holds (Err refusal) fact = tt
+
+pub made_room : (kind : PlanKind) (nodes : ℕ) (g : Grounded) (plan : PlainPlan) (r : Result (Option Shown) CodeRefusal) → IfErr r (λ refusal. IsMadeRefusal kind g (refusal_of refusal))
+    → IfErr r (λ refusal. IsRoomRefusal kind nodes g plan (refusal_of refusal))
+made_room kind nodes g plan (Ok found) is = tt
+made_room kind nodes g plan (Err refusal) is = inl is
+
 -- what is shown of a plan that was judged
-pub is_shown : (kind : PlanKind) (json : Bool) (g : Grounded) (plan : PlainPlan) (steps : List ℕ) (found : Option (Vec ℕ Global)) (bytes : Vec ℕ Global) (a : Answer)
-    → IsJudged kind g.task g.ctl plan → found ≡ Some bytes → IsTextWithin file_limit (text_over g.task plan steps) found
+pub is_shown : (kind : PlanKind) (shape : Shape) (g : Grounded) (plan : PlainPlan) (steps : List ℕ) (found : Option (Vec ℕ Global)) (bytes : Vec ℕ Global) (a : Answer)
+    → IsJudged kind g.task g.ctl plan → IsGuardedOver shape.guarded g.task plan → found ≡ Some bytes → IsTextWithin file_limit (text_over g.task plan steps) found
     → SpellsPlain (names_of_fluents g.task) (names_of_actions g.task) (text_over g.task plan steps) plan
-    → a ≡ affirmed (bytes_as json (names_of_fluents g.task) (names_of_actions g.task) plan bytes.items) → IsJudgedShown kind json g a
-is_shown kind json g plan steps found bytes a judged is within spells shown =
+    → IsAffirmedAs shape.form g.task plan bytes.items a → IsJudgedShown kind shape g a
+is_shown kind shape g plan steps found bytes a judged guarded is within spells shown =
     let text = text_is file_limit (text_over g.task plan steps) found bytes is within in
     record {
       plan = plan;
@@ -169,7 +211,8 @@ is_shown kind json g plan steps found bytes a judged is within spells shown =
       judged = judged;
       spelled = spells;
       short = text.1;
-      shown = shown ∙ ap (λ (b : Bytes). affirmed (bytes_as json (names_of_fluents g.task) (names_of_actions g.task) plan b)) text.0;
+      guarded = guarded;
+      shown = subst (λ (b : Bytes). IsAffirmedAs shape.form g.task plan b a) text.0 shown;
     }
 
 -- and where its text is too long, that is so
@@ -180,9 +223,9 @@ is_long kind g plan steps found judged is within =
 
 -- a plan that was judged for the task of a problem is a controller for the problem
 module _ (control : JudgedPlansControl) (asked : ControlWords) (d : DomainTree) (p : ProblemTree) (g : Grounded) (of : IsGroundedOf d p g) where
-  shown_controller : (a : Answer) → IsJudgedShown asked.plan.kind asked.json g a → IsControllerShown asked d p a
+  shown_controller : (a : Answer) → IsJudgedShown asked.plan.kind asked.shape g a → IsControllerShown asked d p a
   shown_controller a shown =
-      let text = text_shown asked.plan.kind asked.json d p g a of.of_task shown in
+      let text = text_shown asked.plan.kind asked.shape d p g a of.of_task shown in
       record {
         plan = shown.plan;
         steps = shown.steps;
@@ -191,6 +234,9 @@ module _ (control : JudgedPlansControl) (asked : ControlWords) (d : DomainTree) 
           spelled = text.spelled;
           short = text.short;
         };
+        guarded = text.guarded;
+        bytes = text.bytes;
+        shown_as = text.shown_as;
         shown = text.shown;
       }
 
@@ -206,7 +252,7 @@ module _ (control : JudgedPlansControl) (asked : ControlWords) (d : DomainTree) 
   made_refusal r (inl memory) = inl memory
   made_refusal r (inr (long, is)) = inr (inl (codes "file", inr (inr (refl, inl (long_controller long))), is))
 
-  made_shown : (r : Result (Option Shown) CodeRefusal) → IfOk r (λ found. IfSome found (λ shown. IsJudgedShown asked.plan.kind asked.json g (shown_of shown)))
+  made_shown : (r : Result (Option Shown) CodeRefusal) → IfOk r (λ found. IfSome found (λ shown. IsJudgedShown asked.plan.kind asked.shape g (shown_of shown)))
       → IfOk r (λ found. IfSome found (λ shown. IsControllerShown asked d p (shown_of shown)))
   made_shown (Ok (Some shown)) is = shown_controller (shown_of shown) is
   made_shown (Ok None) is = tt
@@ -241,11 +287,11 @@ module _ (control : JudgedPlansControl) (s : Sought) (ready : IsReady s) (w : Wa
         names = ready.grounded.names;
       })
 
-  pub shown_for : (r : Result (Option Shown) CodeRefusal) → IfOk r (λ found. IfSome found (λ shown. IsJudgedShown (kind_of w.kind) w.json w.grounded.now (shown_of shown)))
+  pub shown_for : (r : Result (Option Shown) CodeRefusal) → IfOk r (λ found. IfSome found (λ shown. IsJudgedShown (kind_of w.kind) w.shape w.grounded.now (shown_of shown)))
       → IfOk r (λ found. IfSome found (IsShownFor s))
   shown_for r shown =
       made_shown control words domain problem s.grounded.now ready.grounded r
-      (subst (λ (x : Wanted). IfOk r (λ found. IfSome found (λ shown. IsJudgedShown (kind_of x.kind) x.json x.grounded.now (shown_of shown)))) is shown)
+      (subst (λ (x : Wanted). IfOk r (λ found. IfSome found (λ shown. IsJudgedShown (kind_of x.kind) x.shape x.grounded.now (shown_of shown)))) is shown)
 
   pub refused_for : (r : Result (Option Shown) CodeRefusal) → IfErr r (λ refusal. IsMadeRefusal (kind_of w.kind) w.grounded.now (refusal_of refusal)) → IfErr r (IsRefusedFor s)
   refused_for r refused =

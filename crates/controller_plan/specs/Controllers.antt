@@ -1,9 +1,14 @@
 -- Which answer is a controller, and the answer to the words.
 use Rattle.std.specs.Prelude.{◌≡◌, ◌≢◌, ◌++◌, ◌<◌, ◌≤◌, ◌⊎◌, ℕ, Bool, true, false, List, [], codes}
-use Rattle.std.specs.Prelude.{length}
+use Rattle.std.specs.Prelude.{IsTrue, length}
 use Rattle.controller_rules.specs.AsRun.{HasNoDeadRule, HasNoHiddenRule, HasOneMove}
 use Rattle.controller_rules.specs.AsRun.{NamesLastContext}
+use Rattle.controller_rules.specs.Guards.{AreGuarded}
 use Rattle.controller_rules.specs.Texts.{controller_text}
+use Rattle.controller_code.specs.FirstMoves.{DecidesAs}
+use Rattle.controller_code.specs.Texts.{code_text}
+use Rattle.controller_code.specs.declared.texts.Language.{Language}
+use Rattle.controller_code.specs.declared.trees.Tree.{Tree}
 use Rattle.exec_graph.specs.Executions.{ReachesMoreThan}
 use Rattle.first_match.specs.FirstMatch.{run_table}
 use Rattle.pddl_ast.specs.Trees.{DomainTree, ProblemTree}
@@ -17,6 +22,7 @@ use Rattle.plan_io.specs.Held.{Held}
 use Rattle.plan_rules.specs.Denoted.{denoted_contexts}
 use Rattle.plan_rules.specs.Readings.{SpellsPlain}
 use Rattle.plan_rules.specs.Rules.{PlainPlan, automaton, table}
+use Rattle.task_core.specs.Names.{Name}
 use Rattle.task_core.specs.Systems.{System}
 use Rattle.task_core.specs.declared.tasks.Task.{Task}
 use Rattle.command_base.specs.Answers.{Answer, affirmed, denied, full, over_limit, refused}
@@ -29,7 +35,9 @@ use Rattle.plan_command.specs.PlanCommand.{HasNoPlan, IsWrittenFor, MayRunOut, P
 use Rattle.command_base.specs.Reading.{file_limit}
 use Rattle.command_base.specs.Words.{Bytes, PlanKind, of_class, with_contexts}
 use Rattle.controller_plan.specs.SetRoom.{IsTightForPlan}
-use Rattle.controller_plan.specs.Words.{ControlWords}
+use Rattle.controller_words.specs.Words.{ControlWords}
+use Rattle.controller_words.specs.declared.shapes.Form.{Form}
+use Rattle.controller_words.specs.declared.shapes.Form.TheVariants.{Code, Json, Text as AsText}
 
 -- what a plan means as it is run: of a table the pairs of the first rule that matches each state, of
 -- an automaton its plan with contexts, in which the first rule counts anyway
@@ -77,20 +85,38 @@ pub record IsControllerText (kind : PlanKind) (domain : DomainTree) (problem : P
       (text_for domain problem plan steps) plan
   pub short : length (text_for domain problem plan steps) ≤ file_limit
 
--- what is shown of a controller: its text or, as JSON, the document of the same plan
-abbrev pub shown_bytes : Bool → DomainTree → ProblemTree → PlainPlan → List ℕ → Bytes
-shown_bytes false domain problem plan steps = text_for domain problem plan steps
-shown_bytes true domain problem plan steps =
-    document_text (fluent_names domain problem) (action_names domain problem) plan
+-- a program in a language: the text of a decision tree that decides as the plan does, in each context
+-- and at every state
+pub record IsProgramOf (language : Language) (fluents actions : List Name) (plan : PlainPlan)
+    (bytes : Bytes) : Type 0 where
+  pub tree : Tree
+  pub decides : DecidesAs tree plan
+  pub written : bytes ≡ code_text language fluents actions tree
 
--- a controller is shown. Its text is made of the plan and the numbers of steps alone, and the document
--- of the plan, so that both tell the same, whichever is asked for
+-- what is shown of a plan: its text; or, as JSON, its document over the problem's task; or a program
+abbrev pub IsShownAs : Form → DomainTree → ProblemTree → PlainPlan → List ℕ → Bytes → Type 0
+IsShownAs AsText domain problem plan steps bytes = bytes ≡ text_for domain problem plan steps
+IsShownAs Json domain problem plan steps bytes =
+    (task : Task) × IsTaskOf domain problem task × (bytes ≡ document_text task plan)
+IsShownAs (Code language) domain problem plan steps bytes =
+    IsProgramOf language (fluent_names domain problem) (action_names domain problem) plan bytes
+
+-- where that is asked for, each rule of a plan asks for the precondition of its action
+abbrev pub IsGuardedFor : Bool → DomainTree → ProblemTree → PlainPlan → Type 0
+IsGuardedFor wanted domain problem plan =
+    IsTrue wanted → (task : Task) × IsTaskOf domain problem task × AreGuarded task plan
+
+-- a controller is shown. What is shown is made of the plan and the numbers of steps alone, so that all
+-- forms tell the same
 pub record IsControllerShown (asked : ControlWords) (domain : DomainTree) (problem : ProblemTree)
     (answer : Answer) : Type 0 where
   pub plan : PlainPlan
   pub steps : List ℕ
   pub text : IsControllerText asked.plan.kind domain problem plan steps
-  pub shown : answer ≡ affirmed (shown_bytes asked.json domain problem plan steps)
+  pub guarded : IsGuardedFor asked.shape.guarded domain problem plan
+  pub bytes : Bytes
+  pub shown_as : IsShownAs asked.shape.form domain problem plan steps bytes
+  pub shown : answer ≡ affirmed bytes
 
 -- a controller was found, and its text is longer than a plan's file may be
 pub record HasLongText (kind : PlanKind) (domain : DomainTree) (problem : ProblemTree) : Type 0 where

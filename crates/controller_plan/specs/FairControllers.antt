@@ -26,8 +26,8 @@ use Rattle.command_base.specs.Words.{Bytes, with_contexts}
 use Rattle.plan_command.specs.ContextGoals.{context_goal, most_visits, part_count, part_limit}
 use Rattle.plan_command.specs.GoalSets.{GoalSets, goal_sets, of_patrol, of_until}
 use Rattle.plan_command.specs.PlanCommand.{no_plan_text}
-use Rattle.controller_plan.specs.Controllers.{shown_bytes, text_for}
-use Rattle.controller_plan.specs.FairWords.{FairWords}
+use Rattle.controller_plan.specs.Controllers.{IsGuardedFor, IsShownAs, text_for}
+use Rattle.controller_words.specs.FairWords.{FairWords}
 
 -- the sets of states of a goal, as one whose actions may be tried again
 abbrev pub fair_sets : GoalSets → SetGoal
@@ -62,13 +62,17 @@ pub record IsFairText (domain : DomainTree) (problem : ProblemTree) (goal : SetG
       (text_for domain problem plan steps) plan
   pub short : length (text_for domain problem plan steps) ≤ file_limit
 
--- such a controller is shown: its text, or the document of the same plan
+-- such a controller is shown: its text, the document of the same plan, or a program that decides as it
+-- does
 pub record IsFairShown (asked : FairWords) (domain : DomainTree) (problem : ProblemTree)
     (goal : SetGoal) (answer : Answer) : Type 0 where
   pub plan : PlainPlan
   pub steps : List ℕ
   pub text : IsFairText domain problem goal plan steps
-  pub shown : answer ≡ affirmed (shown_bytes asked.json domain problem plan steps)
+  pub guarded : IsGuardedFor asked.shape.guarded domain problem plan
+  pub bytes : Bytes
+  pub shown_as : IsShownAs asked.shape.form domain problem plan steps bytes
+  pub shown : answer ≡ affirmed bytes
 
 -- there is no plan: none with contexts, whatever its contexts are and however many
 pub record IsFairMissing (domain : DomainTree) (problem : ProblemTree) (goal : SetGoal)

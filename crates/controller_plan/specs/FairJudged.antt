@@ -1,5 +1,5 @@
 -- Private: what is found for a goal whose actions may be tried again, over a task.
-use Rattle.std.specs.Prelude.{◌≡◌, ◌⊎◌, ℕ, Bool, Some, [], codes}
+use Rattle.std.specs.Prelude.{◌≡◌, ◌⊎◌, ℕ, Some, [], codes}
 use Rattle.ctl_syntax.specs.Conditions.{condition_value}
 use Rattle.ctl_syntax.specs.GoalValues.{tree_of_goal}
 use Rattle.ctl_syntax.specs.Goals.{map_plain}
@@ -24,6 +24,7 @@ use Rattle.command_base.specs.Answers.{Answer, Refusal, no_memory, over_limit}
 use Rattle.command_base.specs.Words.{with_contexts}
 use Rattle.plan_command.specs.ContextGoals.{most_visits}
 use Rattle.controller_plan.specs.Judged.{HasLongJudged, IsJudgedShown}
+use Rattle.controller_words.specs.declared.shapes.Shape.{Shape}
 
 -- how many stages or visits a goal may have
 abbrev pub most_fair_of : ContextGoal → ℕ
@@ -51,11 +52,11 @@ abbrev pub with_goal : Task → Ctl → Grounded
 with_goal task made = record { task = task; ctl = Some made }
 
 -- a plan is shown that was judged by the goal that stands for this one
-pub record IsFairlyShown (json : Bool) (task : Task) (goal : ContextGoal) (answer : Answer)
+pub record IsFairlyShown (shape : Shape) (task : Task) (goal : ContextGoal) (answer : Answer)
     : Type 0 where
   pub made : Ctl
   pub translated : IsTranslated goal made
-  pub shown : IsJudgedShown with_contexts json (with_goal task made) answer
+  pub shown : IsJudgedShown with_contexts shape (with_goal task made) answer
 
 -- a plan was judged so whose text is too long
 pub record HasLongFairly (task : Task) (goal : ContextGoal) : Type 0 where

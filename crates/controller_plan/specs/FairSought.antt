@@ -22,8 +22,8 @@ use Rattle.plan_command.specs.GoalConditions.{count_of}
 use Rattle.controller_plan.specs.FairControllers.{FairThen}
 use Rattle.controller_plan.specs.FairJudged.{IsFairlyMade, IsFairlyRefused, IsFairlyShown, IsTranslated}
 use Rattle.controller_plan.specs.FairJudged.{most_fair_of, with_goal}
-use Rattle.controller_plan.specs.FairWords.{FairWords}
-use Rattle.controller_plan.specs.Values.{fair_words_of}
+use Rattle.controller_words.specs.FairWords.{FairWords}
+use Rattle.controller_words.specs.Values.{fair_words_of}
 use Rattle.controller_plan.specs.declared.fair.FairSought.{FairSought}
 use Rattle.controller_plan.specs.declared.fair_controllers.FairTask.{FairTask}
 use Rattle.controller_plan.specs.declared.made.Wanted.{Wanted}
@@ -80,7 +80,7 @@ FollowsFairly sought shown = IsFairAnswerFor sought (shown_of shown)
 -- a plan is shown that was judged to have the goal
 abbrev pub IsFairShownFor : FairSought → FairTask → Shown → Type 0
 IsFairShownFor sought task shown =
-    IsFairlyShown sought.asked.now.json task.judged.now.task task.goal.now (shown_of shown)
+    IsFairlyShown sought.asked.now.shape task.judged.now.task task.goal.now (shown_of shown)
 
 -- why none is shown of a plan
 abbrev pub IsFairMadeRefusal : FairTask → Refusal → Type 0
@@ -97,6 +97,6 @@ abbrev pub wanted_fairly : FairSought → FairTask → Wanted
 wanted_fairly sought task = record {
   kind = Contexts;
   nodes = sought.asked.now.nodes;
-  json = sought.asked.now.json;
+  shape = sought.asked.now.shape;
   grounded = task.judged;
 }

@@ -1,7 +1,8 @@
 -- Private: that a plan was judged, over its task.
 use Rattle.std.specs.Prelude.{◌≡◌, ◌≢◌, ◌++◌, ◌⊎◌, ◌<◌, ◌≤◌, ℕ, Bool, false, true, List, []}
-use Rattle.std.specs.Prelude.{Option, IfSome, codes, length}
+use Rattle.std.specs.Prelude.{Option, IfSome, IsTrue, codes, length}
 use Rattle.controller_rules.specs.AsRun.{HasNoDeadRule, HasOneMove, NamesLastContext}
+use Rattle.controller_rules.specs.Guards.{AreGuarded}
 use Rattle.controller_rules.specs.Texts.{controller_text}
 use Rattle.ctl_syntax.specs.Values.{NamesBelow, ctl_value}
 use Rattle.ctl_syntax.specs.declared.goals.Ctl.{Ctl}
@@ -32,9 +33,12 @@ use Rattle.command_base.specs.Values.{bytes_of}
 use Rattle.command_base.specs.declared.answers.Text.{Text}
 use Rattle.command_base.specs.Reading.{file_limit}
 use Rattle.command_base.specs.Words.{Bytes, IsNodeLimit, PlanKind, of_class, with_contexts}
-use Rattle.controller_plan.specs.Controllers.{HasNoRoomToJudge, IsLimitPassed}
+use Rattle.controller_plan.specs.Controllers.{HasNoRoomToJudge, IsLimitPassed, IsProgramOf}
 use Rattle.controller_plan.specs.SetRoom.{IsTightForPlan}
-use Rattle.controller_plan.specs.Words.{ControlWords}
+use Rattle.controller_words.specs.Words.{ControlWords}
+use Rattle.controller_words.specs.declared.shapes.Form.{Form}
+use Rattle.controller_words.specs.declared.shapes.Form.TheVariants.{Code, Json, Text as AsText}
+use Rattle.controller_words.specs.declared.shapes.Shape.{Shape}
 
 -- the verdict on a plan of a task is yes
 pub record IsYesFor (kind : PlanKind) (task : Task) (goal : Option Ctl) (plan : PlainPlan)
@@ -95,10 +99,23 @@ IsControlRefusal asked domain problem refusal =
     ⊎ ((name : Bytes) × IsLimitPassed asked domain problem name × (refusal ≡ over_limit name))
     ⊎ (HasNoRoomToJudge asked domain problem × (refusal ≡ full asked.plan.options.nodes))
 
--- what is shown: the text, or the document of the plan
-abbrev pub bytes_as : Bool → List Name → List Name → PlainPlan → Bytes → Bytes
-bytes_as false fluents actions plan text = text
-bytes_as true fluents actions plan text = document_text fluents actions plan
+-- what is shown of a plan with this text: the text, the document, or a program
+abbrev pub IsShownOver : Form → Task → PlainPlan → Bytes → Bytes → Type 0
+IsShownOver AsText task plan text bytes = bytes ≡ text
+IsShownOver Json task plan text bytes = bytes ≡ document_text task plan
+IsShownOver (Code language) task plan text bytes =
+    IsProgramOf language (fluent_names task) (action_names task) plan bytes
+
+-- an answer shows it
+pub record IsAffirmedAs (form : Form) (task : Task) (plan : PlainPlan) (text : Bytes)
+    (answer : Answer) : Type 0 where
+  pub bytes : Bytes
+  pub shown_as : IsShownOver form task plan text bytes
+  pub shown : answer ≡ affirmed bytes
+
+-- where that is asked for, each rule asks for the precondition of its action
+abbrev pub IsGuardedOver : Bool → Task → PlainPlan → Type 0
+IsGuardedOver wanted task plan = IsTrue wanted → AreGuarded task plan
 
 -- a plan can be judged: the task has a goal for plans of the kind, over its fluents, and so many nodes
 -- may be asked for
@@ -112,9 +129,8 @@ pub record CanBeJudged (kind : PlanKind) (nodes : ℕ) (grounded : Grounded) : T
 abbrev pub text_over : Task → PlainPlan → List ℕ → Bytes
 text_over task plan steps = controller_text (fluent_names task) (action_names task) plan steps
 
--- a plan is shown that was judged: its text, which spells it and is no longer than a plan's file may be,
--- or its document
-pub record IsJudgedShown (kind : PlanKind) (json : Bool) (grounded : Grounded) (answer : Answer)
+-- a plan is shown that was judged, and whose text spells it and is no longer than a plan's file may be
+pub record IsJudgedShown (kind : PlanKind) (shape : Shape) (grounded : Grounded) (answer : Answer)
     : Type 0 where
   pub plan : PlainPlan
   pub steps : List ℕ
@@ -122,8 +138,8 @@ pub record IsJudgedShown (kind : PlanKind) (json : Bool) (grounded : Grounded) (
   pub spelled : SpellsPlain (fluent_names grounded.task) (action_names grounded.task)
       (text_over grounded.task plan steps) plan
   pub short : length (text_over grounded.task plan steps) ≤ file_limit
-  pub shown : answer ≡ affirmed (bytes_as json (fluent_names grounded.task)
-      (action_names grounded.task) plan (text_over grounded.task plan steps))
+  pub guarded : IsGuardedOver shape.guarded grounded.task plan
+  pub shown : IsAffirmedAs shape.form grounded.task plan (text_over grounded.task plan steps) answer
 
 -- a plan was judged whose text is longer
 pub record HasLongJudged (kind : PlanKind) (grounded : Grounded) : Type 0 where

@@ -7,16 +7,16 @@ use Rattle.plan_io.specs.Held.{Held}
 use Rattle.command_base.specs.PddlTexts.{HoldBoth}
 use Rattle.plan_command.specs.PlanCommand.{HasNoPlan, no_plan_text}
 use Rattle.command_base.specs.Words.{Bytes}
-use Rattle.controller_plan.specs.Controllers.{IsControllerText, IsNoPlanShown, shown_bytes}
+use Rattle.controller_plan.specs.Controllers.{IsControllerText, IsGuardedFor, IsNoPlanShown, IsShownAs}
 use Rattle.plan_rules.specs.Rules.{PlainPlan}
 use Rattle.ctl_syntax.specs.ContextGoals.{PlainGoal}
 use Rattle.fair_theory.specs.FairPlans.{HasNoFairPlan}
 use Rattle.pddl_system.specs.Systems.{system}
 use Rattle.plan_command.specs.ContextGoals.{context_goal}
 use Rattle.controller_plan.specs.FairControllers.{IsFairText, fair_goal_of}
-use Rattle.controller_plan.specs.FairWords.{FairWords, SaysFair}
+use Rattle.controller_words.specs.FairWords.{FairWords, SaysFair}
 use Rattle.controller_plan.specs.Runs.{ControlRun, HasControlled}
-use Rattle.controller_plan.specs.Words.{ControlWords, SaysControl}
+use Rattle.controller_words.specs.Words.{ControlWords, SaysControl}
 
 -- of every run that has its cause
 abbrev pub OfControlRuns : {S : Type 0} → (S → Bytes → Held) → (S → ℕ) → (S → Bytes → S → Type 0)
@@ -24,16 +24,18 @@ abbrev pub OfControlRuns : {S : Type 0} → (S → Bytes → Held) → (S → �
 OfControlRuns {S} held faults fetched Property =
     (run : ControlRun S) → HasControlled held faults fetched run → Property run
 
--- status 0: the two files spell a problem, and what was written is the text of a controller for it, or,
--- as JSON, the document of one
+-- status 0: the two files spell a problem, and what was written is the text of a controller for it, or
+-- the document of one, or a program that decides as one does
 abbrev pub IsControllerRun : {S : Type 0} → (S → Bytes → Held) → ControlRun S → Type 0
 IsControllerRun {S} held run =
     (asked : ControlWords) → SaysControl run.words asked → run.status ≡ 0
     → (domain : DomainTree) × (problem : ProblemTree) × (plan : PlainPlan) × (steps : List ℕ)
+    × (bytes : Bytes)
     × HoldBoth (held run.shelf) asked.plan.domain asked.plan.problem domain problem
     × IsControllerText asked.plan.kind domain problem plan steps
-    × (run.out_after.written
-    ≡ append_known run.out.written (shown_bytes asked.json domain problem plan steps))
+    × IsGuardedFor asked.shape.guarded domain problem plan
+    × IsShownAs asked.shape.form domain problem plan steps bytes
+    × (run.out_after.written ≡ append_known run.out.written bytes)
 
 -- status 1: there is no plan of the kind for the problem that the two files spell, and that is what
 -- was written, with a certificate that is accepted where one is wanted
@@ -47,18 +49,19 @@ IsNoPlanRun {S} held run =
     × (run.out_after.written ≡ append_known run.out.written text)
 
 -- status 0 for `fair`: the two files spell a problem, whose goal is an until-chain or a patrol goal, and
--- what was written is the text of a controller for it whose actions may be tried again, or, as JSON, the
--- document of one
+-- what was written is the text of a controller for it whose actions may be tried again, or the document
+-- of one, or a program that decides as one does
 abbrev pub IsFairControllerRun : {S : Type 0} → (S → Bytes → Held) → ControlRun S → Type 0
 IsFairControllerRun {S} held run =
     (asked : FairWords) → SaysFair run.words asked → run.status ≡ 0
     → (domain : DomainTree) × (problem : ProblemTree) × (goal : PlainGoal FormulaTree)
-    × (plan : PlainPlan) × (steps : List ℕ)
+    × (plan : PlainPlan) × (steps : List ℕ) × (bytes : Bytes)
     × HoldBoth (held run.shelf) asked.domain asked.problem domain problem
     × (context_goal problem ≡ Some goal)
     × IsFairText domain problem (fair_goal_of domain problem goal) plan steps
-    × (run.out_after.written
-    ≡ append_known run.out.written (shown_bytes asked.json domain problem plan steps))
+    × IsGuardedFor asked.shape.guarded domain problem plan
+    × IsShownAs asked.shape.form domain problem plan steps bytes
+    × (run.out_after.written ≡ append_known run.out.written bytes)
 
 -- status 1 for `fair`: no plan with contexts has the goal, whatever its contexts are and however many
 abbrev pub IsNoFairPlanRun : {S : Type 0} → (S → Bytes → Held) → ControlRun S → Type 0

@@ -2,13 +2,9 @@ pub mod Controllers
 pub mod FairControllers
 pub mod FairJudged
 pub mod FairSought
-pub mod FairWords
 pub mod Followed
 pub mod Judged
 pub mod Laws
 pub mod Runs
 pub mod SetRoom
 pub mod Sought
-pub mod Values
-pub mod Words
-pub mod WrongWords

@@ -9,9 +9,9 @@ use Rattle.command_base.specs.Frame.{FailedIn, HasCauseOf, Run}
 use Rattle.command_base.specs.Words.{Bytes}
 use Rattle.controller_plan.specs.Controllers.{IsControlAnswer}
 use Rattle.controller_plan.specs.FairControllers.{IsFairAnswer}
-use Rattle.controller_plan.specs.FairWords.{ControlRequest, SaysRequest, domain_of, problem_of}
-use Rattle.controller_plan.specs.FairWords.{to_plan, to_try}
-use Rattle.controller_plan.specs.WrongWords.{wrong_control}
+use Rattle.controller_words.specs.FairWords.{ControlRequest, SaysRequest, domain_of, problem_of}
+use Rattle.controller_words.specs.FairWords.{to_plan, to_try}
+use Rattle.controller_words.specs.WrongWords.{wrong_control}
 
 -- the answer to what is asked for
 abbrev pub IsRequestAnswer : (Bytes → Held) → (Bytes → Type 0) → ControlRequest → Answer → Type 0

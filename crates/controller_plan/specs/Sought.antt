@@ -16,8 +16,8 @@ use Rattle.command_base.specs.declared.answers.Shown.{Shown}
 use Rattle.plan_command.specs.PlanCommand.{MayBeTooFew, PlanThen}
 use Rattle.controller_plan.specs.Controllers.{ControlThen, IsController, IsControllerShown, IsRefuted}
 use Rattle.controller_plan.specs.Judged.{IsControlRefusal, IsJudged}
-use Rattle.controller_plan.specs.Values.{control_words_of}
-use Rattle.controller_plan.specs.Words.{ControlWords}
+use Rattle.controller_words.specs.Values.{control_words_of}
+use Rattle.controller_words.specs.Words.{ControlWords}
 use Rattle.controller_plan.specs.declared.made.Wanted.{Wanted}
 use Rattle.controller_plan.specs.declared.sought.Found.{Found}
 use Rattle.controller_plan.specs.declared.sought.Sought.{Sought}
@@ -91,7 +91,7 @@ abbrev pub wanted_for : Sought → Wanted
 wanted_for sought = record {
   kind = sought.asked.now.plan.kind;
   nodes = sought.asked.now.plan.options.nodes;
-  json = sought.asked.now.json;
+  shape = sought.asked.now.shape;
   grounded = sought.grounded;
 }
 

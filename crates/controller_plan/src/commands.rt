@@ -3,8 +3,8 @@
 ghost use Rattle.controller_plan.specs.Controllers.{IsControlAnswer, IsControlled};
 ghost use Rattle.controller_plan.specs.Runs.{HasControlCause};
 ghost use Rattle.controller_plan.specs.Sought.{IsAnswerFor, IsAnswerIn, IsReady};
-ghost use Rattle.controller_plan.specs.Values.{control_words_of};
-ghost use Rattle.controller_plan.specs.FairWords.{
+ghost use Rattle.controller_words.specs.Values.{control_words_of};
+ghost use Rattle.controller_words.specs.FairWords.{
   AskNothing,
   ControlRequest as AskedControl,
   SaysRequest,
@@ -24,12 +24,11 @@ ghost use Rattle.std.specs.Prelude.{◌≡◌, ◌≤◌, ◌⊎◌, List, map, 
 
 use crate::fair::fair_files;
 use crate::plan_controllers::without_controller;
-use crate::requests::{ControlRequest, read_request};
 use crate::search_controllers::shown_sought;
 use crate::searches::Effort;
 use crate::sought::Sought;
-use crate::words::ControlWords;
 use command_base::{Refusal, Shown, check_goal, ground_both, read_both};
+use controller_words::{ControlRequest, ControlWords, read_request};
 use pddl_ast::{Domain, Problem};
 use plan_io::Shelf;
 use std::alloc::Global;

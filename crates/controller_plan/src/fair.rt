@@ -16,7 +16,7 @@ ghost use Rattle.controller_plan.specs.FairSought.{
   StandsFor,
   StandsForNone,
 };
-ghost use Rattle.controller_plan.specs.Values.{fair_words_of};
+ghost use Rattle.controller_words.specs.Values.{fair_words_of};
 ghost use Rattle.ctl_syntax.specs.GoalValues.{GoalIsAtMostDeep, GoalNamesBelow};
 ghost use Rattle.ctl_syntax.specs.Values.{IsAtMostDeep, NamesBelow, ctl_value};
 ghost use Rattle.pddl_ast.specs.Fits.{FitsDomain, FitsProblem};
@@ -42,8 +42,8 @@ ghost use Rattle.std.specs.Prelude.{
 ghost use Rattle.task_core.specs.Tasks.{fluent_count};
 
 use crate::fair_controllers::{FairTask, fair_tried};
-use crate::fair_words::FairWords;
 use command_base::{Limit, PlanKind, Refusal, Shown, check_goal, goal_in, ground_both, read_both};
+use controller_words::FairWords;
 use ctl_syntax::{ContextGoal, Ctl, as_context_goal};
 use fair_theory::{MOST_STAGES, fair_goal};
 use ground_task::Grounded;

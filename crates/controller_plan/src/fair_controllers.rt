@@ -44,7 +44,7 @@ impl<'a> FairTask<'a> {
         Wanted {
             kind: PlanKind::Contexts,
             nodes: sought.asked.nodes,
-            json: sought.asked.json,
+            shape: sought.asked.shape,
             grounded: self.judged,
         }
     }

@@ -1,5 +1,5 @@
 //! A controller: the plan of `plan_command` for the states alone that it reaches, with few and short
-//! rules, as a text that plans are read from, or as a JSON document.
+//! rules, as a text that plans are read from, as a JSON document or as a program.
 //!
 //! `control` finds the plan with the planners of `plan_command`, as sets of states, follows it from the
 //! initial states (`followed`, `searches`, `context_searches`), and makes rules of what it does there
@@ -11,9 +11,8 @@
 //! A controller for a goal with stages whose actions may be tried again (`fair`) is found by `fair_plan`,
 //! and judged by the goal that `fair_theory` puts in the place of the problem's.
 //!
-//! `specs/` says what the call answers: `Words` and `FairWords` which words say what is wanted,
-//! `WrongWords` what is wrong with others, `Controllers` and `FairControllers` the answer, `Runs` a run
-//! with its cause, and `Laws` what follows of each run.
+//! `controller_words` reads the words. `specs/` says what the call answers: `Controllers` and
+//! `FairControllers` the answer, `Runs` a run with its cause, and `Laws` what follows of each run.
 #![tactic(auto)]
 
 mod commands;
@@ -21,18 +20,16 @@ mod context_searches;
 mod fair;
 mod fair_controllers;
 mod fair_search;
-mod fair_words;
 mod followed;
+mod guarded;
 mod judged;
 mod laws;
 mod made;
-mod node_words;
 mod own_states;
 mod plan_controllers;
 mod plans;
 mod reach;
 mod refuted;
-mod requests;
 mod rules;
 mod search_controllers;
 mod searches;
@@ -42,8 +39,6 @@ mod sought;
 mod staged;
 mod state_plans;
 mod top;
-mod words;
-mod wrong_words;
 
 pub use laws::{
     controllers_meet, fair_controllers_have_the_goal, no_fair_plan_is_there, no_plan_is_there,

@@ -1,8 +1,9 @@
 //! Controllers made of rules that a search found, each judged before it is shown. What they are judged by
 //! is a task with a goal.
 
-ghost use Rattle.command_base.specs.Answers.{affirmed, no_memory};
+ghost use Rattle.command_base.specs.Answers.{no_memory};
 ghost use Rattle.command_base.specs.Values.{kind_of, refusal_of, shown_of};
+ghost use Rattle.command_base.specs.Words.{Bytes};
 ghost use Rattle.controller_plan.specs.Judged.{
   CanBeJudged,
   IsJudged,
@@ -10,15 +11,17 @@ ghost use Rattle.controller_plan.specs.Judged.{
   IsJudgedShown,
   IsMadeRefusal,
   IsRoomRefusal,
-  bytes_as,
+  IsAffirmedAs,
+  IsGuardedOver,
 };
 ghost use Rattle.plan_document.specs.Faithful.{IsToldInFull};
 ghost use Rattle.plan_rules.specs.Plans.{IsPlanOf};
 ghost use Rattle.plan_rules.specs.Rules.{plain_of};
 ghost use Rattle.std.specs.Prelude.{◌≡◌, IfErr, IfOk, IfSome, IsTrue};
-ghost use Rattle.task_core.specs.Tasks.{action_count, action_names, fluent_count, fluent_names};
+ghost use Rattle.task_core.specs.Tasks.{action_count, fluent_count};
 
 use crate::followed::Followed;
+use crate::guarded::guarded_plan;
 use crate::judged::is_controller;
 use crate::own_states::rules_with_own_states;
 use crate::plans::{plan_of, steps_of};
@@ -26,7 +29,9 @@ use crate::rules::{Length, rules_of};
 use crate::searches::follow_found;
 use crate::served::served_rules;
 use command_base::{Limit, PlanKind, Refusal, Shown, Text};
-use controller_rules::{is_plan_of, write_controller};
+use controller_code::{Language, code_text, tree_of};
+use controller_rules::{are_guarded, is_plan_of, write_controller};
+use controller_words::{Form, Shape};
 use ground_task::Grounded;
 use plan_document::plan_document;
 use plan_rules::{Plan, Rule, TablePlan};
@@ -35,12 +40,12 @@ use std::alloc::{AllocError, Global};
 use task_core::Task;
 
 /// What a plan is to be, to be shown: of this kind, and good for the task with its goals, in a table for so
-/// many nodes. It is shown as a text, or as a JSON document.
+/// many nodes; and whether its rules are to be guarded, and how it is shown.
 #[derive(Clone, Copy)]
 pub(crate) struct Wanted<'a> {
     pub(crate) kind: PlanKind,
     pub(crate) nodes: u32,
-    pub(crate) json: bool,
+    pub(crate) shape: Shape,
     pub(crate) grounded: &'a Grounded,
 }
 
@@ -54,7 +59,7 @@ pub(crate) fn shown_table(
 ) -> Result<Option<Shown>, Refusal>
     requires { CanBeJudged (kind_of wanted.now.kind) wanted.now.nodes wanted.now.grounded.now }
     ensures shown { IfOk result (λ found. IfSome found (λ shown.
-        IsJudgedShown (kind_of wanted.now.kind) wanted.now.json wanted.now.grounded.now
+        IsJudgedShown (kind_of wanted.now.kind) wanted.now.shape wanted.now.grounded.now
         (shown_of shown))) }
     ensures refused { IfErr result (λ refusal.
         IsMadeRefusal (kind_of wanted.now.kind) wanted.now.grounded.now (refusal_of refusal)) }
@@ -76,7 +81,7 @@ pub(crate) fn shown_found(
 ) -> Result<Option<Shown>, Refusal>
     requires { CanBeJudged (kind_of wanted.now.kind) wanted.now.nodes wanted.now.grounded.now }
     ensures shown { IfOk result (λ found. IfSome found (λ shown.
-        IsJudgedShown (kind_of wanted.now.kind) wanted.now.json wanted.now.grounded.now
+        IsJudgedShown (kind_of wanted.now.kind) wanted.now.shape wanted.now.grounded.now
         (shown_of shown))) }
     ensures refused { IfErr result (λ refusal.
         IsMadeRefusal (kind_of wanted.now.kind) wanted.now.grounded.now (refusal_of refusal)) }
@@ -99,7 +104,7 @@ fn shown_unfollowed(
 ) -> Result<Option<Shown>, Refusal>
     requires { CanBeJudged (kind_of wanted.now.kind) wanted.now.nodes wanted.now.grounded.now }
     ensures shown { IfOk result (λ found. IfSome found (λ shown.
-        IsJudgedShown (kind_of wanted.now.kind) wanted.now.json wanted.now.grounded.now
+        IsJudgedShown (kind_of wanted.now.kind) wanted.now.shape wanted.now.grounded.now
         (shown_of shown))) }
     ensures refused { IfErr result (λ refusal.
         IsMadeRefusal (kind_of wanted.now.kind) wanted.now.grounded.now (refusal_of refusal)) }
@@ -126,7 +131,7 @@ fn shown_followed(
 ) -> Result<Option<Shown>, Refusal>
     requires { CanBeJudged (kind_of wanted.now.kind) wanted.now.nodes wanted.now.grounded.now }
     ensures shown { IfOk result (λ found. IfSome found (λ shown.
-        IsJudgedShown (kind_of wanted.now.kind) wanted.now.json wanted.now.grounded.now
+        IsJudgedShown (kind_of wanted.now.kind) wanted.now.shape wanted.now.grounded.now
         (shown_of shown))) }
     ensures refused { IfErr result (λ refusal.
         IsMadeRefusal (kind_of wanted.now.kind) wanted.now.grounded.now (refusal_of refusal)) }
@@ -147,7 +152,7 @@ fn shown_served(
 ) -> Result<Option<Shown>, Refusal>
     requires { CanBeJudged (kind_of wanted.now.kind) wanted.now.nodes wanted.now.grounded.now }
     ensures shown { IfOk result (λ found. IfSome found (λ shown.
-        IsJudgedShown (kind_of wanted.now.kind) wanted.now.json wanted.now.grounded.now
+        IsJudgedShown (kind_of wanted.now.kind) wanted.now.shape wanted.now.grounded.now
         (shown_of shown))) }
     ensures refused { IfErr result (λ refusal.
         IsMadeRefusal (kind_of wanted.now.kind) wanted.now.grounded.now (refusal_of refusal)) }
@@ -174,7 +179,7 @@ pub(crate) fn shown_controller(
 ) -> Result<Option<Shown>, Refusal>
     requires { CanBeJudged (kind_of wanted.now.kind) wanted.now.nodes wanted.now.grounded.now }
     ensures shown { IfOk result (λ found. IfSome found (λ shown.
-        IsJudgedShown (kind_of wanted.now.kind) wanted.now.json wanted.now.grounded.now
+        IsJudgedShown (kind_of wanted.now.kind) wanted.now.shape wanted.now.grounded.now
         (shown_of shown))) }
     ensures refused { IfErr result (λ refusal.
         IsMadeRefusal (kind_of wanted.now.kind) wanted.now.grounded.now (refusal_of refusal)) }
@@ -195,7 +200,7 @@ fn shown_rules(
 ) -> Result<Option<Shown>, Refusal>
     requires { CanBeJudged (kind_of wanted.now.kind) wanted.now.nodes wanted.now.grounded.now }
     ensures shown { IfOk result (λ found. IfSome found (λ shown.
-        IsJudgedShown (kind_of wanted.now.kind) wanted.now.json wanted.now.grounded.now
+        IsJudgedShown (kind_of wanted.now.kind) wanted.now.shape wanted.now.grounded.now
         (shown_of shown))) }
     ensures refused { IfErr result (λ refusal.
         IsMadeRefusal (kind_of wanted.now.kind) wanted.now.grounded.now (refusal_of refusal)) }
@@ -207,7 +212,7 @@ fn shown_rules(
     shown_made(alloc, wanted, &plan, &steps)
 }
 
-/// A plan that a search made as a controller, if it is one and there is room to judge it.
+/// A plan that a search made as a controller, if it makes one and there is room to judge it.
 fn shown_made(
     alloc: Global,
     wanted: &Wanted<'_>,
@@ -216,7 +221,46 @@ fn shown_made(
 ) -> Result<Option<Shown>, Refusal>
     requires { CanBeJudged (kind_of wanted.now.kind) wanted.now.nodes wanted.now.grounded.now }
     ensures shown { IfOk result (λ found. IfSome found (λ shown.
-        IsJudgedShown (kind_of wanted.now.kind) wanted.now.json wanted.now.grounded.now
+        IsJudgedShown (kind_of wanted.now.kind) wanted.now.shape wanted.now.grounded.now
+        (shown_of shown))) }
+    ensures refused { IfErr result (λ refusal.
+        IsMadeRefusal (kind_of wanted.now.kind) wanted.now.grounded.now (refusal_of refusal)) }
+{
+    if wanted.shape.guarded {
+        shown_guarded(alloc, wanted, plan, steps)
+    } else {
+        shown_if_good(alloc, wanted, plan, steps)
+    }
+}
+
+/// The same with the preconditions of the actions in the rules.
+fn shown_guarded(
+    alloc: Global,
+    wanted: &Wanted<'_>,
+    plan: &Plan,
+    steps: &[u32],
+) -> Result<Option<Shown>, Refusal>
+    requires { CanBeJudged (kind_of wanted.now.kind) wanted.now.nodes wanted.now.grounded.now }
+    ensures shown { IfOk result (λ found. IfSome found (λ shown.
+        IsJudgedShown (kind_of wanted.now.kind) wanted.now.shape wanted.now.grounded.now
+        (shown_of shown))) }
+    ensures refused { IfErr result (λ refusal.
+        IsMadeRefusal (kind_of wanted.now.kind) wanted.now.grounded.now (refusal_of refusal)) }
+{
+    let guarded = guarded_plan(alloc, &wanted.grounded.task, plan, steps)?;
+    shown_if_good(alloc, wanted, &guarded.plan, &guarded.steps)
+}
+
+/// A plan as a controller, if it is one and there is room to judge it.
+fn shown_if_good(
+    alloc: Global,
+    wanted: &Wanted<'_>,
+    plan: &Plan,
+    steps: &[u32],
+) -> Result<Option<Shown>, Refusal>
+    requires { CanBeJudged (kind_of wanted.now.kind) wanted.now.nodes wanted.now.grounded.now }
+    ensures shown { IfOk result (λ found. IfSome found (λ shown.
+        IsJudgedShown (kind_of wanted.now.kind) wanted.now.shape wanted.now.grounded.now
         (shown_of shown))) }
     ensures refused { IfErr result (λ refusal.
         IsMadeRefusal (kind_of wanted.now.kind) wanted.now.grounded.now (refusal_of refusal)) }
@@ -236,6 +280,8 @@ fn is_judged_good(alloc: Global, wanted: &Wanted<'_>, plan: &Plan) -> Result<boo
     ensures in_task { IfOk result (λ is. IsTrue is
         → IsPlanOf (fluent_count wanted.now.grounded.now.task)
         (action_count wanted.now.grounded.now.task) plan.now) }
+    ensures guarded { IfOk result (λ is. IsTrue is → IsGuardedOver wanted.now.shape.guarded
+        wanted.now.grounded.now.task (plain_of plan.now)) }
     ensures refused { IfErr result (λ refusal. refusal_of refusal ≡ no_memory) }
 {
     match is_good(alloc, wanted, plan) {
@@ -245,7 +291,8 @@ fn is_judged_good(alloc: Global, wanted: &Wanted<'_>, plan: &Plan) -> Result<boo
     }
 }
 
-/// A plan as a controller, if it is one.
+/// A plan as a controller, if it is one, or makes one with the preconditions of its actions in its rules,
+/// where they are to be there.
 pub(crate) fn shown_plan(
     alloc: Global,
     wanted: &Wanted<'_>,
@@ -253,7 +300,39 @@ pub(crate) fn shown_plan(
 ) -> Result<Option<Shown>, Refusal>
     requires { CanBeJudged (kind_of wanted.now.kind) wanted.now.nodes wanted.now.grounded.now }
     ensures shown { IfOk result (λ found. IfSome found (λ shown.
-        IsJudgedShown (kind_of wanted.now.kind) wanted.now.json wanted.now.grounded.now
+        IsJudgedShown (kind_of wanted.now.kind) wanted.now.shape wanted.now.grounded.now
+        (shown_of shown))) }
+    ensures refused { IfErr result (λ refusal. IsRoomRefusal (kind_of wanted.now.kind)
+        wanted.now.nodes wanted.now.grounded.now (plain_of plan.now) (refusal_of refusal)) }
+{
+    if wanted.shape.guarded {
+        shown_with_guards(alloc, wanted, plan)
+    } else {
+        shown_as_it_is(alloc, wanted, plan)
+    }
+}
+
+/// A plan with the preconditions of its actions in its rules as a controller, if that is one.
+fn shown_with_guards(
+    alloc: Global,
+    wanted: &Wanted<'_>,
+    plan: &Plan,
+) -> Result<Option<Shown>, Refusal>
+    requires { CanBeJudged (kind_of wanted.now.kind) wanted.now.nodes wanted.now.grounded.now }
+    ensures shown { IfOk result (λ found. IfSome found (λ shown.
+        IsJudgedShown (kind_of wanted.now.kind) wanted.now.shape wanted.now.grounded.now
+        (shown_of shown))) }
+    ensures refused { IfErr result (λ refusal. IsRoomRefusal (kind_of wanted.now.kind)
+        wanted.now.nodes wanted.now.grounded.now (plain_of plan.now) (refusal_of refusal)) }
+{
+    shown_guarded(alloc, wanted, plan, &[])
+}
+
+/// A plan as a controller, if it is one.
+fn shown_as_it_is(alloc: Global, wanted: &Wanted<'_>, plan: &Plan) -> Result<Option<Shown>, Refusal>
+    requires { CanBeJudged (kind_of wanted.now.kind) wanted.now.nodes wanted.now.grounded.now }
+    ensures shown { IfOk result (λ found. IfSome found (λ shown.
+        IsJudgedShown (kind_of wanted.now.kind) wanted.now.shape wanted.now.grounded.now
         (shown_of shown))) }
     ensures refused { IfErr result (λ refusal. IsRoomRefusal (kind_of wanted.now.kind)
         wanted.now.nodes wanted.now.grounded.now (plain_of plan.now) (refusal_of refusal)) }
@@ -273,11 +352,27 @@ fn is_good(alloc: Global, wanted: &Wanted<'_>, plan: &Plan) -> Result<bool, Refu
     ensures in_task { IfOk result (λ is. IsTrue is
         → IsPlanOf (fluent_count wanted.now.grounded.now.task)
         (action_count wanted.now.grounded.now.task) plan.now) }
+    ensures guarded { IfOk result (λ is. IsTrue is → IsGuardedOver wanted.now.shape.guarded
+        wanted.now.grounded.now.task (plain_of plan.now)) }
     ensures refused { IfErr result (λ refusal. IsJudgeRefusal (kind_of wanted.now.kind)
         wanted.now.nodes wanted.now.grounded.now.task (plain_of plan.now)
         (refusal_of refusal)) }
 {
+    if !is_guarded_if(wanted.shape.guarded, &wanted.grounded.task, plan) {
+        return Ok(false);
+    }
     is_controller(alloc, wanted.kind, wanted.nodes, wanted.grounded, plan)
+}
+
+/// Whether the rules of a plan are guarded, where they are to be.
+fn is_guarded_if(wanted: bool, task: &Task, plan: &Plan) -> bool
+    ensures { IsTrue result → IsGuardedOver wanted task.now (plain_of plan.now) }
+{
+    if wanted {
+        are_guarded(task, plan)
+    } else {
+        true
+    }
 }
 
 /// A plan that was judged to be a controller, as it is shown, unless its text is too long.
@@ -291,7 +386,9 @@ fn shown_judged(
         wanted.now.grounded.now.ctl (plain_of plan.now) }
     requires in_task { IsPlanOf (fluent_count wanted.now.grounded.now.task)
         (action_count wanted.now.grounded.now.task) plan.now }
-    ensures shown { IfOk result (λ shown. IsJudgedShown (kind_of wanted.now.kind) wanted.now.json
+    requires guarded { IsGuardedOver wanted.now.shape.guarded wanted.now.grounded.now.task
+        (plain_of plan.now) }
+    ensures shown { IfOk result (λ shown. IsJudgedShown (kind_of wanted.now.kind) wanted.now.shape
         wanted.now.grounded.now (shown_of shown)) }
     ensures refused { IfErr result (λ refusal.
         IsMadeRefusal (kind_of wanted.now.kind) wanted.now.grounded.now (refusal_of refusal)) }
@@ -299,30 +396,55 @@ fn shown_judged(
     let task = &wanted.grounded.task;
     match write_controller(alloc, plan, steps, task, MAX_BYTES)? {
         Some(text) => {
-            let shown = shown_as(alloc, wanted.json, text, plan, task)?;
+            let shown = shown_as(alloc, wanted.shape.form, text, plan, task)?;
             Ok(shown)
         }
         None => Err(Refusal::OverLimit(Limit::File)),
     }
 }
 
-/// A controller as it is shown: its text, or, as JSON, the document of its plan.
+/// A controller as it is shown: its text, the document of its plan, or a program that decides as it does.
 fn shown_as(
     alloc: Global,
-    json: bool,
+    form: Form,
     text: Vec<u8>,
     plan: &Plan,
     task: &Task,
 ) -> Result<Shown, AllocError>
     requires in_task { IsPlanOf (fluent_count task.now) (action_count task.now) plan.now }
     requires told { IsToldInFull (plain_of plan.now) }
-    ensures { IfOk result (λ shown. shown_of shown
-        ≡ affirmed (bytes_as json (fluent_names task.now) (action_names task.now)
-        (plain_of plan.now) text.items)) }
+    ensures { IfOk result (λ shown.
+        IsAffirmedAs form task.now (plain_of plan.now) text.items (shown_of shown)) }
 {
-    if json {
-        let document = plan_document(alloc, plan, task)?;
-        return Ok(Shown::Affirmed(Text::Made(document)));
+    match form {
+        Form::Text => Ok(Shown::Affirmed(Text::Made(text))),
+        Form::Json => shown_document(alloc, plan, task),
+        Form::Code(language) => shown_program(alloc, language, plan, task),
     }
-    Ok(Shown::Affirmed(Text::Made(text)))
+}
+
+/// The document of a controller's plan.
+fn shown_document(alloc: Global, plan: &Plan, task: &Task) -> Result<Shown, AllocError>
+    requires in_task { IsPlanOf (fluent_count task.now) (action_count task.now) plan.now }
+    requires told { IsToldInFull (plain_of plan.now) }
+    ensures { (text : Bytes) → IfOk result (λ shown.
+        IsAffirmedAs Form.Json task.now (plain_of plan.now) text (shown_of shown)) }
+{
+    let document = plan_document(alloc, plan, task)?;
+    Ok(Shown::Affirmed(Text::Made(document)))
+}
+
+/// The program of a controller.
+fn shown_program(
+    alloc: Global,
+    language: Language,
+    plan: &Plan,
+    task: &Task,
+) -> Result<Shown, AllocError>
+    ensures { (text : Bytes) → IfOk result (λ shown.
+        IsAffirmedAs (Form.Code language) task.now (plain_of plan.now) text (shown_of shown)) }
+{
+    let tree = tree_of(alloc, plan)?;
+    let program = code_text(alloc, language, task, &tree)?;
+    Ok(Shown::Affirmed(Text::Made(program)))
 }

@@ -32,7 +32,7 @@ pub(crate) fn rules_with_own_states(
 }
 
 /// What a cube asks of a state.
-fn pattern_of(cube: &[Lit]) -> Pattern {
+pub(crate) fn pattern_of(cube: &[Lit]) -> Pattern {
     let mut pattern = Pattern {
         state: State::none(),
         kept: State::none(),
@@ -44,7 +44,7 @@ fn pattern_of(cube: &[Lit]) -> Pattern {
 }
 
 /// The same, where a fluent is to have a value, too.
-fn asking(pattern: &Pattern, fluent: u32, value: bool) -> Pattern {
+pub(crate) fn asking(pattern: &Pattern, fluent: u32, value: bool) -> Pattern {
     let fluent = FluentId(fluent % MOST_FLUENTS);
     Pattern {
         state: pattern.state.with(fluent, value),
@@ -100,6 +100,16 @@ fn lies_to(part: &Pattern, patterns: &[Pattern]) -> Lies {
         }
     }
     found
+}
+
+/// Whether a pattern lies in one of some others.
+pub(crate) fn lies_inside(part: &Pattern, patterns: &[Pattern]) -> bool {
+    for pattern in patterns {
+        if agree(part, pattern) && first_asked(pattern, part).is_none() {
+            return true;
+        }
+    }
+    false
 }
 
 /// Whether some state matches both.

@@ -79,7 +79,7 @@ fn number_of(context: u32) -> u32 {
 }
 
 /// What a rule asks of a state, as literals in the order of their fluents.
-fn cube_of(alloc: Global, pattern: &Pattern) -> Result<Vec<Lit>, AllocError> {
+pub(crate) fn cube_of(alloc: Global, pattern: &Pattern) -> Result<Vec<Lit>, AllocError> {
     let mut cube = Vec::new(alloc);
     for number in 0..MOST_FLUENTS {
         let fluent = FluentId(number);

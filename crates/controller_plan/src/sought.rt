@@ -4,8 +4,8 @@ ghost use Rattle.controller_plan.specs.Sought.{JudgedPlansControl, wanted_for};
 ghost use Rattle.std.specs.Prelude.{◌≡◌};
 
 use crate::made::Wanted;
-use crate::words::ControlWords;
 use controller_rules::good_rules_control;
+use controller_words::ControlWords;
 use ground_task::Grounded;
 use pddl_ast::{Domain, Problem};
 use pddl_system::grounded_goals_are_true;
@@ -30,7 +30,7 @@ impl<'a> Sought<'a> {
         Wanted {
             kind: self.asked.plan.kind,
             nodes: self.asked.plan.options.nodes,
-            json: self.asked.json,
+            shape: self.asked.shape,
             grounded: self.grounded,
         }
     }

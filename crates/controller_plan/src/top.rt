@@ -6,21 +6,21 @@ ghost use Rattle.command_base.specs.Delivery.{seen};
 ghost use Rattle.std.specs.Prelude.{◌≡◌, [], map, string_bytes};
 
 use crate::commands::answer;
-use crate::wrong_words::wrong_control;
 use answer_help::{HelpSource, KeepingShelf, deliver_helped};
+use controller_words::wrong_control;
 use plan_io::{Shelf, Sink};
 use std::alloc::Global;
 
 /// Makes the controller that the words ask for, writes it, and gives the exit status.
 ///
 /// The words are `KIND DOMAIN PROBLEM`, then for a class `--cert` or nothing, then `--nodes N` or
-/// nothing, and then `--json` or nothing, where KIND, DOMAIN, PROBLEM and N are those of `mbp plan`.
-/// The controller, or `no plan`, goes to `out`. Every other answer goes to `err`: one line, and below
-/// it, where it is a fault in a file or in the words, what helps to find it. The statuses are those of
-/// `plan`:
+/// nothing, then `--guarded` or nothing, and then `--json`, `--code LANGUAGE` or nothing, where KIND,
+/// DOMAIN, PROBLEM and N are those of `mbp plan` and LANGUAGE is `c`, `rust` or `python`. The controller,
+/// or `no plan`, goes to `out`. Every other answer goes to `err`: one line, and below it, where it is a
+/// fault in a file or in the words, what helps to find it. The statuses are those of `plan`:
 ///
 /// - 0: a controller is on `out`: a plan of the kind that meets the problem, with rules for the
-///   states alone that it reaches, as text or as a JSON document;
+///   states alone that it reaches, as text, as a JSON document or as a program;
 /// - 1: there is no plan of the kind; with `--cert` a certificate of that stands below;
 /// - 4: a limit is passed, one of those of `plan`, or: the text would be longer than 1,048,576 bytes;
 ///   of a plan with contexts, there are more than 262,144 initial states, or more than 262,144

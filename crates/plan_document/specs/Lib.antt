@@ -1,2 +1,4 @@
+pub mod Actions
 pub mod Documents
 pub mod Faithful
+pub mod Names

@@ -9,7 +9,7 @@ ghost use Rattle.serde_json.specs.Data.{Data, array};
 ghost use Rattle.serde_json.specs.View.{items_of, view};
 ghost use Rattle.serde_json.specs.Written.{compact_text, has_float};
 ghost use Rattle.std.specs.Prelude.{◌≡◌, ◌++◌, IfOk, List, false};
-ghost use Rattle.task_core.specs.Tasks.{action_count, action_names, fluent_count, fluent_names};
+ghost use Rattle.task_core.specs.Tasks.{action_count, fluent_count, fluent_names};
 
 use crate::names::{action_array, fluent_array};
 use crate::rules::{context_rules, count_value, table_rules};
@@ -20,13 +20,13 @@ use task_core::Task;
 
 /// The document of a plan for a task, as JSON in one line with a line feed at its end: an object with
 /// the members `actions`, `class`, `contexts`, `fluents` and `rules`, and of each rule `action`,
-/// `context`, `literals` and `next`. A table has one context, whose number is 1. The plan is one that
-/// is told in full (`is_told_in_full`).
+/// `context`, `literals`, `next`, `outcomes` and `precondition`. A table has one context, whose number
+/// is 1. The plan is one that is told in full (`is_told_in_full`).
 pub fn plan_document(alloc: Global, plan: &Plan, task: &Task) -> Result<Vec<u8>, AllocError>
     requires in_task { IsPlanOf (fluent_count task.now) (action_count task.now) plan.now }
     requires told { IsToldInFull (plain_of plan.now) }
     ensures { IfOk result (λ text. text.items
-        ≡ document_text (fluent_names task.now) (action_names task.now) (plain_of plan.now)) }
+        ≡ document_text task.now (plain_of plan.now)) }
 {
     let value = plan_value(alloc, plan, task)?;
     value_text(alloc, &value)
@@ -46,7 +46,7 @@ fn value_text(alloc: Global, value: &Value) -> Result<Vec<u8>, AllocError>
 fn plan_value(alloc: Global, plan: &Plan, task: &Task) -> Result<Value, AllocError>
     requires in_task { IsPlanOf (fluent_count task.now) (action_count task.now) plan.now }
     ensures { IfOk result (λ value. view value
-        ≡ document (fluent_names task.now) (action_names task.now) (plain_of plan.now)) }
+        ≡ document (fluent_names task.now) task.now.actions.items (plain_of plan.now)) }
 {
     match plan {
         Plan::Table(table) => {
@@ -81,7 +81,7 @@ fn plan_object(
 ) -> Result<Value, AllocError>
     ensures { IfOk result (λ value. (listed : List Data) → view rules ≡ array (items_of listed)
         → view value
-        ≡ plan_data (fluent_names task.now) (action_names task.now) class.now contexts listed) }
+        ≡ plan_data (fluent_names task.now) task.now.actions.items class.now contexts listed) }
 {
     let mut members = Map::new(alloc);
     put(&mut members, alloc, "rules", rules)?;

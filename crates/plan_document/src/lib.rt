@@ -1,7 +1,8 @@
 //! Plans as JSON documents: the names of a task's fluents and actions, and a plan's rules with their
-//! literals, actions and contexts.
+//! literals, contexts and actions, and of each action its precondition and what it may do.
 #![tactic(auto)]
 
+mod actions;
 mod documents;
 mod names;
 mod rules;

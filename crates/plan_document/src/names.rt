@@ -1,6 +1,6 @@
 //! Names as JSON.
 
-ghost use Rattle.plan_document.specs.Documents.{name_data, names_data};
+ghost use Rattle.plan_document.specs.Names.{name_data, names_data};
 ghost use Rattle.plan_rules.specs.Texts.{atom_text};
 ghost use Rattle.serde_json.specs.View.{view};
 ghost use Rattle.std.specs.Prelude.{◌≡◌, IfOk, map, string_bytes};

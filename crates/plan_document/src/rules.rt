@@ -4,9 +4,8 @@ ghost use Rattle.plan_document.specs.Documents.{
   context_rule_data,
   count_data,
   cube_data,
-  name_data,
   next_data,
-  rule_object as rule_data,
+  rule_object as rule_with,
   table_rule_data,
   with_literal,
 };
@@ -17,12 +16,12 @@ ghost use Rattle.plan_rules.specs.Rules.{
   next_of as plain_next_of,
   rule_of,
 };
-ghost use Rattle.plan_rules.specs.Texts.{name_at};
 ghost use Rattle.serde_json.specs.Data.{array};
 ghost use Rattle.serde_json.specs.View.{items_of, members_view, view};
-ghost use Rattle.std.specs.Prelude.{◌≡◌, ◌<◌, All, IfOk, OnOk, length, map};
-ghost use Rattle.task_core.specs.Names.{name_bytes, name_of};
+ghost use Rattle.std.specs.Prelude.{◌≡◌, ◌<◌, All, IfOk, OnOk, Some, length, map, slice_get};
+ghost use Rattle.task_core.specs.Names.{name_bytes};
 
+use crate::actions::{condition_value, outcome_array};
 use crate::names::{name_text, name_value};
 use plan_rules::{AutoRule, Next, Rule};
 use serde_json::{Map, Value, put};
@@ -39,8 +38,8 @@ pub(crate) fn table_rules(
 ) -> Result<Value, AllocError>
     requires { All (IsRuleOf (length fluents.now) (length actions.now)) (map rule_of rules.now) }
     ensures { IfOk result (λ value. view value
-        ≡ array (items_of (map (table_rule_data (map name_bytes fluents.now)
-        (map name_of actions.now)) (map rule_of rules.now)))) }
+        ≡ array (items_of (map (table_rule_data (map name_bytes fluents.now) actions.now)
+        (map rule_of rules.now)))) }
 {
     let mut list = Vec::new(alloc);
     for rule in rules {
@@ -59,12 +58,14 @@ fn table_rule(
     requires cube { All (λ lit. lit.fluent.0 < length fluents.now) rule.now.cube.items }
     requires action { rule.now.action.0 < length actions.now }
     ensures { IfOk result (λ value. view value
-        ≡ table_rule_data (map name_bytes fluents.now) (map name_of actions.now)
-        (rule_of rule.now)) }
+        ≡ table_rule_data (map name_bytes fluents.now) actions.now (rule_of rule.now)) }
 {
-    let action = action_value(alloc, actions, rule.action)?;
-    let literals = literal_object(alloc, fluents, &rule.cube)?;
-    rule_object(alloc, action, 1, literals, count_value(1))
+    let told = ToldRule {
+        context: 1,
+        literals: literal_object(alloc, fluents, &rule.cube)?,
+        next: count_value(1),
+    };
+    rule_object(alloc, fluents, action_at(actions, rule.action), told)
 }
 
 /// The rules of a plan with contexts.
@@ -77,8 +78,8 @@ pub(crate) fn context_rules(
     requires { All (NamesRule (length fluents.now) (length actions.now))
         (map context_rule_of rules.now) }
     ensures { IfOk result (λ value. view value
-        ≡ array (items_of (map (context_rule_data (map name_bytes fluents.now)
-        (map name_of actions.now)) (map context_rule_of rules.now)))) }
+        ≡ array (items_of (map (context_rule_data (map name_bytes fluents.now) actions.now)
+        (map context_rule_of rules.now)))) }
 {
     let mut list = Vec::new(alloc);
     for rule in rules {
@@ -96,18 +97,15 @@ fn context_rule(
 ) -> Result<Value, AllocError>
     requires { NamesRule (length fluents.now) (length actions.now) (context_rule_of rule.now) }
     ensures { IfOk result (λ value. view value
-        ≡ context_rule_data (map name_bytes fluents.now) (map name_of actions.now)
+        ≡ context_rule_data (map name_bytes fluents.now) actions.now
         (context_rule_of rule.now)) }
 {
-    let action = action_value(alloc, actions, rule.action)?;
-    let literals = literal_object(alloc, fluents, &rule.cube)?;
-    rule_object(
-        alloc,
-        action,
-        rule.context,
-        literals,
-        next_value(&rule.next),
-    )
+    let told = ToldRule {
+        context: rule.context,
+        literals: literal_object(alloc, fluents, &rule.cube)?,
+        next: next_value(&rule.next),
+    };
+    rule_object(alloc, fluents, action_at(actions, rule.action), told)
 }
 
 /// The next context, where it is always the same one.
@@ -127,35 +125,48 @@ pub(crate) fn count_value(count: u32) -> Value
     Value::from(u64::from(count))
 }
 
-/// The name of an action.
-fn action_value(
-    alloc: Global,
-    actions: &[GroundAction],
-    action: ActionId,
-) -> Result<Value, AllocError>
+/// The action of a number.
+fn action_at(actions: &[GroundAction], action: ActionId) -> &GroundAction
     requires { action.0 < length actions.now }
-    ensures { IfOk result (λ value. view value
-        ≡ name_data (name_at (map name_of actions.now) action.0)) }
+    ensures { slice_get actions.now action.0 ≡ Some result.now }
 {
-    name_value(alloc, &actions[action.0 as usize].name)
+    &actions[action.0 as usize]
 }
 
-/// A rule with these members.
-fn rule_object(
-    alloc: Global,
-    action: Value,
+/// What is told of a rule beside its action.
+#[derive(Drop)]
+struct ToldRule {
     context: u32,
     literals: Value,
     next: Value,
+}
+
+/// A rule with this action.
+fn rule_object(
+    alloc: Global,
+    fluents: &[Vec<RcStr>],
+    action: &GroundAction,
+    told: ToldRule,
 ) -> Result<Value, AllocError>
     ensures { IfOk result (λ value. view value
-        ≡ rule_data (view action) context (view literals) (view next)) }
+        ≡ rule_with (map name_bytes fluents.now) action.now told.context (view told.literals)
+        (view told.next)) }
 {
+    let ToldRule {
+        context,
+        literals,
+        next,
+    } = told;
+    let precondition = condition_value(alloc, fluents, &action.exec)?;
+    let outcomes = outcome_array(alloc, fluents, &action.outcomes)?;
+    let name = name_value(alloc, &action.name)?;
     let mut members = Map::new(alloc);
+    put(&mut members, alloc, "precondition", precondition)?;
+    put(&mut members, alloc, "outcomes", outcomes)?;
     put(&mut members, alloc, "next", next)?;
     put(&mut members, alloc, "literals", literals)?;
     put(&mut members, alloc, "context", count_value(context))?;
-    put(&mut members, alloc, "action", action)?;
+    put(&mut members, alloc, "action", name)?;
     Ok(Value::from(members))
 }
 

@@ -1,7 +1,7 @@
 use Rattle.std.proofs.lemmas.Result.{err_from_is_err_and}
 use Rattle.pddl_ast.specs.Values.{domain_value, problem_value}
 use Rattle.command_base.specs.Values.{refusal_of}
-use Rattle.controller_plan.specs.Values.{control_words_of}
+use Rattle.controller_words.specs.Values.{control_words_of}
 use Rattle.controller_plan.proofs.Answers.{limited}
 use Rattle.controller_plan.proofs.commands.after_little.Goals as goal
 

@@ -1,9 +1,9 @@
 use Rattle.std.proofs.Common.{map, string_bytes, inr, subst}
 use Rattle.plan_io.specs.Fetches.{FetchesNothing}
 use Rattle.command_base.specs.Fetching.{FetchesBoth}
-use Rattle.controller_plan.specs.FairWords.{ControlRequest, domain_of, problem_of, to_plan, to_try}
-use Rattle.controller_plan.specs.Values.{control_words_of, fair_words_of}
-use Rattle.controller_plan.proofs.FairWordLists.{one_request}
+use Rattle.controller_words.specs.FairWords.{ControlRequest, domain_of, problem_of, to_plan, to_try}
+use Rattle.controller_words.specs.Values.{control_words_of, fair_words_of}
+use Rattle.controller_words.proofs.OneAsked.{one_request}
 use Rattle.controller_plan.proofs.commands.answer.Goals as goal
 
 pub returns-in-Plan-clause-cause : goal.returns-in-Plan-clause-cause

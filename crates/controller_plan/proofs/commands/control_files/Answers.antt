@@ -4,7 +4,7 @@ use Rattle.command_base.specs.Answers.{refused}
 use Rattle.command_base.specs.Values.{refusal_of}
 use Rattle.command_base.proofs.PddlDecides.{refused_both}
 use Rattle.controller_plan.specs.Controllers.{IsControlled}
-use Rattle.controller_plan.specs.Values.{control_words_of}
+use Rattle.controller_words.specs.Values.{control_words_of}
 use Rattle.controller_plan.proofs.Answers.{after_control, before_control}
 use Rattle.controller_plan.proofs.commands.control_files.Goals as goal
 

@@ -1,6 +1,6 @@
 use Rattle.pddl_ast.specs.Values.{domain_value, problem_value}
 use Rattle.command_base.specs.Values.{answer_of}
-use Rattle.controller_plan.specs.Values.{control_words_of}
+use Rattle.controller_words.specs.Values.{control_words_of}
 use Rattle.controller_plan.proofs.Answers.{controlled_then}
 use Rattle.controller_plan.proofs.commands.control_problem.Goals as goal
 

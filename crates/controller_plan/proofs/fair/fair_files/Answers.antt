@@ -3,7 +3,7 @@ use Rattle.plan_io.specs.Fetches.{FailedLast}
 use Rattle.command_base.specs.Values.{refusal_of}
 use Rattle.command_base.proofs.PddlDecides.{refused_both}
 use Rattle.controller_plan.specs.FairControllers.{IsTried}
-use Rattle.controller_plan.specs.Values.{fair_words_of}
+use Rattle.controller_words.specs.Values.{fair_words_of}
 use Rattle.controller_plan.proofs.FairAnswers.{after_tried}
 use Rattle.controller_plan.proofs.fair.fair_files.Goals as goal
 

@@ -1,6 +1,6 @@
 use Rattle.std.proofs.Common.{inr, rules}
 use Rattle.pddl_ast.specs.Values.{domain_value, problem_value}
-use Rattle.controller_plan.specs.Values.{fair_words_of}
+use Rattle.controller_words.specs.Values.{fair_words_of}
 use Rattle.controller_plan.proofs.FairAnswers.{many_fairly, ready_fairly}
 use Rattle.controller_plan.proofs.fair.fair_parts.Goals as goal
 

@@ -6,8 +6,8 @@ use Rattle.controller_plan.proofs.made.shown_judged.Goals as goal
 
 pub returns-in_ok-shown-in-Some-clause-shown : goal.returns-in_ok-shown-in-Some-clause-shown
 returns-in_ok-shown-in-Some-clause-shown c =
-    is_shown (kind_of c.args.wanted.now.kind) c.args.wanted.now.json c.args.wanted.now.grounded.now (plain_of c.args.plan.now) c.args.steps.now c.in_ok-text.field-0 c.in-Some.text
-    (shown_of c.in_ok-shown-in-Some.shown) c.requires.judged c.in-Some.is c.in_ok-text.ensures.text c.write_controller.ensures.spells c.in_ok-shown-in-Some.ensures
+    is_shown (kind_of c.args.wanted.now.kind) c.args.wanted.now.shape c.args.wanted.now.grounded.now (plain_of c.args.plan.now) c.args.steps.now c.in_ok-text.field-0 c.in-Some.text
+    (shown_of c.in_ok-shown-in-Some.shown) c.requires.judged c.requires.guarded c.in-Some.is c.in_ok-text.ensures.text c.write_controller.ensures.spells c.in_ok-shown-in-Some.ensures
 
 pub returns-in-None-clause-refused : goal.returns-in-None-clause-refused
 returns-in-None-clause-refused c =

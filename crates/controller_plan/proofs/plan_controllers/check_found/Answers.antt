@@ -1,5 +1,5 @@
 use Rattle.pddl_ast.specs.Values.{domain_value, problem_value}
-use Rattle.controller_plan.specs.Values.{control_words_of}
+use Rattle.controller_words.specs.Values.{control_words_of}
 use Rattle.exec_graph.specs.Executions.{ReachesMoreThan}
 use Rattle.plan_rules.specs.Rules.{plain_of}
 use Rattle.task_core.specs.Tasks.{system_of}

@@ -1,6 +1,6 @@
 use Rattle.std.proofs.Common.{◌∙◌, ap, sym}
 use Rattle.pddl_ast.specs.Values.{domain_value, problem_value}
-use Rattle.controller_plan.specs.Values.{control_words_of}
+use Rattle.controller_words.specs.Values.{control_words_of}
 use Rattle.command_base.specs.Answers.{affirmed}
 use Rattle.command_base.specs.Values.{answer_of}
 use Rattle.controller_plan.proofs.Answers.{controlled, plan_answer, plan_found}

@@ -1,6 +1,6 @@
 use Rattle.pddl_ast.specs.Values.{domain_value, problem_value}
 use Rattle.plan_certs.specs.Named.{plain_certificate}
-use Rattle.controller_plan.specs.Values.{control_words_of}
+use Rattle.controller_words.specs.Values.{control_words_of}
 use Rattle.controller_plan.proofs.NoPlans.{is_refuted}
 use Rattle.controller_plan.proofs.search_controllers.shown_no_plan.Goals as goal
 

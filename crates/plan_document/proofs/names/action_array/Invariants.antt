@@ -1,5 +1,5 @@
 use Rattle.std.proofs.Common.{◌≡◌, map, take}
-use Rattle.plan_document.specs.Documents.{name_data}
+use Rattle.plan_document.specs.Names.{name_data}
 use Rattle.serde_json.specs.View.{view}
 use Rattle.task_core.specs.Names.{name_of}
 use Rattle.plan_document.proofs.names.action_array.Given as goal

@@ -1,0 +1,4 @@
+pub mod OneAsked
+mod OptionLists
+mod RequestLists
+mod ShapeLists
