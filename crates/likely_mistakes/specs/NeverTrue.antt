@@ -8,7 +8,6 @@ use Rattle.likely_mistakes.specs.declared.mistakes.MistakeKind.TheVariants.{Neve
 use Rattle.sexpr_text.specs.Forest.{Forest, nothing, word, group}
 use Rattle.sexpr_text.specs.Parts.{begins_with}
 
-
 abbrev mutual
   -- whether a list of the row, at any depth and outside of `not`, begins with the word
   pub asserts : List ℕ → Forest → Bool

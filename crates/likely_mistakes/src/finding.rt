@@ -84,11 +84,7 @@ fn find_in_forms(
 }
 
 /// What the words of two files mean.
-fn vocabulary_of<'a>(
-    alloc: Global,
-    files: &Files<'a>,
-    domain_forms: &'a [Form],
-) -> Vocabulary<'a>
+fn vocabulary_of<'a>(alloc: Global, files: &Files<'a>, domain_forms: &'a [Form]) -> Vocabulary<'a>
     ensures { vocabulary_value result ≡ vocabulary (domain_value files.now.domain.now)
         (problem_value files.now.problem.now) (forest_of domain_forms.now) }
 {

@@ -69,12 +69,7 @@ impl Action<'_> {
 
     /// Adds the literals that change nothing in an effect with this span and these parts.
     #[cycle(searching)]
-    fn add_at(
-        &self,
-        span: Span,
-        parts: &[Form],
-        found: &mut Vec<Mistake>,
-    ) -> Result<(), AllocError>
+    fn add_at(&self, span: Span, parts: &[Form], found: &mut Vec<Mistake>) -> Result<(), AllocError>
         ensures { OnOk result (found.new.items ≡ found.old.items
             ++ idle.idle_at (forest_of self.now.condition.now)
             (forest_of self.now.effect.now) span (forest_of parts.now)) }
