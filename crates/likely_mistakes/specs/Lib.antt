@@ -1,0 +1,10 @@
+pub mod Copies
+pub mod Idle
+pub mod Mistakes
+pub mod NeverTrue
+pub mod NeverUsed
+pub mod Rows
+pub mod TermTypes
+pub mod Values
+pub mod Vocabularies
+pub mod WrongTypes

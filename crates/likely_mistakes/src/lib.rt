@@ -1,0 +1,21 @@
+//! What in the files of a domain and a problem is likely a mistake, each with its place.
+//!
+//! `mistakes` has the kinds. Each kind is a definition in `specs/` over the forms of the two texts, and
+//! what is found is exactly the list that it is: `WrongTypes`, `NeverUsed`, `Copies`, `Idle`.
+#![tactic(auto)]
+
+mod copies;
+mod finding;
+mod idle;
+mod mistakes;
+mod never_true;
+mod rows;
+mod term_types;
+mod uses;
+mod vocabulary;
+mod wrong_types;
+
+pub use finding::{Files, Mistakes, find_mistakes};
+pub use mistakes::{Mistake, MistakeKind};
+pub use rows::{after_first, section_named, sections_of};
+pub use uses::mentions;

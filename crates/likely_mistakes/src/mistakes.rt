@@ -1,0 +1,33 @@
+//! The kinds of mistakes.
+
+use pddl_ast::TypeId;
+use sexpr_text::Span;
+
+/// What is likely a mistake: where it stands, and of which kind it is.
+#[derive(Clone, Copy, Debug)]
+pub struct Mistake {
+    pub span: Span,
+    pub kind: MistakeKind,
+}
+
+/// The kinds.
+#[derive(Clone, Copy, Debug)]
+pub enum MistakeKind {
+    /// The object, or the variable, is of the first type, and the predicate takes one of the second.
+    WrongType(TypeId, TypeId),
+    /// No action, invariant or goal names the predicate.
+    NeverUsed,
+    /// Another outcome of the same choice is written with the same words.
+    Copied,
+    /// The precondition says already what the effect makes so.
+    Idle,
+    /// The predicate is needed, and none of its atoms is ever true.
+    NeverTrue,
+    /// No instance of the action can ever be taken: neither the one with this number, which is the
+    /// first, nor another.
+    NeverTaken(usize),
+    /// The action has no instance: facts that never change rule out each.
+    NoInstance,
+    /// The goal can never hold.
+    GoalNever,
+}
