@@ -132,11 +132,7 @@ fn made_array(
 }
 
 /// A change.
-fn change_value(
-    alloc: Global,
-    fluents: &[Vec<RcStr>],
-    change: &Change,
-) -> Result<Value, AllocError>
+fn change_value(alloc: Global, fluents: &[Vec<RcStr>], change: &Change) -> Result<Value, AllocError>
     ensures { IfOk result (λ value. view value
         ≡ change_data (map name_bytes fluents.now) change.now) }
 {
