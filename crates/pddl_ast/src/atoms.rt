@@ -8,11 +8,12 @@ ghost use Rattle.pddl_ast.specs.Atoms as atoms;
 ghost use Rattle.pddl_ast.specs.Environment.{known_value};
 ghost use Rattle.pddl_ast.specs.Values.{atom_value};
 
+use crate::headed::HeadedList;
 use crate::keywords::{is_left_out, is_variable};
 use crate::known::Known;
 use crate::scope::Scope;
 use crate::trees::{GroundAtom, Objects, PredicateId, Term, Terms};
-use sexpr_text::{FaultKind, Form, ReadErr, Span, Text, View, fault_at};
+use sexpr_text::{FaultKind, Form, ReadErr, Text, View, fault_at};
 use std::alloc::{AllocError, Global};
 
 /// How many forms the row has.
@@ -99,81 +100,66 @@ fn head_fault(alloc: Global, word: &Text) -> Result<FaultKind, AllocError>
 
 /// The number of the predicate that the word at the head of an atom's list names, where it takes as
 /// many terms as there are.
-fn read_head(
-    alloc: Global,
-    known: &Known,
-    span: Span,
-    head: Span,
-    word: &Text,
-    terms: usize,
-) -> Result<PredicateId, ReadErr>
+fn read_head(alloc: Global, known: &Known, atom: &HeadedList<'_>) -> Result<PredicateId, ReadErr>
     ensures sound { IfOk result (λ number.
-        atoms.head_flaws (known_value known.now) span head word.now terms ≡ []) }
+        atoms.head_flaws (known_value known.now) atom.now.span atom.now.head_span atom.now.head.now
+        (atoms.count (forest_of atom.now.rest.now)) ≡ []) }
     ensures read { IfOk result (λ number.
-        number ≡ atoms.predicate_number (known_value known.now) word.now) }
+        number ≡ atoms.predicate_number (known_value known.now) atom.now.head.now) }
     ensures fault { IfErr result (λ e. IfFault e (λ fault.
-        first_listed (atoms.head_flaws (known_value known.now) span head word.now terms)
+        first_listed (atoms.head_flaws (known_value known.now) atom.now.span atom.now.head_span
+        atom.now.head.now (atoms.count (forest_of atom.now.rest.now)))
         ≡ Some fault)) }
 {
-    let Some(number) = known.predicates.number_of(word) else {
-        return Err(fault_at(head, head_fault(alloc, word)?));
+    let Some(number) = known.predicates.number_of(atom.head) else {
+        return Err(fault_at(atom.head_span, head_fault(alloc, atom.head)?));
     };
     let arity = known.arities.get(number).copied().unwrap_or(0);
-    if terms == arity {
+    if count(atom.rest) == arity {
         Ok(number)
     } else {
-        Err(fault_at(span, FaultKind::WrongArity))
+        Err(fault_at(atom.span, FaultKind::WrongArity))
     }
 }
 
-/// The predicate and the terms of an atom: the list with this span, the word at its head with its
-/// span, and the terms after it.
+/// The predicate and the terms of an atom, where the variables in scope may stand.
 pub fn read_atom(
     alloc: Global,
     known: &Known,
     scope: &Scope,
-    span: Span,
-    head: Span,
-    word: &Text,
-    terms: &[Form],
+    atom: &HeadedList<'_>,
 ) -> Result<(PredicateId, Terms), ReadErr>
-    ensures sound { IfOk result (λ atom.
-        atoms.atom_flaws (known_value known.now) scope.now span head word.now (forest_of terms.now)
-        ≡ []) }
-    ensures predicate { IfOk result (λ atom.
-        atom.0 ≡ atoms.predicate_number (known_value known.now) word.now) }
-    ensures terms { IfOk result (λ atom.
-        atom.1.items ≡ atoms.terms_of (known_value known.now) scope.now (forest_of terms.now)) }
+    ensures sound { IfOk result (λ read. atoms.atom_flaws (known_value known.now) scope.now
+        atom.now.span atom.now.head_span atom.now.head.now (forest_of atom.now.rest.now) ≡ []) }
+    ensures predicate { IfOk result (λ read.
+        read.0 ≡ atoms.predicate_number (known_value known.now) atom.now.head.now) }
+    ensures terms { IfOk result (λ read. read.1.items
+        ≡ atoms.terms_of (known_value known.now) scope.now (forest_of atom.now.rest.now)) }
     ensures fault { IfErr result (λ e. IfFault e (λ fault.
-        first_listed (atoms.atom_flaws (known_value known.now) scope.now span head word.now
-        (forest_of terms.now)) ≡ Some fault)) }
+        first_listed (atoms.atom_flaws (known_value known.now) scope.now atom.now.span
+        atom.now.head_span atom.now.head.now (forest_of atom.now.rest.now)) ≡ Some fault)) }
 {
-    let predicate = read_head(alloc, known, span, head, word, count(terms))?;
-    let terms = read_terms(alloc, known, scope, terms)?;
+    let predicate = read_head(alloc, known, atom)?;
+    let terms = read_terms(alloc, known, scope, atom.rest)?;
     Ok((predicate, terms))
 }
 
-/// An atom over constants and objects alone: the list with this span, the word at its head with its
-/// span, and the terms after it.
+/// An atom over constants and objects alone.
 pub fn read_ground_atom(
     alloc: Global,
     known: &Known,
-    span: Span,
-    head: Span,
-    word: &Text,
-    terms: &[Form],
+    atom: &HeadedList<'_>,
 ) -> Result<GroundAtom, ReadErr>
-    ensures sound { IfOk result (λ atom.
-        atoms.ground_atom_flaws (known_value known.now) span head word.now (forest_of terms.now)
-        ≡ []) }
-    ensures read { IfOk result (λ atom.
-        atom_value atom ≡ atoms.ground_atom (known_value known.now) word.now
-        (forest_of terms.now)) }
+    ensures sound { IfOk result (λ read. atoms.ground_atom_flaws (known_value known.now)
+        atom.now.span atom.now.head_span atom.now.head.now (forest_of atom.now.rest.now) ≡ []) }
+    ensures read { IfOk result (λ read. atom_value read
+        ≡ atoms.ground_atom (known_value known.now) atom.now.head.now
+        (forest_of atom.now.rest.now)) }
     ensures fault { IfErr result (λ e. IfFault e (λ fault.
-        first_listed (atoms.ground_atom_flaws (known_value known.now) span head word.now
-        (forest_of terms.now)) ≡ Some fault)) }
+        first_listed (atoms.ground_atom_flaws (known_value known.now) atom.now.span
+        atom.now.head_span atom.now.head.now (forest_of atom.now.rest.now)) ≡ Some fault)) }
 {
-    let predicate = read_head(alloc, known, span, head, word, count(terms))?;
-    let objects = read_objects(alloc, known, terms)?;
+    let predicate = read_head(alloc, known, atom)?;
+    let objects = read_objects(alloc, known, atom.rest)?;
     Ok(GroundAtom { predicate, objects })
 }

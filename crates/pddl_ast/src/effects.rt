@@ -10,6 +10,7 @@ ghost use Rattle.pddl_ast.specs.Values.{effect_value};
 
 use crate::atoms::{count, read_atom};
 use crate::formulas::{read_formula, read_variables};
+use crate::headed::HeadedList;
 use crate::keywords::{Keyword, is_reserved, keyword_of};
 use crate::known::Known;
 use crate::scope::Scope;
@@ -151,16 +152,22 @@ fn read_deleted(
         first_listed (effect.deleted_flaws (known_value known.now)
         (forest_of rest.now) span scope.now) ≡ Some fault)) }
 {
-    let Head::Group(inner, parts, rest) = head_of(rest) else {
+    let Head::Group(inner, parts, others) = head_of(rest) else {
         return Err(fault_at(span, FaultKind::BadForm));
     };
-    let Head::Word(head, word, terms) = head_of(parts) else {
+    let Head::Word(head_span, head, rest) = head_of(parts) else {
         return Err(fault_at(span, FaultKind::BadForm));
     };
-    if count(rest) != 0 || is_reserved(word) {
+    if count(others) != 0 || is_reserved(head) {
         return Err(fault_at(span, FaultKind::BadForm));
     }
-    let (predicate, terms) = read_atom(alloc, known, scope, inner, head, word, terms)?;
+    let atom = HeadedList {
+        span: inner,
+        head_span,
+        head,
+        rest,
+    };
+    let (predicate, terms) = read_atom(alloc, known, scope, &atom)?;
     Ok(Effect::Delete(predicate, terms))
 }
 
@@ -183,12 +190,12 @@ pub fn read_effect(
         first_listed (effect.effect_flaws (known_value known.now)
         (forest_of parts.now) span scope.old) ≡ Some fault)) }
 {
-    let (head, word, rest) = match head_of(parts) {
+    let (head_span, head, rest) = match head_of(parts) {
         Head::Nothing => return Ok(no_change(alloc)),
         Head::Group(_, _, _) => return Err(fault_at(span, FaultKind::BadForm)),
-        Head::Word(head, word, rest) => (head, word, rest),
+        Head::Word(head_span, head, rest) => (head_span, head, rest),
     };
-    match keyword_of(word) {
+    match keyword_of(head) {
         Keyword::And => Ok(Effect::Both(read_effects(alloc, known, scope, rest)?)),
         Keyword::Oneof => {
             if count(rest) == 0 {
@@ -203,7 +210,13 @@ pub fn read_effect(
             Err(fault_at(span, FaultKind::BadForm))
         }
         Keyword::Other => {
-            let (predicate, terms) = read_atom(alloc, known, scope, span, head, word, rest)?;
+            let atom = HeadedList {
+                span,
+                head_span,
+                head,
+                rest,
+            };
+            let (predicate, terms) = read_atom(alloc, known, scope, &atom)?;
             Ok(Effect::Add(predicate, terms))
         }
     }

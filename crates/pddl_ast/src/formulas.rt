@@ -11,6 +11,7 @@ ghost use Rattle.pddl_ast.specs.TypedLists.{names_of};
 ghost use Rattle.pddl_ast.specs.Values.{formula_value};
 
 use crate::atoms::{count, read_atom, read_terms};
+use crate::headed::HeadedList;
 use crate::keywords::{Keyword, keyword_of};
 use crate::known::Known;
 use crate::names::NameTable;
@@ -194,12 +195,12 @@ pub fn read_formula(
         first_listed (formula.formula_flaws (known_value known.now)
         (forest_of parts.now) span scope.old) ≡ Some fault)) }
 {
-    let (head, word, rest) = match head_of(parts) {
+    let (head_span, head, rest) = match head_of(parts) {
         Head::Nothing => return Ok(always(alloc)),
         Head::Group(_, _, _) => return Err(fault_at(span, FaultKind::BadForm)),
-        Head::Word(head, word, rest) => (head, word, rest),
+        Head::Word(head_span, head, rest) => (head_span, head, rest),
     };
-    match keyword_of(word) {
+    match keyword_of(head) {
         Keyword::And => Ok(Formula::All(read_formulas(alloc, known, scope, rest)?)),
         Keyword::Or => Ok(Formula::Any(read_formulas(alloc, known, scope, rest)?)),
         Keyword::Not => {
@@ -234,7 +235,13 @@ pub fn read_formula(
             Err(fault_at(span, FaultKind::BadForm))
         }
         Keyword::Other => {
-            let (predicate, terms) = read_atom(alloc, known, scope, span, head, word, rest)?;
+            let atom = HeadedList {
+                span,
+                head_span,
+                head,
+                rest,
+            };
+            let (predicate, terms) = read_atom(alloc, known, scope, &atom)?;
             Ok(Formula::Atom(predicate, terms))
         }
     }

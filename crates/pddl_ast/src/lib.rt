@@ -16,6 +16,7 @@ mod effects;
 mod formulas;
 mod goal_words;
 mod goals;
+mod headed;
 mod keywords;
 mod known;
 mod laws;
@@ -30,6 +31,7 @@ pub use effects::{no_change, read_effect};
 pub use formulas::{always, enter_groups, read_formula, read_variables};
 pub use goal_words::{GoalWord, goal_word, is_operator};
 pub use goals::read_temporal;
+pub use headed::HeadedList;
 pub use keywords::{Keyword, is_dash, is_left_out, is_reserved, is_variable, keyword_of, spells};
 pub use known::{Known, arities_of};
 pub use laws::{

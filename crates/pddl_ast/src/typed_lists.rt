@@ -37,6 +37,21 @@ pub struct TypedGroup {
     pub type_word: Text,
 }
 
+/// What a typed list declares, and the types that its words may name.
+#[derive(Clone, Copy)]
+struct ListRules<'a> {
+    declares: Declares,
+    types: &'a NameTable,
+}
+
+/// A word of a typed list, with its span and the forms that follow it.
+#[derive(Clone, Copy)]
+struct NextWord<'a> {
+    span: Span,
+    word: &'a Text,
+    rest: &'a [Form],
+}
+
 /// Refuses a `-` with no name of its group before it, or after which no type comes.
 fn check_dash(span: Span, named: bool, rest: &[Form]) -> Result<(), ReadErr>
     ensures sound { OnOk result (lists.dash_flaws span named (forest_of rest.now) ≡ []) }
@@ -194,59 +209,58 @@ impl Pending {
     fn take_type(
         &mut self,
         alloc: Global,
-        declares: Declares,
-        types: &NameTable,
-        span: Span,
-        word: &Text,
+        rules: &ListRules<'_>,
+        next: &NextWord<'_>,
     ) -> Result<(), ReadErr>
         requires due { self.old.typed ≡ true }
-        requires no_dash { words.is_dash word.now ≡ false }
+        requires no_dash { words.is_dash next.now.word.now ≡ false }
         ensures name { OnOk result (self.new.typed ≡ false) }
         ensures flaws { OnOk result ((rest : Forest) (seen : List (List ℕ))
-            → state.flaws_of declares types.now seen self.old (word_then span word.now rest)
-            ≡ state.flaws_of declares types.now seen self.new rest) }
+            → state.flaws_of rules.now.declares rules.now.types.now seen self.old
+            (word_then next.now.span next.now.word.now rest)
+            ≡ state.flaws_of rules.now.declares rules.now.types.now seen self.new rest) }
         ensures groups { OnOk result ((rest : Forest)
-            → state.groups_of self.old (word_then span word.now rest)
+            → state.groups_of self.old (word_then next.now.span next.now.word.now rest)
             ≡ state.groups_of self.new rest) }
         ensures names { OnOk result (state.names_so_far self.new ≡ state.names_so_far self.old) }
         ensures fault { IfErr result (λ e.
             IfFault e (λ fault. (rest : Forest) (seen : List (List ℕ)) →
-            first_listed (state.flaws_of declares types.now seen self.old
-            (word_then span word.now rest))
+            first_listed (state.flaws_of rules.now.declares rules.now.types.now seen self.old
+            (word_then next.now.span next.now.word.now rest))
             ≡ Some fault)) }
     {
-        let type_word = read_type(alloc, declares, types, span, word)?;
+        let type_word = read_type(alloc, rules.declares, rules.types, next.span, next.word)?;
         let names = mem::replace(&mut self.names, Vec::new(alloc));
         self.groups.push(TypedGroup { names, type_word })?;
         self.typed = false;
         Ok(())
     }
 
-    /// Takes a `-`, which these forms follow.
+    /// Takes a `-`.
     fn take_dash(
         &mut self,
-        declares: Declares,
-        types: &NameTable,
+        rules: &ListRules<'_>,
         seen: &NameTable,
-        span: Span,
-        word: &Text,
-        rest: &[Form],
+        next: &NextWord<'_>,
     ) -> Result<(), ReadErr>
         requires name { self.old.typed ≡ false }
-        requires dash { words.is_dash word.now ≡ true }
-        ensures due { OnOk result (lists.begins_type (forest_of rest.now) ≡ true) }
-        ensures flaws { OnOk result (state.flaws_of declares types.now seen.now self.old
-            (word_then span word.now (forest_of rest.now))
-            ≡ state.flaws_of declares types.now seen.now self.new (forest_of rest.now)) }
-        ensures groups { OnOk result (
-            state.groups_of self.old (word_then span word.now (forest_of rest.now))
-            ≡ state.groups_of self.new (forest_of rest.now)) }
+        requires dash { words.is_dash next.now.word.now ≡ true }
+        ensures due { OnOk result (lists.begins_type (forest_of next.now.rest.now) ≡ true) }
+        ensures flaws { OnOk result (
+            state.flaws_of rules.now.declares rules.now.types.now seen.now self.old
+            (word_then next.now.span next.now.word.now (forest_of next.now.rest.now))
+            ≡ state.flaws_of rules.now.declares rules.now.types.now seen.now self.new
+            (forest_of next.now.rest.now)) }
+        ensures groups { OnOk result (state.groups_of self.old
+            (word_then next.now.span next.now.word.now (forest_of next.now.rest.now))
+            ≡ state.groups_of self.new (forest_of next.now.rest.now)) }
         ensures names { OnOk result (state.names_so_far self.new ≡ state.names_so_far self.old) }
         ensures fault { IfErr result (λ e. IfFault e (λ fault.
-            first_listed (state.flaws_of declares types.now seen.now self.old
-            (word_then span word.now (forest_of rest.now))) ≡ Some fault)) }
+            first_listed (state.flaws_of rules.now.declares rules.now.types.now seen.now self.old
+            (word_then next.now.span next.now.word.now (forest_of next.now.rest.now)))
+            ≡ Some fault)) }
     {
-        check_dash(span, !self.names.is_empty(), rest)?;
+        check_dash(next.span, !self.names.is_empty(), next.rest)?;
         self.typed = true;
         Ok(())
     }
@@ -255,31 +269,31 @@ impl Pending {
     fn take_name(
         &mut self,
         alloc: Global,
-        declares: Declares,
-        types: &NameTable,
+        rules: &ListRules<'_>,
         seen: &mut NameTable,
-        span: Span,
-        word: &Text,
+        next: &NextWord<'_>,
     ) -> Result<(), ReadErr>
         requires name { self.old.typed ≡ false }
-        requires no_dash { words.is_dash word.now ≡ false }
+        requires no_dash { words.is_dash next.now.word.now ≡ false }
         ensures name { OnOk result (self.new.typed ≡ false) }
         ensures flaws { OnOk result ((rest : Forest)
-            → state.flaws_of declares types.now seen.old self.old (word_then span word.now rest)
-            ≡ state.flaws_of declares types.now seen.new self.new rest) }
+            → state.flaws_of rules.now.declares rules.now.types.now seen.old self.old
+            (word_then next.now.span next.now.word.now rest)
+            ≡ state.flaws_of rules.now.declares rules.now.types.now seen.new self.new rest) }
         ensures groups { OnOk result ((rest : Forest)
-            → state.groups_of self.old (word_then span word.now rest)
+            → state.groups_of self.old (word_then next.now.span next.now.word.now rest)
             ≡ state.groups_of self.new rest) }
         ensures names { OnOk result (state.names_so_far self.new
-            ≡ state.names_so_far self.old ++ word.now ∷ []) }
-        ensures seen { OnOk result (seen.new ≡ lists.seen_after declares word.now seen.old) }
+            ≡ state.names_so_far self.old ++ next.now.word.now ∷ []) }
+        ensures seen { OnOk result (
+            seen.new ≡ lists.seen_after rules.now.declares next.now.word.now seen.old) }
         ensures fault { IfErr result (λ e. IfFault e (λ fault. (rest : Forest) →
-            first_listed (state.flaws_of declares types.now seen.old self.old
-            (word_then span word.now rest))
+            first_listed (state.flaws_of rules.now.declares rules.now.types.now seen.old self.old
+            (word_then next.now.span next.now.word.now rest))
             ≡ Some fault)) }
     {
-        self.names
-            .push(read_name(alloc, declares, seen, span, word)?)?;
+        let name = read_name(alloc, rules.declares, seen, next.span, next.word)?;
+        self.names.push(name)?;
         Ok(())
     }
 
@@ -306,40 +320,40 @@ impl Pending {
     }
 }
 
-/// Takes a word, which these forms follow.
+/// Takes a word.
 #[tactic(auto, using(crate::proofs::Pending::all_seen_push))]
 fn take_word(
     alloc: Global,
-    declares: Declares,
-    types: &NameTable,
+    rules: &ListRules<'_>,
     seen: &mut NameTable,
     pending: &mut Pending,
-    span: Span,
-    word: &Text,
-    rest: &[Form],
+    next: &NextWord<'_>,
 ) -> Result<(), ReadErr>
-    requires { pending.old.typed ≡ true → words.is_dash word.now ≡ false }
+    requires { pending.old.typed ≡ true → words.is_dash next.now.word.now ≡ false }
     ensures due { OnOk result (pending.new.typed ≡ true
-        → lists.begins_type (forest_of rest.now) ≡ true) }
-    ensures flaws { OnOk result (state.flaws_of declares types.now seen.old pending.old
-        (word_then span word.now (forest_of rest.now))
-        ≡ state.flaws_of declares types.now seen.new pending.new (forest_of rest.now)) }
-    ensures groups { OnOk result (
-        state.groups_of pending.old (word_then span word.now (forest_of rest.now))
-        ≡ state.groups_of pending.new (forest_of rest.now)) }
+        → lists.begins_type (forest_of next.now.rest.now) ≡ true) }
+    ensures flaws { OnOk result (
+        state.flaws_of rules.now.declares rules.now.types.now seen.old pending.old
+        (word_then next.now.span next.now.word.now (forest_of next.now.rest.now))
+        ≡ state.flaws_of rules.now.declares rules.now.types.now seen.new pending.new
+        (forest_of next.now.rest.now)) }
+    ensures groups { OnOk result (state.groups_of pending.old
+        (word_then next.now.span next.now.word.now (forest_of next.now.rest.now))
+        ≡ state.groups_of pending.new (forest_of next.now.rest.now)) }
     ensures seen { OnOk result ((before : List (List ℕ))
-        → seen.old ≡ lists.all_seen declares (state.names_so_far pending.old) before
-        → seen.new ≡ lists.all_seen declares (state.names_so_far pending.new) before) }
+        → seen.old ≡ lists.all_seen rules.now.declares (state.names_so_far pending.old) before
+        → seen.new ≡ lists.all_seen rules.now.declares (state.names_so_far pending.new) before) }
     ensures fault { IfErr result (λ e. IfFault e (λ fault.
-        first_listed (state.flaws_of declares types.now seen.old pending.old
-        (word_then span word.now (forest_of rest.now))) ≡ Some fault)) }
+        first_listed (state.flaws_of rules.now.declares rules.now.types.now seen.old pending.old
+        (word_then next.now.span next.now.word.now (forest_of next.now.rest.now)))
+        ≡ Some fault)) }
 {
     if pending.typed {
-        pending.take_type(alloc, declares, types, span, word)
-    } else if is_dash(word) {
-        pending.take_dash(declares, types, seen, span, word, rest)
+        pending.take_type(alloc, rules, next)
+    } else if is_dash(next.word) {
+        pending.take_dash(rules, seen, next)
     } else {
-        pending.take_name(alloc, declares, types, seen, span, word)
+        pending.take_name(alloc, rules, seen, next)
     }
 }
 
@@ -363,6 +377,7 @@ pub fn read_typed_list(
         first_listed (lists.typed_list_flaws declares types.now seen.old (forest_of list.now))
         ≡ Some fault)) }
 {
+    let rules = ListRules { declares, types };
     let mut pending = Pending::new(alloc);
     for (k, form) in list.iter().enumerate() {
         match form.view() {
@@ -374,7 +389,8 @@ pub fn read_typed_list(
             }
             View::Word(span, word) => {
                 let rest = &list[k + 1..];
-                take_word(alloc, declares, types, seen, &mut pending, span, word, rest)?;
+                let next = NextWord { span, word, rest };
+                take_word(alloc, &rules, seen, &mut pending, &next)?;
             }
         }
     }
