@@ -241,32 +241,40 @@ fn action_in(parts: &[Form]) -> Option<&[Form]>
     }
 }
 
+/// The actions that were read, and the names that are taken.
+#[derive(Drop)]
+struct Declared {
+    names: NameTable,
+    actions: Vec<Schema>,
+}
+
 /// Adds the action that a section with this span and these parts declares, where it is an action.
 #[tactic(auto, unfolding(crate::specs::ActionParts::section_flaws, crate::specs::ActionParts::section_names, crate::specs::ActionParts::section_actions))]
 fn read_section(
     alloc: Global,
     known: &Known,
-    names: &mut NameTable,
-    actions: &mut Vec<Schema>,
+    declared: &mut Declared,
     span: Span,
     parts: &[Form],
 ) -> Result<(), ReadErr>
-    ensures sound { OnOk result
-        (section_flaws (known_value known.now) names.old span (forest_of parts.now) ≡ []) }
-    ensures names { OnOk result (names.new ≡ section_names names.old (forest_of parts.now)) }
+    ensures sound { OnOk result (section_flaws (known_value known.now) declared.old.names span
+        (forest_of parts.now) ≡ []) }
+    ensures names { OnOk result
+        (declared.new.names ≡ section_names declared.old.names (forest_of parts.now)) }
     ensures read { OnOk result
-        (map schema_value actions.new.items
-        ≡ map schema_value actions.old.items
+        (map schema_value declared.new.actions.items
+        ≡ map schema_value declared.old.actions.items
         ++ section_actions (known_value known.now) (forest_of parts.now)) }
     ensures fault { IfErr result
         (λ e. IfFault e (λ f. first_listed
-        (section_flaws (known_value known.now) names.old span (forest_of parts.now)) ≡ Some f)) }
+        (section_flaws (known_value known.now) declared.old.names span (forest_of parts.now))
+        ≡ Some f)) }
 {
     let Some(action) = action_in(parts) else {
         return Ok(());
     };
-    let schema = read_action(alloc, known, names, span, action)?;
-    actions.push(schema)?;
+    let schema = read_action(alloc, known, &mut declared.names, span, action)?;
+    declared.actions.push(schema)?;
     Ok(())
 }
 
@@ -281,12 +289,14 @@ pub fn read_actions(alloc: Global, known: &Known, sections: &[Form]) -> Result<V
         (λ e. IfFault e (λ f. first_listed
         (actions_flaws (known_value known.now) [] (forest_of sections.now)) ≡ Some f)) }
 {
-    let mut actions = Vec::new(alloc);
-    let mut names = NameTable::new(alloc);
+    let mut declared = Declared {
+        names: NameTable::new(alloc),
+        actions: Vec::new(alloc),
+    };
     for form in sections {
         if let View::Group(span, parts) = form.view() {
-            read_section(alloc, known, &mut names, &mut actions, span, parts)?;
+            read_section(alloc, known, &mut declared, span, parts)?;
         }
     }
-    Ok(actions)
+    Ok(declared.actions)
 }

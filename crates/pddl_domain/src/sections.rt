@@ -7,10 +7,10 @@ ghost use Rattle.sexpr_text.specs.Flaws.{first_listed};
 ghost use Rattle.sexpr_text.specs.Passes.{IfFault};
 ghost use Rattle.pddl_domain.specs.Sections as specs;
 
-use pddl_ast::{no_define, title_of};
+use pddl_ast::{HeadedList, no_define, title_of};
 use sexpr_text::{
-    FaultKind, Form, Head, ReadErr, Span, Text, View, fault_at, first_definition, first_group,
-    head_of, is_nothing,
+    FaultKind, Form, Head, ReadErr, Text, View, fault_at, first_definition, first_group, head_of,
+    is_nothing,
 };
 use std::alloc::Global;
 
@@ -172,23 +172,21 @@ fn has_wrong_size(section: Section, rest: &[Form]) -> bool
 fn check_kind(
     alloc: Global,
     seen: Seen,
-    span: Span,
-    word: &Text,
-    rest: &[Form],
+    list: &HeadedList<'_>,
     section: Section,
 ) -> Result<(), ReadErr>
-    ensures sound { IfOk result
-        (λ _. specs.kind_flaws seen span word.now (forest_of rest.now) section ≡ []) }
+    ensures sound { IfOk result (λ _. specs.kind_flaws seen list.now.span list.now.head.now
+        (forest_of list.now.rest.now) section ≡ []) }
     ensures fault { IfErr result
-        (λ e. IfFault e (λ f. first_listed
-        (specs.kind_flaws seen span word.now (forest_of rest.now) section) ≡ Some f)) }
+        (λ e. IfFault e (λ f. first_listed (specs.kind_flaws seen list.now.span list.now.head.now
+        (forest_of list.now.rest.now) section) ≡ Some f)) }
 {
     if let Section::Other = section {
-        let left_out = FaultKind::LeftOut(Text::new(alloc, word.as_bytes())?);
-        return Err(fault_at(span, left_out));
+        let left_out = FaultKind::LeftOut(Text::new(alloc, list.head.as_bytes())?);
+        return Err(fault_at(list.span, left_out));
     }
-    if seen.came(section) || has_wrong_size(section, rest) {
-        return Err(fault_at(span, FaultKind::BadForm));
+    if seen.came(section) || has_wrong_size(section, list.rest) {
+        return Err(fault_at(list.span, FaultKind::BadForm));
     }
     Ok(())
 }
@@ -212,9 +210,15 @@ pub fn check_sections(alloc: Global, sections: &[Form]) -> Result<(), ReadErr>
         match form.view() {
             View::Word(span, _) => return Err(fault_at(span, FaultKind::BadForm)),
             View::Group(span, parts) => match head_of(parts) {
-                Head::Word(_, word, rest) => {
-                    let section = section_kind(word);
-                    check_kind(alloc, seen, span, word, rest, section)?;
+                Head::Word(head_span, head, rest) => {
+                    let section = section_kind(head);
+                    let list = HeadedList {
+                        span,
+                        head_span,
+                        head,
+                        rest,
+                    };
+                    check_kind(alloc, seen, &list, section)?;
                     seen = seen.and(section);
                 }
                 _ => return Err(fault_at(span, FaultKind::BadForm)),

@@ -8,7 +8,7 @@ use Rattle.pddl_domain.proofs.schemas.read_actions.Given as goal
 abbrev pub invariant-loop-form : goal.invariant-loop-form
 invariant-loop-form l = record {
   flaws : actions_flaws (known_value l.known) [] (forest_of l.sections)
-      ≡ actions_flaws (known_value l.known) l.names (forest_of (drop l.form-index l.sections));
+      ≡ actions_flaws (known_value l.known) l.declared.names (forest_of (drop l.form-index l.sections));
   read : all_actions (known_value l.known) (forest_of l.sections)
-      ≡ map schema_value l.actions.items ++ all_actions (known_value l.known) (forest_of (drop l.form-index l.sections));
+      ≡ map schema_value l.declared.actions.items ++ all_actions (known_value l.known) (forest_of (drop l.form-index l.sections));
 }
