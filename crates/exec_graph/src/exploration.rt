@@ -45,7 +45,7 @@ ghost use Rattle.exec_graph.specs.Values.{IsWithinFluents, plain_graph};
 
 use crate::effects::effects_of;
 use crate::graphs::{Graph, Place};
-use crate::moves::{Moves, number_of};
+use crate::moves::{Indexed, Moves, number_of};
 use crate::rows::{Rows, turned};
 use crate::rules::{ByContext, RuleIndex, by_context, table_index};
 use cube_index::CubeIndex;
@@ -117,82 +117,77 @@ pub fn explore(alloc: Global, task: &Task, plan: &Plan) -> Result<Graph, GraphEr
         (ReachesMoreThan (system_of task.now) (plain_of plan.now) 262144 → ⊥) }
 {
     let states = initial_states(alloc, task)?;
-    let index = index_of(alloc, task, plan)?;
+    let indexed = Indexed {
+        task,
+        plan,
+        index: index_of(alloc, task, plan)?,
+    };
     let mut draft = Draft {
         moves: first_moves(alloc, task, &states)?,
         next: Rows::new(alloc)?,
         unexecutable: false,
         stuck: false,
     };
-    draft.visit_all(alloc, task, plan, &index)?;
+    draft.visit_all(alloc, &indexed)?;
     let prev = turned(alloc, &draft.next)?;
     Ok(draft.into_graph(prev, states.len()))
 }
 
 impl Draft {
     /// Visits each configuration that was not visited yet, and those that are found meanwhile.
-    fn visit_all(
-        &mut self,
-        alloc: Global,
-        task: &Task,
-        plan: &Plan,
-        index: &RuleIndex<'_>,
-    ) -> Result<(), GraphErr>
-        requires plan_of_task { IsPlanOf (fluent_count task.now) (action_count task.now) plan.now }
-        requires index { IsRuleIndexOf plan.now index.now }
-        requires effects { AreEffectsOf task.now index.now.effects }
+    fn visit_all(&mut self, alloc: Global, indexed: &Indexed<'_, '_>) -> Result<(), GraphErr>
+        requires plan_of_task { IsPlanOf (fluent_count indexed.now.task.now) (action_count indexed.now.task.now)
+            indexed.now.plan.now }
+        requires index { IsRuleIndexOf indexed.now.plan.now indexed.now.index }
+        requires effects { AreEffectsOf indexed.now.task.now indexed.now.index.effects }
         requires rows { AreRows self.old.next }
-        requires within { IsDraftWithin (fluent_count task.now) self.old }
+        requires within { IsDraftWithin (fluent_count indexed.now.task.now) self.old }
         requires few { length self.old.moves.places.keys ≤ 262144 }
-        requires searched { IsSearched (system_of task.now) (plain_of plan.now)
-            (draft_value (fluent_count task.now) self.old) }
-        ensures searched { OnOk result (IsSearched (system_of task.now) (plain_of plan.now)
-            (draft_value (fluent_count task.now) self.new)) }
+        requires searched { IsSearched (system_of indexed.now.task.now) (plain_of indexed.now.plan.now)
+            (draft_value (fluent_count indexed.now.task.now) self.old) }
+        ensures searched { OnOk result
+            (IsSearched (system_of indexed.now.task.now) (plain_of indexed.now.plan.now)
+            (draft_value (fluent_count indexed.now.task.now) self.new)) }
         ensures rows { OnOk result (AreRows self.new.next) }
         ensures whole { OnOk result (row_count self.new.next ≡ length self.new.moves.places.keys) }
-        ensures within { OnOk result (IsDraftWithin (fluent_count task.now) self.new) }
+        ensures within { OnOk result (IsDraftWithin (fluent_count indexed.now.task.now) self.new) }
         ensures few { OnOk result (length self.new.moves.places.keys ≤ 262144) }
         ensures too_large { IsErrOf result GraphErr.TooLarge
-            → ReachesMoreThan (system_of task.now) (plain_of plan.now) 262144 }
+            → ReachesMoreThan (system_of indexed.now.task.now) (plain_of indexed.now.plan.now)
+            262144 }
         ensures not_initial { IsErrOf result GraphErr.Initial → ⊥ }
     {
         while self.next.len() < self.moves.places.len() {
-            self.visit_next(alloc, task, plan, index)?;
+            self.visit_next(alloc, indexed)?;
         }
         Ok(())
     }
 
     /// Visits the first configuration that was not visited yet.
-    fn visit_next(
-        &mut self,
-        alloc: Global,
-        task: &Task,
-        plan: &Plan,
-        index: &RuleIndex<'_>,
-    ) -> Result<(), GraphErr>
-        requires plan_of_task { IsPlanOf (fluent_count task.now) (action_count task.now) plan.now }
-        requires index { IsRuleIndexOf plan.now index.now }
-        requires effects { AreEffectsOf task.now index.now.effects }
+    fn visit_next(&mut self, alloc: Global, indexed: &Indexed<'_, '_>) -> Result<(), GraphErr>
+        requires plan_of_task { IsPlanOf (fluent_count indexed.now.task.now) (action_count indexed.now.task.now)
+            indexed.now.plan.now }
+        requires index { IsRuleIndexOf indexed.now.plan.now indexed.now.index }
+        requires effects { AreEffectsOf indexed.now.task.now indexed.now.index.effects }
         requires rows { AreRows self.old.next }
-        requires within { IsDraftWithin (fluent_count task.now) self.old }
+        requires within { IsDraftWithin (fluent_count indexed.now.task.now) self.old }
         requires few { length self.old.moves.places.keys ≤ 262144 }
         requires left { row_count self.old.next < length self.old.moves.places.keys }
-        ensures visit { let n = fluent_count task.now in OnOk result
-            (IsVisit (system_of task.now) (plain_of plan.now)
+        ensures visit { let n = fluent_count indexed.now.task.now in OnOk result
+            (IsVisit (system_of indexed.now.task.now) (plain_of indexed.now.plan.now)
             (draft_value n self.old) (draft_value n self.new)) }
         ensures count { OnOk result (row_count self.new.next ≡ row_count self.old.next + 1) }
         ensures rows { OnOk result (AreRows self.new.next) }
-        ensures within { OnOk result (IsDraftWithin (fluent_count task.now) self.new) }
+        ensures within { OnOk result (IsDraftWithin (fluent_count indexed.now.task.now) self.new) }
         ensures few { OnOk result (length self.new.moves.places.keys ≤ 262144) }
         ensures too_large { IsErrOf result GraphErr.TooLarge
-            → HasTooMany (system_of task.now) (plain_of plan.now) 262144
-            (draft_value (fluent_count task.now) self.old) }
+            → HasTooMany (system_of indexed.now.task.now) (plain_of indexed.now.plan.now) 262144
+            (draft_value (fluent_count indexed.now.task.now) self.old) }
         ensures not_initial { IsErrOf result GraphErr.Initial → ⊥ }
     {
         let number = self.next.len();
         let place = self.moves.places[number];
-        self.moves
-            .visit(alloc, task, plan, index, &place, number + 1)?;
+        self.moves.visit(alloc, indexed, &place, number + 1)?;
         check_count(&self.moves.places)?;
         self.note()?;
         Ok(())

@@ -85,6 +85,21 @@ pub(crate) struct Moves {
     pub(crate) lost: bool,
 }
 
+/// A plan of a task, and the index in which its rules are looked up.
+#[derive(Drop)]
+pub(crate) struct Indexed<'t, 'p> {
+    pub(crate) task: &'t Task,
+    pub(crate) plan: &'p Plan,
+    pub(crate) index: RuleIndex<'p>,
+}
+
+/// A state of a task, from which a plan goes on.
+#[derive(Clone, Copy)]
+pub(crate) struct Here<'a> {
+    pub(crate) task: &'a Task,
+    pub(crate) state: &'a State,
+}
+
 impl Moves {
     /// These configurations, none of which was visited.
     pub(crate) fn new(alloc: Global, places: IndexSet<Place>) -> Result<Moves, AllocError>
@@ -129,54 +144,61 @@ impl Moves {
     pub(crate) fn visit(
         &mut self,
         alloc: Global,
-        task: &Task,
-        plan: &Plan,
-        index: &RuleIndex<'_>,
+        indexed: &Indexed<'_, '_>,
         place: &Place,
         visit: usize,
     ) -> Result<(), AllocError>
-        requires plan_of_task { IsPlanOf (fluent_count task.now) (action_count task.now) plan.now }
-        requires index { IsRuleIndexOf plan.now index.now }
-        requires effects { AreEffectsOf task.now index.now.effects }
-        requires within { IsPlaceWithin (fluent_count task.now) place.now }
-        requires before { IsBeforeVisit (fluent_count task.now) visit self.old }
-        ensures value { let n = fluent_count task.now in OnOk result (moves_value n self.new
-            ≡ moves_from (system_of task.now) (plain_of plan.now) (configuration_of n place.now)) }
-        ensures moves { OnOk result (AreMoves (fluent_count task.now) self.new) }
+        requires plan_of_task { IsPlanOf (fluent_count indexed.now.task.now) (action_count indexed.now.task.now)
+            indexed.now.plan.now }
+        requires index { IsRuleIndexOf indexed.now.plan.now indexed.now.index }
+        requires effects { AreEffectsOf indexed.now.task.now indexed.now.index.effects }
+        requires within { IsPlaceWithin (fluent_count indexed.now.task.now) place.now }
+        requires before { IsBeforeVisit (fluent_count indexed.now.task.now) visit self.old }
+        ensures value { let n = fluent_count indexed.now.task.now in OnOk result (moves_value n self.new
+            ≡ moves_from (system_of indexed.now.task.now) (plain_of indexed.now.plan.now)
+            (configuration_of n place.now)) }
+        ensures moves { OnOk result (AreMoves (fluent_count indexed.now.task.now) self.new) }
         ensures visit { OnOk result (self.new.visit ≡ visit) }
-        ensures grown { let n = fluent_count task.now in OnOk result (found_by n self.new
+        ensures grown { let n = fluent_count indexed.now.task.now in OnOk result (found_by n self.new
             ≡ fold add_configuration (found_by n self.old) (moves_value n self.new).next) }
     {
         self.begin(visit);
-        self.add_all(alloc, task, plan, index, place)?;
+        self.add_all(alloc, indexed, place)?;
         Ok(())
     }
 
     /// Adds the moves from a configuration by a plan.
-    fn add_all(
+    fn add_all<'a>(
         &mut self,
         alloc: Global,
-        task: &Task,
-        plan: &Plan,
-        index: &RuleIndex<'_>,
-        place: &Place,
+        indexed: &Indexed<'a, '_>,
+        place: &'a Place,
     ) -> Result<(), AllocError>
-        requires plan_of_task { IsPlanOf (fluent_count task.now) (action_count task.now) plan.now }
-        requires index { IsRuleIndexOf plan.now index.now }
-        requires effects { AreEffectsOf task.now index.now.effects }
-        requires within { IsPlaceWithin (fluent_count task.now) place.now }
-        requires moves { AreMoves (fluent_count task.now) self.old }
-        requires none { moves_value (fluent_count task.now) self.old ≡ no_moves false }
-        ensures value { let n = fluent_count task.now in OnOk result (moves_value n self.new
-            ≡ moves_from (system_of task.now) (plain_of plan.now) (configuration_of n place.now)) }
-        ensures moves { OnOk result (AreMoves (fluent_count task.now) self.new) }
-        ensures grown { OnOk result (HasGrown (fluent_count task.now) self.old self.new) }
+        requires plan_of_task { IsPlanOf (fluent_count indexed.now.task.now) (action_count indexed.now.task.now)
+            indexed.now.plan.now }
+        requires index { IsRuleIndexOf indexed.now.plan.now indexed.now.index }
+        requires effects { AreEffectsOf indexed.now.task.now indexed.now.index.effects }
+        requires within { IsPlaceWithin (fluent_count indexed.now.task.now) place.now }
+        requires moves { AreMoves (fluent_count indexed.now.task.now) self.old }
+        requires none { moves_value (fluent_count indexed.now.task.now) self.old ≡ no_moves false }
+        ensures value { let n = fluent_count indexed.now.task.now in OnOk result (moves_value n self.new
+            ≡ moves_from (system_of indexed.now.task.now) (plain_of indexed.now.plan.now)
+            (configuration_of n place.now)) }
+        ensures moves { OnOk result (AreMoves (fluent_count indexed.now.task.now) self.new) }
+        ensures grown { OnOk result (HasGrown (fluent_count indexed.now.task.now) self.old self.new) }
     {
-        match plan {
-            Plan::Table(table) => { self.add_table(alloc, task, &table.rules, index, &place.state) }
+        let here = Here {
+            task: indexed.task,
+            state: &place.state,
+        };
+        let index = &indexed.index;
+        match indexed.plan {
+            Plan::Table(table) => self.add_table(alloc, &here, &table.rules, index),
             Plan::Auto(_) => {
-                let rule = index.contexts.rule_at(task, &place.state, place.context);
-                self.add_advised(task, &rule, &place.state, &index.effects)
+                let rule = index
+                    .contexts
+                    .rule_at(indexed.task, &place.state, place.context);
+                self.add_advised(&here, &rule, &index.effects)
             }
         }
     }
@@ -184,29 +206,28 @@ impl Moves {
     /// Adds the moves by the rule of an automaton that counts, where there is one.
     fn add_advised(
         &mut self,
-        task: &Task,
+        here: &Here<'_>,
         rule: &Option<Advice<'_>>,
-        state: &State,
         effects: &Effects,
     ) -> Result<(), AllocError>
         requires in_task { IfSome rule.now
-            (IsAdviceOf (fluent_count task.now) (action_count task.now)) }
-        requires effects { AreEffectsOf task.now effects.now }
-        requires within { IsWithin (fluent_count task.now) state.now }
-        requires moves { AreMoves (fluent_count task.now) self.old }
-        requires none { moves_value (fluent_count task.now) self.old ≡ no_moves false }
-        ensures value { let n = fluent_count task.now in OnOk result (moves_value n self.new
-            ≡ moves_by (system_of task.now) (vector n state.now)
+            (IsAdviceOf (fluent_count here.now.task.now) (action_count here.now.task.now)) }
+        requires effects { AreEffectsOf here.now.task.now effects.now }
+        requires within { IsWithin (fluent_count here.now.task.now) here.now.state.now }
+        requires moves { AreMoves (fluent_count here.now.task.now) self.old }
+        requires none { moves_value (fluent_count here.now.task.now) self.old ≡ no_moves false }
+        ensures value { let n = fluent_count here.now.task.now in OnOk result (moves_value n self.new
+            ≡ moves_by (system_of here.now.task.now) (vector n here.now.state.now)
             (option_map advice_value rule.now)) }
-        ensures moves { OnOk result (AreMoves (fluent_count task.now) self.new) }
-        ensures grown { OnOk result (HasGrown (fluent_count task.now) self.old self.new) }
+        ensures moves { OnOk result (AreMoves (fluent_count here.now.task.now) self.new) }
+        ensures grown { OnOk result (HasGrown (fluent_count here.now.task.now) self.old self.new) }
     {
         match rule {
             None => {
                 self.lost = true;
                 Ok(())
             }
-            Some(rule) => self.add_rule(task, state, rule, effects),
+            Some(rule) => self.add_rule(here, rule, effects),
         }
     }
 
@@ -214,27 +235,28 @@ impl Moves {
     fn add_table(
         &mut self,
         alloc: Global,
-        task: &Task,
+        here: &Here<'_>,
         rules: &[Rule],
         index: &RuleIndex<'_>,
-        state: &State,
     ) -> Result<(), AllocError>
-        requires in_task { let n = fluent_count task.now in let m = action_count task.now in
+        requires in_task { let n = fluent_count here.now.task.now in let m = action_count here.now.task.now in
             All (λ rule. IsRuleOf n m (rule_of rule)) rules.now }
         requires index { IsIndexOf index.now.cubes (cubes_of rules.now) }
-        requires effects { AreEffectsOf task.now index.now.effects }
-        requires within { IsWithin (fluent_count task.now) state.now }
-        requires moves { AreMoves (fluent_count task.now) self.old }
-        requires none { moves_value (fluent_count task.now) self.old ≡ no_moves false }
-        ensures value { let n = fluent_count task.now in OnOk result (moves_value n self.new
-            ≡ moves_in_table (system_of task.now) (vector n state.now) (map rule_of rules.now)) }
-        ensures moves { OnOk result (AreMoves (fluent_count task.now) self.new) }
-        ensures grown { OnOk result (HasGrown (fluent_count task.now) self.old self.new) }
+        requires effects { AreEffectsOf here.now.task.now index.now.effects }
+        requires within { IsWithin (fluent_count here.now.task.now) here.now.state.now }
+        requires moves { AreMoves (fluent_count here.now.task.now) self.old }
+        requires none { moves_value (fluent_count here.now.task.now) self.old ≡ no_moves false }
+        ensures value { let n = fluent_count here.now.task.now in OnOk result (moves_value n self.new
+            ≡ moves_in_table (system_of here.now.task.now) (vector n here.now.state.now)
+            (map rule_of rules.now)) }
+        ensures moves { OnOk result (AreMoves (fluent_count here.now.task.now) self.new) }
+        ensures grown { OnOk result (HasGrown (fluent_count here.now.task.now) self.old self.new) }
     {
+        let Here { task, state } = *here;
         let mut taken = no_actions(alloc, task)?;
         let mut place = next_rule(task, rules, &index.cubes, state, 0);
         while place < rules.len() {
-            self.add_matching(task, state, &rules[place], &index.effects, &mut taken)?;
+            self.add_matching(here, &rules[place], &index.effects, &mut taken)?;
             place = next_rule(task, rules, &index.cubes, state, place + 1);
         }
         Ok(())
@@ -243,23 +265,24 @@ impl Moves {
     /// Adds the moves by a rule that counts in a state.
     pub(crate) fn add_rule(
         &mut self,
-        task: &Task,
-        state: &State,
+        here: &Here<'_>,
         rule: &Advice<'_>,
         effects: &Effects,
     ) -> Result<(), AllocError>
-        requires in_task { IsAdviceOf (fluent_count task.now) (action_count task.now) rule.now }
-        requires effects { AreEffectsOf task.now effects.now }
-        requires within { IsWithin (fluent_count task.now) state.now }
-        requires moves { AreMoves (fluent_count task.now) self.old }
-        ensures value { let n = fluent_count task.now in OnOk result (moves_value n self.new
-            ≡ with_rule (system_of task.now) (vector n state.now) (moves_value n self.old)
+        requires in_task { IsAdviceOf (fluent_count here.now.task.now) (action_count here.now.task.now)
+            rule.now }
+        requires effects { AreEffectsOf here.now.task.now effects.now }
+        requires within { IsWithin (fluent_count here.now.task.now) here.now.state.now }
+        requires moves { AreMoves (fluent_count here.now.task.now) self.old }
+        ensures value { let n = fluent_count here.now.task.now in OnOk result (moves_value n self.new
+            ≡ with_rule (system_of here.now.task.now) (vector n here.now.state.now)
+            (moves_value n self.old)
             (advice_value rule.now)) }
-        ensures moves { OnOk result (AreMoves (fluent_count task.now) self.new) }
-        ensures grown { OnOk result (HasGrown (fluent_count task.now) self.old self.new) }
+        ensures moves { OnOk result (AreMoves (fluent_count here.now.task.now) self.new) }
+        ensures grown { OnOk result (HasGrown (fluent_count here.now.task.now) self.old self.new) }
     {
-        if is_executable(task, state, rule.action) {
-            self.add_outcomes(task, state, rule, effects)
+        if is_executable(here.task, here.state, rule.action) {
+            self.add_outcomes(here, rule, effects)
         } else {
             self.refused = true;
             Ok(())
@@ -270,40 +293,40 @@ impl Moves {
     // is passed over: it leads to nothing new.
     fn add_matching(
         &mut self,
-        task: &Task,
-        state: &State,
+        here: &Here<'_>,
         rule: &Rule,
         effects: &Effects,
         taken: &mut Vec<bool>,
     ) -> Result<(), AllocError>
-        requires in_task { let n = fluent_count task.now in let m = action_count task.now in
+        requires in_task { let n = fluent_count here.now.task.now in let m = action_count here.now.task.now in
             IsRuleOf n m (rule_of rule.now) }
-        requires effects { AreEffectsOf task.now effects.now }
-        requires within { IsWithin (fluent_count task.now) state.now }
-        requires moves { AreMoves (fluent_count task.now) self.old }
-        requires count { length taken.old.items ≡ action_count task.now }
-        requires taken { let n = fluent_count task.now in HaveTaken (system_of task.now)
-            (vector n state.now) (moves_value n self.old) taken.old.items }
-        ensures value { let n = fluent_count task.now in OnOk result (moves_value n self.new
-            ≡ with_table_rule (system_of task.now) (vector n state.now) (moves_value n self.old)
+        requires effects { AreEffectsOf here.now.task.now effects.now }
+        requires within { IsWithin (fluent_count here.now.task.now) here.now.state.now }
+        requires moves { AreMoves (fluent_count here.now.task.now) self.old }
+        requires count { length taken.old.items ≡ action_count here.now.task.now }
+        requires taken { let n = fluent_count here.now.task.now in HaveTaken (system_of here.now.task.now)
+            (vector n here.now.state.now) (moves_value n self.old) taken.old.items }
+        ensures value { let n = fluent_count here.now.task.now in OnOk result (moves_value n self.new
+            ≡ with_table_rule (system_of here.now.task.now) (vector n here.now.state.now)
+            (moves_value n self.old)
             (rule_of rule.now)) }
-        ensures moves { OnOk result (AreMoves (fluent_count task.now) self.new) }
-        ensures grown { OnOk result (HasGrown (fluent_count task.now) self.old self.new) }
-        ensures count { OnOk result (length taken.new.items ≡ action_count task.now) }
-        ensures taken { let n = fluent_count task.now in OnOk result (HaveTaken
-            (system_of task.now) (vector n state.now) (moves_value n self.new) taken.new.items) }
+        ensures moves { OnOk result (AreMoves (fluent_count here.now.task.now) self.new) }
+        ensures grown { OnOk result (HasGrown (fluent_count here.now.task.now) self.old self.new) }
+        ensures count { OnOk result (length taken.new.items ≡ action_count here.now.task.now) }
+        ensures taken { let n = fluent_count here.now.task.now in OnOk result (HaveTaken
+            (system_of here.now.task.now) (vector n here.now.state.now)
+            (moves_value n self.new) taken.new.items) }
     {
         let action = rule.action.0 as usize;
         if taken[action] {
             return Ok(());
         }
-        if !has_all(task, &rule.cube, state) {
+        if !has_all(here.task, &rule.cube, here.state) {
             return Ok(());
         }
         taken[action] = true;
         self.add_rule(
-            task,
-            state,
+            here,
             &Advice {
                 action: rule.action,
                 onward: Onward::Always(FIRST_CONTEXT),
@@ -316,26 +339,26 @@ impl Moves {
     // Adds the moves by a rule whose action can be executed.
     fn add_outcomes(
         &mut self,
-        task: &Task,
-        state: &State,
+        here: &Here<'_>,
         rule: &Advice<'_>,
         effects: &Effects,
     ) -> Result<(), AllocError>
-        requires in_task { IsAdviceOf (fluent_count task.now) (action_count task.now) rule.now }
-        requires effects { AreEffectsOf task.now effects.now }
-        requires within { IsWithin (fluent_count task.now) state.now }
-        requires moves { AreMoves (fluent_count task.now) self.old }
-        requires executable { let n = fluent_count task.now in
-            Exec (system_of task.now) (vector n state.now) rule.now.action.0 }
-        ensures value { let n = fluent_count task.now in OnOk result (moves_value n self.new
+        requires in_task { IsAdviceOf (fluent_count here.now.task.now) (action_count here.now.task.now)
+            rule.now }
+        requires effects { AreEffectsOf here.now.task.now effects.now }
+        requires within { IsWithin (fluent_count here.now.task.now) here.now.state.now }
+        requires moves { AreMoves (fluent_count here.now.task.now) self.old }
+        requires executable { let n = fluent_count here.now.task.now in
+            Exec (system_of here.now.task.now) (vector n here.now.state.now) rule.now.action.0 }
+        ensures value { let n = fluent_count here.now.task.now in OnOk result (moves_value n self.new
             ≡ fold (with_outcome (onward_value rule.now.onward)) (moves_value n self.old)
-            ((system_of task.now).next (vector n state.now) rule.now.action.0)) }
-        ensures moves { OnOk result (AreMoves (fluent_count task.now) self.new) }
-        ensures grown { OnOk result (HasGrown (fluent_count task.now) self.old self.new) }
+            ((system_of here.now.task.now).next (vector n here.now.state.now) rule.now.action.0)) }
+        ensures moves { OnOk result (AreMoves (fluent_count here.now.task.now) self.new) }
+        ensures grown { OnOk result (HasGrown (fluent_count here.now.task.now) self.old self.new) }
     {
         let effects = effects.of(rule.action);
-        for outcome in 0..outcome_count(task, rule.action) {
-            self.add_after(task, state, rule, effects, outcome)?;
+        for outcome in 0..outcome_count(here.task, rule.action) {
+            self.add_after(here, rule, effects, outcome)?;
         }
         Ok(())
     }
@@ -343,29 +366,30 @@ impl Moves {
     // Adds the move by one outcome of a rule's action, if it leads to a state.
     fn add_after(
         &mut self,
-        task: &Task,
-        state: &State,
+        here: &Here<'_>,
         rule: &Advice<'_>,
         effects: &[Option<Effect>],
         outcome: u32,
     ) -> Result<(), AllocError>
-        requires in_task { IsAdviceOf (fluent_count task.now) (action_count task.now) rule.now }
-        requires within { IsWithin (fluent_count task.now) state.now }
-        requires moves { AreMoves (fluent_count task.now) self.old }
-        requires effects { AreEffects task.now rule.now.action.0 effects.now }
-        requires outcome { outcome < length (outcomes_at task.now rule.now.action.0) }
-        ensures value { let n = fluent_count task.now in OnOk result (moves_value n self.new
-            ≡ with_if_state (in_space task.now) (onward_value rule.now.onward)
+        requires in_task { IsAdviceOf (fluent_count here.now.task.now) (action_count here.now.task.now)
+            rule.now }
+        requires within { IsWithin (fluent_count here.now.task.now) here.now.state.now }
+        requires moves { AreMoves (fluent_count here.now.task.now) self.old }
+        requires effects { AreEffects here.now.task.now rule.now.action.0 effects.now }
+        requires outcome { outcome < length (outcomes_at here.now.task.now rule.now.action.0) }
+        ensures value { let n = fluent_count here.now.task.now in OnOk result (moves_value n self.new
+            ≡ with_if_state (in_space here.now.task.now) (onward_value rule.now.onward)
             (moves_value n self.old) (slice_index_or
-            (states_after task.now (vector n state.now) rule.now.action.0) outcome [])) }
-        ensures moves { OnOk result (AreMoves (fluent_count task.now) self.new) }
-        ensures grown { OnOk result (HasGrown (fluent_count task.now) self.old self.new) }
+            (states_after here.now.task.now (vector n here.now.state.now) rule.now.action.0) outcome
+            [])) }
+        ensures moves { OnOk result (AreMoves (fluent_count here.now.task.now) self.new) }
+        ensures grown { OnOk result (HasGrown (fluent_count here.now.task.now) self.old self.new) }
     {
-        match self.known_after(state, &rule.onward, effects, outcome) {
-            Some(number) => self.add_known(task, number),
+        match self.known_after(here.state, &rule.onward, effects, outcome) {
+            Some(number) => self.add_known(here.task, number),
             None => {
-                let after = step(task, state, rule.action, outcome);
-                self.add_if_state(task, after, &rule.onward)
+                let after = step(here.task, here.state, rule.action, outcome);
+                self.add_if_state(here.task, after, &rule.onward)
             }
         }
     }

@@ -9,7 +9,7 @@ ghost use Rattle.plan_check.specs.Operators.{operator_count, operator_count_of};
 ghost use Rattle.plan_check.specs.Plain.{HasFollowersInside, HasPredecessors};
 
 use crate::labelling::{Join, joined, negated, next_label, plain_label, same_label, weak_until};
-use crate::spreading::{Need, spread};
+use crate::spreading::{Along, Need, spread};
 use ctl_syntax::Ctl;
 use exec_graph::{Graph, Steps};
 use std::alloc::{AllocError, Global};
@@ -108,46 +108,86 @@ pub(crate) fn labels<L: Ledger>(
         Ctl::Af(part) => {
             let guard = same_label(alloc, graph, true)?;
             let mut marks = labels(alloc, graph, part, steps)?;
-            spread(alloc, Need::Each, graph, &guard, &mut marks, steps)?;
+            let along = Along {
+                graph,
+                need: Need::Each,
+                guard: &guard,
+            };
+            spread(alloc, &along, &mut marks, steps)?;
             Ok(marks)
         }
         Ctl::Ef(part) => {
             let guard = same_label(alloc, graph, true)?;
             let mut marks = labels(alloc, graph, part, steps)?;
-            spread(alloc, Need::One, graph, &guard, &mut marks, steps)?;
+            let along = Along {
+                graph,
+                need: Need::One,
+                guard: &guard,
+            };
+            spread(alloc, &along, &mut marks, steps)?;
             Ok(marks)
         }
         Ctl::Ag(part) => {
             let guard = labels(alloc, graph, part, steps)?;
             let target = same_label(alloc, graph, false)?;
-            weak_until(alloc, Need::Each, graph, &guard, &target, steps)
+            let along = Along {
+                graph,
+                need: Need::Each,
+                guard: &guard,
+            };
+            weak_until(alloc, &along, &target, steps)
         }
         Ctl::Eg(part) => {
             let guard = labels(alloc, graph, part, steps)?;
             let target = same_label(alloc, graph, false)?;
-            weak_until(alloc, Need::One, graph, &guard, &target, steps)
+            let along = Along {
+                graph,
+                need: Need::One,
+                guard: &guard,
+            };
+            weak_until(alloc, &along, &target, steps)
         }
         Ctl::Au(left, right) => {
             let guard = labels(alloc, graph, left, steps)?;
             let mut marks = labels(alloc, graph, right, steps)?;
-            spread(alloc, Need::Each, graph, &guard, &mut marks, steps)?;
+            let along = Along {
+                graph,
+                need: Need::Each,
+                guard: &guard,
+            };
+            spread(alloc, &along, &mut marks, steps)?;
             Ok(marks)
         }
         Ctl::Eu(left, right) => {
             let guard = labels(alloc, graph, left, steps)?;
             let mut marks = labels(alloc, graph, right, steps)?;
-            spread(alloc, Need::One, graph, &guard, &mut marks, steps)?;
+            let along = Along {
+                graph,
+                need: Need::One,
+                guard: &guard,
+            };
+            spread(alloc, &along, &mut marks, steps)?;
             Ok(marks)
         }
         Ctl::Aw(left, right) => {
             let guard = labels(alloc, graph, left, steps)?;
             let target = labels(alloc, graph, right, steps)?;
-            weak_until(alloc, Need::Each, graph, &guard, &target, steps)
+            let along = Along {
+                graph,
+                need: Need::Each,
+                guard: &guard,
+            };
+            weak_until(alloc, &along, &target, steps)
         }
         Ctl::Ew(left, right) => {
             let guard = labels(alloc, graph, left, steps)?;
             let target = labels(alloc, graph, right, steps)?;
-            weak_until(alloc, Need::One, graph, &guard, &target, steps)
+            let along = Along {
+                graph,
+                need: Need::One,
+                guard: &guard,
+            };
+            weak_until(alloc, &along, &target, steps)
         }
     }
 }

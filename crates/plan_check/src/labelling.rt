@@ -27,7 +27,7 @@ ghost use Rattle.plan_check.specs.Labels.{
 ghost use Rattle.plan_check.specs.Plain.{HasFollowersInside, HasPredecessors, is_goal_at};
 
 use crate::ends::is_goal;
-use crate::spreading::{Need, is_led, other, spread};
+use crate::spreading::{Along, Need, is_led, other, spread};
 use exec_graph::{Graph, Steps};
 use std::alloc::{AllocError, Global};
 use std::sync::ledger::Ledger;
@@ -136,22 +136,26 @@ pub(crate) fn next_label<L: Ledger>(
 /// the complement of an until.
 pub(crate) fn weak_until<L: Ledger>(
     alloc: Global,
-    need: Need,
-    graph: &Graph,
-    guard: &[bool],
+    along: &Along<'_>,
     target: &[bool],
     steps: &mut Steps<L>,
 ) -> Result<Vec<bool>, AllocError>
-    requires turned { HasPredecessors graph.now }
-    requires followers { HasFollowers graph.now }
-    requires guard { length guard.now ≡ graph_size graph.now }
-    requires target { length target.now ≡ graph_size graph.now }
-    ensures weakest { IfOk result (λ marks. IsWeakest (graph_size graph.now) need
-        (followers_at graph.now) guard.now target.now marks.items) }
-    ensures steps { steps.new ≤ steps.old + edge_count graph.now }
+    requires turned { HasPredecessors along.now.graph.now }
+    requires followers { HasFollowers along.now.graph.now }
+    requires guard { length along.now.guard.now ≡ graph_size along.now.graph.now }
+    requires target { length target.now ≡ graph_size along.now.graph.now }
+    ensures weakest { IfOk result (λ marks. IsWeakest (graph_size along.now.graph.now) along.now.need
+        (followers_at along.now.graph.now) along.now.guard.now target.now marks.items) }
+    ensures steps { steps.new ≤ steps.old + edge_count along.now.graph.now }
 {
+    let Along { graph, need, guard } = *along;
     let without = negated(alloc, target)?;
     let mut marks = joined(alloc, Join::Neither, guard, target)?;
-    spread(alloc, other(need), graph, &without, &mut marks, steps)?;
+    let back = Along {
+        graph,
+        need: other(need),
+        guard: &without,
+    };
+    spread(alloc, &back, &mut marks, steps)?;
     negated(alloc, &marks)
 }

@@ -6,7 +6,7 @@ ghost use Rattle.plan_check.specs.Plain.{HasFollowersInside, HasPredecessors};
 ghost use Rattle.plan_check.specs.Walks.{IsMarked, LeadsToMarked};
 
 use crate::labelling::same_label;
-use crate::spreading::{Need, spread};
+use crate::spreading::{Along, Need, spread};
 use exec_graph::{Graph, Steps};
 use std::alloc::{AllocError, Global};
 use std::sync::ledger::Ledger;
@@ -28,6 +28,11 @@ pub(crate) fn mark_leading<L: Ledger>(
     ensures steps { steps.new ≤ steps.old + edge_count graph.now }
 {
     let guard = same_label(alloc, graph, true)?;
-    spread(alloc, Need::One, graph, &guard, marks, steps)?;
+    let along = Along {
+        graph,
+        need: Need::One,
+        guard: &guard,
+    };
+    spread(alloc, &along, marks, steps)?;
     Ok(())
 }

@@ -49,6 +49,23 @@ pub(crate) enum Need {
     Each,
 }
 
+/// How a label goes back through a graph: to configurations of which one, or each, of the followers
+/// has it, and that are in the guard.
+#[derive(Clone, Copy)]
+pub(crate) struct Along<'a> {
+    pub(crate) graph: &'a Graph,
+    pub(crate) need: Need,
+    pub(crate) guard: &'a [bool],
+}
+
+/// How far a label has spread: how many of the followers of each configuration lack it or weren't
+/// looked at, and the configurations that have it, in the order in which they were found.
+#[derive(Drop)]
+struct Front {
+    lacks: Vec<u32>,
+    found: Vec<u32>,
+}
+
 /// The other of the two.
 pub(crate) fn other(need: Need) -> Need
     ensures { result ≡ other need }
@@ -193,73 +210,75 @@ fn is_due(need: Need, guard: &[bool], marks: &[bool], left: u32, number: u32) ->
 
 /// Looks at an edge from a configuration to one that has the label.
 fn look(
-    need: Need,
-    guard: &[bool],
+    along: &Along<'_>,
     marks: &mut Vec<bool>,
-    lacks: &mut Vec<u32>,
-    found: &mut Vec<u32>,
+    front: &mut Front,
     number: u32,
 ) -> Result<(), AllocError>
-    requires guard { number < length guard.now }
+    requires guard { number < length along.now.guard.now }
     requires marks { number < length marks.old.items }
-    requires lacks { number < length lacks.old.items }
-    requires left { 0 < slice_index_or lacks.old.items number 0 }
-    ensures lacks { IfOk result (λ _. lacks.new.items ≡ slice_set lacks.old.items number
-        (slice_index_or lacks.old.items number 0 - 1)) }
+    requires lacks { number < length front.old.lacks.items }
+    requires left { 0 < slice_index_or front.old.lacks.items number 0 }
+    ensures lacks { IfOk result (λ _. front.new.lacks.items ≡ slice_set front.old.lacks.items number
+        (slice_index_or front.old.lacks.items number 0 - 1)) }
     ensures marks { IfOk result (λ _. marks.new.items
-        ≡ (if is_due need guard.now marks.old.items
-        (slice_index_or lacks.old.items number 0 - 1) number
+        ≡ (if is_due along.now.need along.now.guard.now marks.old.items
+        (slice_index_or front.old.lacks.items number 0 - 1) number
         then slice_set marks.old.items number true else marks.old.items)) }
-    ensures found { IfOk result (λ _. found.new.items
-        ≡ (if is_due need guard.now marks.old.items
-        (slice_index_or lacks.old.items number 0 - 1) number
-        then found.old.items ++ number ∷ [] else found.old.items)) }
+    ensures found { IfOk result (λ _. front.new.found.items
+        ≡ (if is_due along.now.need along.now.guard.now marks.old.items
+        (slice_index_or front.old.lacks.items number 0 - 1) number
+        then front.old.found.items ++ number ∷ [] else front.old.found.items)) }
 {
-    let left = lacks[number as usize] - 1;
-    lacks[number as usize] = left;
-    if !is_due(need, guard, marks, left, number) {
+    let left = front.lacks[number as usize] - 1;
+    front.lacks[number as usize] = left;
+    if !is_due(along.need, along.guard, marks, left, number) {
         return Ok(());
     }
     marks[number as usize] = true;
-    found.push(number)?;
+    front.found.push(number)?;
     Ok(())
 }
 
 /// Looks at the edges to a configuration that has the label: the one at a place of those found.
 fn look_back<L: Ledger>(
-    need: Need,
-    graph: &Graph,
-    guard: &[bool],
+    along: &Along<'_>,
     marks: &mut Vec<bool>,
-    lacks: &mut Vec<u32>,
-    found: &mut Vec<u32>,
+    front: &mut Front,
     done: usize,
     steps: &mut Steps<L>,
 ) -> Result<(), AllocError>
-    requires turned { HasPredecessors graph.now }
-    requires guard { length guard.now ≡ graph_size graph.now }
-    requires done { done < length found.old.items }
-    requires spreading { IsSpreading (graph_size graph.now) need (followers_at graph.now) guard.now
-        marks.old.items lacks.old.items found.old.items
-        (edges_to (predecessors_at graph.now) (take done found.old.items)) }
-    ensures spreading { IfOk result (λ _. IsSpreading (graph_size graph.now) need
-        (followers_at graph.now) guard.now marks.new.items lacks.new.items found.new.items
-        (edges_to (predecessors_at graph.now) (take (done + 1) found.new.items))) }
-    ensures reaches { IfOk result (λ _. Reaches need (followers_at graph.now) guard.now
+    requires turned { HasPredecessors along.now.graph.now }
+    requires guard { length along.now.guard.now ≡ graph_size along.now.graph.now }
+    requires done { done < length front.old.found.items }
+    requires spreading { IsSpreading (graph_size along.now.graph.now) along.now.need
+        (followers_at along.now.graph.now) along.now.guard.now
+        marks.old.items front.old.lacks.items front.old.found.items
+        (edges_to (predecessors_at along.now.graph.now) (take done front.old.found.items)) }
+    ensures spreading { IfOk result (λ _. IsSpreading (graph_size along.now.graph.now) along.now.need
+        (followers_at along.now.graph.now) along.now.guard.now marks.new.items front.new.lacks.items
+        front.new.found.items
+        (edges_to (predecessors_at along.now.graph.now) (take (done + 1) front.new.found.items))) }
+    ensures reaches { IfOk result
+        (λ _. Reaches along.now.need (followers_at along.now.graph.now) along.now.guard.now
         marks.old.items marks.new.items) }
-    ensures even { IfOk result (λ _. unmarked marks.new.items + length found.new.items
-        ≡ unmarked marks.old.items + length found.old.items) }
+    ensures even { IfOk result (λ _. unmarked marks.new.items + length front.new.found.items
+        ≡ unmarked marks.old.items + length front.old.found.items) }
     ensures steps { OnOk result
-        (steps.new + length (edges_to (predecessors_at graph.now) (take done found.old.items))
+        (steps.new + length
+        (edges_to (predecessors_at along.now.graph.now) (take done front.old.found.items))
         ≤ steps.old
-        + length (edges_to (predecessors_at graph.now) (take (done + 1) found.new.items))) }
+        + length (edges_to (predecessors_at along.now.graph.now)
+        (take (done + 1) front.new.found.items))) }
     ensures most { steps.new
-        ≤ steps.old + length (predecessors_at graph.now (slice_index_or found.old.items done 0)) }
+        ≤ steps.old + length
+        (predecessors_at along.now.graph.now (slice_index_or front.old.found.items done 0)) }
 {
-    let number = found[done];
+    let graph = along.graph;
+    let number = front.found[done];
     for k in 0..graph.prev_len(number) {
         let before = graph.prev_at(number, k, steps);
-        look(need, guard, marks, lacks, found, before)?;
+        look(along, marks, front, before)?;
     }
     Ok(())
 }
@@ -268,27 +287,26 @@ fn look_back<L: Ledger>(
 /// left. Each that has a mark or gets one looks at those that it follows, once.
 pub(crate) fn spread<L: Ledger>(
     alloc: Global,
-    need: Need,
-    graph: &Graph,
-    guard: &[bool],
+    along: &Along<'_>,
     marks: &mut Vec<bool>,
     steps: &mut Steps<L>,
 ) -> Result<(), AllocError>
-    requires turned { HasPredecessors graph.now }
-    requires followers { NeedsFollowers need graph.now }
-    requires guard { length guard.now ≡ graph_size graph.now }
-    requires marks { length marks.old.items ≡ graph_size graph.now }
-    ensures least { IfOk result (λ _. IsLeast (graph_size graph.now) need (followers_at graph.now)
-        guard.now marks.old.items marks.new.items) }
-    ensures steps { steps.new ≤ steps.old + edge_count graph.now }
+    requires turned { HasPredecessors along.now.graph.now }
+    requires followers { NeedsFollowers along.now.need along.now.graph.now }
+    requires guard { length along.now.guard.now ≡ graph_size along.now.graph.now }
+    requires marks { length marks.old.items ≡ graph_size along.now.graph.now }
+    ensures least { IfOk result
+        (λ _. IsLeast (graph_size along.now.graph.now) along.now.need
+        (followers_at along.now.graph.now)
+        along.now.guard.now marks.old.items marks.new.items) }
+    ensures steps { steps.new ≤ steps.old + edge_count along.now.graph.now }
 {
-    let mut lacks = follower_counts(alloc, graph)?;
-    let mut found = marked_numbers(alloc, marks)?;
+    let lacks = follower_counts(alloc, along.graph)?;
+    let found = marked_numbers(alloc, marks)?;
+    let mut front = Front { lacks, found };
     let mut done = 0;
-    while done < found.len() {
-        look_back(
-            need, graph, guard, marks, &mut lacks, &mut found, done, steps,
-        )?;
+    while done < front.found.len() {
+        look_back(along, marks, &mut front, done, steps)?;
         done += 1;
     }
     Ok(())

@@ -8,6 +8,16 @@ use task_core::{ActionId, Class};
 /// How often a state is looked at at most.
 const MOST_LOOKS: usize = 67_108_864;
 
+/// What layers are made for: a plan of a class in a graph, in which one may come to each state from
+/// those before it, and which a strong cyclic plan leaves for none but states that stay.
+#[derive(Clone, Copy)]
+pub(crate) struct Wanted<'a> {
+    pub(crate) graph: &'a StepGraph,
+    pub(crate) before: &'a [Vec<usize>],
+    pub(crate) class: Class,
+    pub(crate) stays: &'a [bool],
+}
+
 /// The states from which the goal is had so far, each with the action that it takes; and how often
 /// states were looked at.
 #[derive(Drop)]
@@ -78,20 +88,13 @@ impl Layers {
     }
 
     /// Adds layers until there is no other or, where it isn't for a strong cyclic plan, all initial
-    /// states are among them. `before` says from which states one may come to each.
-    pub(crate) fn grow(
-        &mut self,
-        alloc: Global,
-        graph: &StepGraph,
-        before: &[Vec<usize>],
-        class: Class,
-        stays: &[bool],
-    ) -> Result<(), Stop> {
-        for _ in 0..graph.states.len() {
-            if class != Class::Cyclic && self.are_enough() {
+    /// states are among them.
+    pub(crate) fn grow(&mut self, alloc: Global, wanted: &Wanted<'_>) -> Result<(), Stop> {
+        for _ in 0..wanted.graph.states.len() {
+            if wanted.class != Class::Cyclic && self.are_enough() {
                 return Ok(());
             }
-            if !self.add_layer(alloc, graph, before, class, stays)? {
+            if !self.add_layer(alloc, wanted)? {
                 return Ok(());
             }
         }
@@ -99,27 +102,20 @@ impl Layers {
     }
 
     /// Adds the next layer, and tells whether it has a state.
-    fn add_layer(
-        &mut self,
-        alloc: Global,
-        graph: &StepGraph,
-        before: &[Vec<usize>],
-        class: Class,
-        stays: &[bool],
-    ) -> Result<bool, Stop> {
+    fn add_layer(&mut self, alloc: Global, wanted: &Wanted<'_>) -> Result<bool, Stop> {
         self.looks = self.looks.saturating_add(self.open.len());
         if self.looks > MOST_LOOKS {
             return Err(Stop::TooMany);
         }
         let mut fresh = Vec::new(alloc);
         for number in &self.open {
-            if let Some(action) = self.action_at(graph, class, stays, *number) {
+            if let Some(action) = self.action_at(wanted, *number) {
                 fresh.push((*number, action))?;
             }
         }
         self.count = self.count.saturating_add(1);
         self.take_all(&fresh);
-        self.open_before(alloc, before, &fresh)?;
+        self.open_before(alloc, wanted.before, &fresh)?;
         Ok(!fresh.is_empty())
     }
 
@@ -175,16 +171,10 @@ impl Layers {
     }
 
     /// The least-numbered action that leads from a state among these, as the class wants it.
-    fn action_at(
-        &self,
-        graph: &StepGraph,
-        class: Class,
-        stays: &[bool],
-        number: usize,
-    ) -> Option<ActionId> {
-        let moves = graph.moves.get(number)?;
+    fn action_at(&self, wanted: &Wanted<'_>, number: usize) -> Option<ActionId> {
+        let moves = wanted.graph.moves.get(number)?;
         for step in moves {
-            if self.leads_in(class, stays, step) {
+            if self.leads_in(wanted, step) {
                 return Some(step.action);
             }
         }
@@ -194,11 +184,13 @@ impl Layers {
     /// Whether an action leads among these, as the class wants it: for a weak plan by some outcome,
     /// for a strong one by each, and for a strong cyclic one by some while each leads to a state
     /// that stays.
-    fn leads_in(&self, class: Class, stays: &[bool], step: &Move) -> bool {
-        match class {
+    fn leads_in(&self, wanted: &Wanted<'_>, step: &Move) -> bool {
+        match wanted.class {
             Class::Weak => has_some(&self.inside, &step.after),
             Class::Strong => has_each(&self.inside, &step.after),
-            Class::Cyclic => has_each(stays, &step.after) && has_some(&self.inside, &step.after),
+            Class::Cyclic => {
+                has_each(wanted.stays, &step.after) && has_some(&self.inside, &step.after)
+            }
         }
     }
 }

@@ -5,7 +5,7 @@ ghost use Rattle.task_core.specs.Conditions.{ids_below};
 
 use crate::before::before_each;
 use crate::graph::{StepGraph, Stop, go_through};
-use crate::layers::Layers;
+use crate::layers::{Layers, Wanted};
 use indexmap::IndexSet;
 use std::alloc::{AllocError, Global};
 use task_core::{ActionId, Class, Cond, State, Task};
@@ -79,7 +79,13 @@ fn plan_in(alloc: Global, graph: &StepGraph, class: Class) -> Result<Option<Laye
     let mut looks = 0;
     for _ in 0..graph.states.len() {
         let mut layers = Layers::of_goal(alloc, graph, &stays, looks)?;
-        layers.grow(alloc, graph, &before, class, &stays)?;
+        let wanted = Wanted {
+            graph,
+            before: &before,
+            class,
+            stays: &stays,
+        };
+        layers.grow(alloc, &wanted)?;
         if !layers.are_enough() {
             return Ok(None);
         }

@@ -13,10 +13,10 @@ use Rattle.exec_graph.proofs.exploration.Draft.visit_all.Goals as goal
 
 pub loop-alloc-preserved : goal.loop-alloc-preserved
 loop-alloc-preserved c =
-    let n = fluent_count c.args.task.now in
+    let n = fluent_count c.args.indexed.now.task.now in
     record {
       rows = c.in_ok-visit_next.ensures.rows;
-      searched = searched_visit (system_of c.args.task.now) (plain_of c.args.plan.now) (is_system c.args.task.now)
+      searched = searched_visit (system_of c.args.indexed.now.task.now) (plain_of c.args.indexed.now.plan.now) (is_system c.args.indexed.now.task.now)
           (draft_value n c.loop-alloc.self) (draft_value n c.visit_next.new.self) c.loop-alloc.invariant.searched c.in_ok-visit_next.ensures.visit;
       within = c.in_ok-visit_next.ensures.within;
       few = c.in_ok-visit_next.ensures.few;
@@ -26,11 +26,11 @@ pub returns-in_err-visit_next-clause-too_large : goal.returns-in_err-visit_next-
 returns-in_err-visit_next-clause-too_large c =
     let p = err_from_is_err_and c.from_residual.result c.from_residual.ensures.1 in
     rw (p.1, p.2) (λ is.
-    too_many_reached (system_of c.args.task.now) (plain_of c.args.plan.now) (is_system c.args.task.now) 262144
-    (draft_value (fluent_count c.args.task.now) c.loop-alloc.self) c.loop-alloc.invariant.searched (c.in_err-visit_next.ensures.too_large is))
+    too_many_reached (system_of c.args.indexed.now.task.now) (plain_of c.args.indexed.now.plan.now) (is_system c.args.indexed.now.task.now) 262144
+    (draft_value (fluent_count c.args.indexed.now.task.now) c.loop-alloc.self) c.loop-alloc.invariant.searched (c.in_err-visit_next.ensures.too_large is))
 
 pub returns-clause-whole : goal.returns-clause-whole
 returns-clause-whole c =
     let draft = c.loop-alloc.self in
     let fewer = c.loop-alloc.invariant.searched.fewer in
-    omega (arith, firsts_length (row_of draft.next) (row_count draft.next), length-map draft.moves.places.keys (configuration_of (fluent_count c.args.task.now)), c.len.ensures, c.len-in-loop-alloc.ensures.len)
+    omega (arith, firsts_length (row_of draft.next) (row_count draft.next), length-map draft.moves.places.keys (configuration_of (fluent_count c.args.indexed.now.task.now)), c.len.ensures, c.len-in-loop-alloc.ensures.len)

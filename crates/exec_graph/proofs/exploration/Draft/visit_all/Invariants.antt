@@ -9,8 +9,8 @@ use Rattle.exec_graph.proofs.exploration.Draft.visit_all.Given as goal
 abbrev pub invariant-loop-alloc : goal.invariant-loop-alloc
 invariant-loop-alloc l = record {
   rows : AreRows l.self.next;
-  searched : IsSearched (system_of l.task) (plain_of l.plan) (draft_value (fluent_count l.task) l.self);
-  within : IsDraftWithin (fluent_count l.task) l.self;
+  searched : IsSearched (system_of l.indexed.task.now) (plain_of l.indexed.plan.now) (draft_value (fluent_count l.indexed.task.now) l.self);
+  within : IsDraftWithin (fluent_count l.indexed.task.now) l.self;
   few : length l.self.moves.places.keys ≤ 262144;
 }
 

@@ -11,9 +11,9 @@ use Rattle.exec_graph.proofs.moves.Moves.add_after.Goals as goal
 
 pub returns-in-Some-clause-value : goal.returns-in-Some-clause-value
 returns-in-Some-clause-value c =
-    let task = c.args.task.now in
+    let task = c.args.here.now.task.now in
     let n = fluent_count task in
-    let s = c.args.state.now in
+    let s = c.args.here.now.state.now in
     let a = c.args.rule.now.action.0 in
     let k = c.args.outcome in
     let before = c.args.self.now in
@@ -32,10 +32,10 @@ returns-in-Some-clause-value c =
 
 pub returns-in-None-clause-value : goal.returns-in-None-clause-value
 returns-in-None-clause-value c =
-    let task = c.args.task.now in
+    let task = c.args.here.now.task.now in
     let n = fluent_count task in
     let m = moves_value n c.args.self.now in
-    let ts = states_after task (vector n c.args.state.now) c.args.rule.now.action.0 in
+    let ts = states_after task (vector n c.args.here.now.state.now) c.args.rule.now.action.0 in
     let t = vector n c.step-after.result in
     let at : slice_index_or ts c.args.outcome [] ≡ t = get_or_from_slice_get ts c.args.outcome t [] c.step-after.ensures.after in
     subst (λ w. OnOk c.add_if_state.result (moves_value n c.add_if_state.new.self ≡ with_if_state (in_space task) (onward_value c.args.rule.now.onward) m w)) (sym at)

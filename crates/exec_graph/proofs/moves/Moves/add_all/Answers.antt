@@ -20,24 +20,24 @@ use Rattle.list_laws.proofs.Elements.{All-unmap}
 
 pub add_table-requires-clause-in_task : goal.add_table-requires-clause-in_task
 add_table-requires-clause-in_task c =
-    let n = fluent_count c.args.task.now in
-    let m = action_count c.args.task.now in
+    let n = fluent_count c.args.indexed.now.task.now in
+    let m = action_count c.args.indexed.now.task.now in
     subst (All (λ (rule : Rule). IsRuleOf n m (rule_of rule))) (sym c.deref.ensures.value)
     (All-unmap (IsRuleOf n m) rule_of c.in-Table.table.rules.items (subst (IsPlanOf n m) c.in-Table.is c.requires.plan_of_task))
 
 pub add_table-requires-clause-index : goal.add_table-requires-clause-index
 add_table-requires-clause-index c =
-    subst (λ rules. IsIndexOf c.args.index.now.cubes (cubes_of rules)) (sym c.deref.ensures.value)
-    (subst (λ p. IsRuleIndexOf p c.args.index.now) c.in-Table.is c.requires.index)
+    subst (λ rules. IsIndexOf c.args.indexed.now.index.cubes (cubes_of rules)) (sym c.deref.ensures.value)
+    (subst (λ p. IsRuleIndexOf p c.args.indexed.now.index) c.in-Table.is c.requires.index)
 
 pub rule_at-rule-requires : goal.rule_at-rule-requires
 rule_at-rule-requires c =
-    let n = fluent_count c.args.task.now in
-    let m = action_count c.args.task.now in
+    let n = fluent_count c.args.indexed.now.task.now in
+    let m = action_count c.args.indexed.now.task.now in
     let k = c.args.place.now.context in
     let automaton = c.in-Auto.field-0 in
     let plan = subst (IsPlanOf n m) c.in-Auto.is c.requires.plan_of_task in
-    let index = subst (λ p. IsRuleIndexOf p c.args.index.now) c.in-Auto.is c.requires.index in
+    let index = subst (λ p. IsRuleIndexOf p c.args.indexed.now.index) c.in-Auto.is c.requires.index in
     record {
       in_task = subst (All (λ (rule : AutoRule). IsRuleWithin n m (context_rule_of rule))) (sym (index k))
           (kept_within n m automaton.contexts (λ (rule : AutoRule). rule.context == k) automaton.rules.items plan.each);
@@ -45,12 +45,12 @@ rule_at-rule-requires c =
 
 pub returns-in-Auto-clause-value : goal.returns-in-Auto-clause-value
 returns-in-Auto-clause-value c =
-    let n = fluent_count c.args.task.now in
-    let sys = system_of c.args.task.now in
+    let n = fluent_count c.args.indexed.now.task.now in
+    let sys = system_of c.args.indexed.now.task.now in
     let v = vector n c.args.place.now.state in
     let k = c.args.place.now.context in
     let automaton = c.in-Auto.field-0 in
-    let index = subst (λ p. IsRuleIndexOf p c.args.index.now) c.in-Auto.is c.requires.index in
+    let index = subst (λ p. IsRuleIndexOf p c.args.indexed.now.index) c.in-Auto.is c.requires.index in
     let counts : option_map advice_value c.rule_at-rule.result ≡ option_map advised_by (rule_at (map context_rule_of automaton.rules.items) v k) =
     c.rule_at-rule.ensures.counts
     ∙ ap (λ rs. option_map advised_by (first_matching v (map context_rule_of rs))) (index k)

@@ -14,13 +14,13 @@ use Rattle.exec_graph.proofs.moves.Moves.add_outcomes.Goals as goal
 
 pub add_after-requires-clause-effects : goal.add_after-requires-clause-effects
 add_after-requires-clause-effects c =
-    subst (AreEffects c.args.task.now c.args.rule.now.action.0) (sym c.of-effects.ensures) (c.requires.effects c.args.rule.now.action.0)
+    subst (AreEffects c.args.here.now.task.now c.args.rule.now.action.0) (sym c.of-effects.ensures) (c.requires.effects c.args.rule.now.action.0)
 
 pub loop-outcome-preserved : goal.loop-outcome-preserved
 loop-outcome-preserved c =
-    let task = c.args.task.now in
+    let task = c.args.here.now.task.now in
     let n = fluent_count task in
-    let v = vector n c.args.state.now in
+    let v = vector n c.args.here.now.state.now in
     let a = c.args.rule.now.action.0 in
     let f = with_if_state (in_space task) (onward_value c.args.rule.now.onward) in
     let outcomes = states_after task v a in
@@ -37,7 +37,7 @@ loop-outcome-preserved c =
 
 pub returns-clause-value : goal.returns-clause-value
 returns-clause-value c =
-    let n = fluent_count c.args.task.now in
+    let n = fluent_count c.args.here.now.task.now in
     c.loop-outcome.invariant.value
-    ∙ fold_all (onward_value c.args.rule.now.onward) (moves_value n c.args.self.now) c.args.task.now (vector n c.args.state.now) c.args.rule.now.action.0 c.loop-outcome.outcome c.requires.executable
+    ∙ fold_all (onward_value c.args.rule.now.onward) (moves_value n c.args.self.now) c.args.here.now.task.now (vector n c.args.here.now.state.now) c.args.rule.now.action.0 c.loop-outcome.outcome c.requires.executable
     (let e : c.loop-outcome.outcome ≡ c.outcome_count-outcome-end.result = omega arith in e ∙ c.outcome_count-outcome-end.ensures)

@@ -10,9 +10,9 @@ use Rattle.exec_graph.proofs.moves.Moves.add_outcomes.Given as goal
 
 abbrev pub invariant-loop-outcome : goal.invariant-loop-outcome
 invariant-loop-outcome l = record {
-  value : moves_value (fluent_count l.task) l.self
-      ≡ fold (with_if_state (in_space l.task) (onward_value l.rule.onward)) (moves_value (fluent_count l.task) l.fn.self)
-      (take l.outcome (states_after l.task (vector (fluent_count l.task) l.state) l.rule.action.0));
-  moves : AreMoves (fluent_count l.task) l.self;
-  grown : HasGrown (fluent_count l.task) l.fn.self l.self;
+  value : moves_value (fluent_count l.here.task.now) l.self
+      ≡ fold (with_if_state (in_space l.here.task.now) (onward_value l.rule.onward)) (moves_value (fluent_count l.here.task.now) l.fn.self)
+      (take l.outcome (states_after l.here.task.now (vector (fluent_count l.here.task.now) l.here.state.now) l.rule.action.0));
+  moves : AreMoves (fluent_count l.here.task.now) l.self;
+  grown : HasGrown (fluent_count l.here.task.now) l.fn.self l.self;
 }

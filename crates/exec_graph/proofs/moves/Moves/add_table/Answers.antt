@@ -12,9 +12,9 @@ use Rattle.exec_graph.proofs.moves.Moves.add_table.Goals as goal
 
 pub loop-place-init : goal.loop-place-init
 loop-place-init c =
-    let n = fluent_count c.args.task.now in
-    let sys = system_of c.args.task.now in
-    let v = vector n c.args.state.now in
+    let n = fluent_count c.args.here.now.task.now in
+    let sys = system_of c.args.here.now.task.now in
+    let v = vector n c.args.here.now.state.now in
     let listed = map rule_of c.args.rules.now in
     let count : length listed ≡ length c.args.rules.now = length-map c.args.rules.now rule_of in
     let first = c.next_rule-place.ensures in
@@ -31,9 +31,9 @@ loop-place-init c =
 
 pub loop-place-preserved : goal.loop-place-preserved
 loop-place-preserved c =
-    let n = fluent_count c.args.task.now in
-    let sys = system_of c.args.task.now in
-    let v = vector n c.args.state.now in
+    let n = fluent_count c.args.here.now.task.now in
+    let sys = system_of c.args.here.now.task.now in
+    let v = vector n c.args.here.now.state.now in
     let listed = map rule_of c.args.rules.now in
     let count : length listed ≡ length c.args.rules.now = length-map c.args.rules.now rule_of in
     let k = c.loop-place.place in
@@ -52,8 +52,8 @@ loop-place-preserved c =
 
 pub returns-clause-value : goal.returns-clause-value
 returns-clause-value c =
-    let n = fluent_count c.args.task.now in
+    let n = fluent_count c.args.here.now.task.now in
     let listed = map rule_of c.args.rules.now in
     let count : length listed ≡ length c.args.rules.now = length-map c.args.rules.now rule_of in
     let past : length listed ≤ c.loop-place.place = omega (arith, c.loop-place-test.false, count) in
-    all_moves (system_of c.args.task.now) (vector n c.args.state.now) listed (moves_value n c.loop-place.self) c.loop-place.place past c.loop-place.invariant.value
+    all_moves (system_of c.args.here.now.task.now) (vector n c.args.here.now.state.now) listed (moves_value n c.loop-place.self) c.loop-place.place past c.loop-place.invariant.value

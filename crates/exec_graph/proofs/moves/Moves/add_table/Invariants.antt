@@ -9,13 +9,13 @@ use Rattle.exec_graph.proofs.moves.Moves.add_table.Given as goal
 
 abbrev pub invariant-loop-place : goal.invariant-loop-place
 invariant-loop-place l = record {
-  value : moves_value (fluent_count l.task) l.self
-      ≡ moves_in_table (system_of l.task) (vector (fluent_count l.task) l.state) (take l.place (map rule_of l.rules));
+  value : moves_value (fluent_count l.here.task.now) l.self
+      ≡ moves_in_table (system_of l.here.task.now) (vector (fluent_count l.here.task.now) l.here.state.now) (take l.place (map rule_of l.rules));
   place : l.place ≤ length l.rules;
-  moves : AreMoves (fluent_count l.task) l.self;
-  grown : HasGrown (fluent_count l.task) l.fn.self l.self;
-  count : length l.taken.items ≡ action_count l.task;
-  taken : HaveTaken (system_of l.task) (vector (fluent_count l.task) l.state) (moves_value (fluent_count l.task) l.self) l.taken.items;
+  moves : AreMoves (fluent_count l.here.task.now) l.self;
+  grown : HasGrown (fluent_count l.here.task.now) l.fn.self l.self;
+  count : length l.taken.items ≡ action_count l.here.task.now;
+  taken : HaveTaken (system_of l.here.task.now) (vector (fluent_count l.here.task.now) l.here.state.now) (moves_value (fluent_count l.here.task.now) l.self) l.taken.items;
 }
 
 abbrev pub decreases-loop-place : goal.decreases-loop-place
