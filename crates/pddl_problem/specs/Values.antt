@@ -3,23 +3,23 @@ use Rattle.std.specs.Prelude.{List, map}
 use Rattle.std.specs.declared.vec.Vec.{Vec}
 use Rattle.std.specs.declared.alloc.Global.{Global}
 use Rattle.sexpr_text.specs.Forest.{forest_of}
+use Rattle.pddl_ast.specs.declared.headed.HeadedList.{HeadedList}
 use Rattle.pddl_ast.specs.declared.trees.InitialLiteral.{InitialLiteral}
 use Rattle.pddl_ast.specs.Trees.{AtomTree, LiteralTree}
 use Rattle.pddl_ast.specs.Values.{atom_value, literal_value}
 use Rattle.pddl_problem.specs.declared.init.Initial.{Initial}
-use Rattle.pddl_problem.specs.declared.init.AtomParts.{AtomParts}
 use Rattle.pddl_problem.specs.declared.definitions.Definition.{Definition}
 use Rattle.pddl_problem.specs.Init.{AtomForm}
 use Rattle.pddl_problem.specs.Problems.{Definition as ProblemDefinition}
 
-abbrev pub form_value : AtomParts → AtomForm
+abbrev pub form_value : HeadedList → AtomForm
 form_value a =
     record {
       span = a.span;
       head_span = a.head_span;
       head = a.head.now;
       terms = forest_of
-          a.terms.now;
+          a.rest.now;
     }
 
 abbrev pub alternative_value : Vec InitialLiteral Global → List LiteralTree

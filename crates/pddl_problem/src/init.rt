@@ -15,8 +15,8 @@ ghost use Rattle.pddl_problem.specs.Values as values;
 
 use crate::faults::left_out;
 use pddl_ast::{
-    GroundAtom, InitialLiteral, Keyword, Known, Objects, is_reserved, keyword_of, read_ground_atom,
-    spells,
+    GroundAtom, HeadedList, InitialLiteral, Keyword, Known, Objects, is_reserved, keyword_of,
+    read_ground_atom, spells,
 };
 use sexpr_text::{FaultKind, Form, Head, ReadErr, Span, Text, View, fault_at, head_of, is_nothing};
 use std::alloc::{AllocError, Global};
@@ -28,33 +28,23 @@ pub(crate) struct Initial {
     pub(crate) entries: Vec<Vec<Vec<InitialLiteral>>>,
 }
 
-/// A list that may be an atom: its span, the span of the word at its head, that word, and what
-/// follows it.
-#[derive(Clone, Copy)]
-pub(crate) struct AtomParts<'a> {
-    span: Span,
-    head_span: Span,
-    head: &'a Text,
-    terms: &'a [Form],
-}
-
 /// The list with this span and these parts, where a word that isn't reserved is at its head.
-fn atom_form(span: Span, parts: &[Form]) -> Option<AtomParts<'_>>
+fn atom_form(span: Span, parts: &[Form]) -> Option<HeadedList<'_>>
     ensures { option_map values.form_value result ≡ init.atom_form span (forest_of parts.now) }
 {
     match head_of(parts) {
-        Head::Word(head_span, head, terms) if !is_reserved(head) => Some(AtomParts {
+        Head::Word(head_span, head, rest) if !is_reserved(head) => Some(HeadedList {
             span,
             head_span,
             head,
-            terms,
+            rest,
         }),
         _ => None,
     }
 }
 
 /// Such a list, where it is all that stands under a `not` or an `unknown`.
-fn atom_under(rest: &[Form]) -> Option<AtomParts<'_>>
+fn atom_under(rest: &[Form]) -> Option<HeadedList<'_>>
     ensures { option_map values.form_value result ≡ init.atom_under (forest_of rest.now) }
 {
     match head_of(rest) {
@@ -81,14 +71,7 @@ fn read_under(
     let Some(atom) = atom_under(rest) else {
         return Err(fault_at(span, FaultKind::BadForm));
     };
-    read_ground_atom(
-        alloc,
-        known,
-        atom.span,
-        atom.head_span,
-        atom.head,
-        atom.terms,
-    )
+    read_ground_atom(alloc, known, &atom)
 }
 
 /// The fault of an `unknown` where only an atom or its negation may stand.
@@ -102,43 +85,41 @@ fn unknown_fault(alloc: Global, span: Span, head: &Text, rest: &[Form]) -> ReadE
     }
 }
 
-/// The literal of a part whose list is at this span, with this word at its head.
+/// The literal of a part, whose list has a word at its head.
 fn read_literal(
     alloc: Global,
     known: &Known,
-    span: Span,
-    head_span: Span,
-    head: &Text,
-    rest: &[Form],
+    list: &HeadedList<'_>,
 ) -> Result<InitialLiteral, ReadErr>
     ensures sound { OnOk result (init.part_flaws_by
-        (known_value known.now) span head_span head.now (forest_of rest.now)
-        (words.keyword_of head.now) ≡ []) }
+        (known_value known.now) list.now.span list.now.head_span list.now.head.now
+        (forest_of list.now.rest.now) (words.keyword_of list.now.head.now) ≡ []) }
     ensures read { IfOk result (λ l. literal_value l
-        ≡ init.part_literal_by (known_value known.now) head.now (forest_of rest.now)
-        (words.keyword_of head.now)) }
+        ≡ init.part_literal_by (known_value known.now) list.now.head.now
+        (forest_of list.now.rest.now) (words.keyword_of list.now.head.now)) }
     ensures fault { IfErr result (λ e. IfFault e (λ f.
-        first_listed (init.part_flaws_by (known_value known.now) span head_span head.now
-        (forest_of rest.now) (words.keyword_of head.now)) ≡ Some f)) }
+        first_listed (init.part_flaws_by (known_value known.now) list.now.span list.now.head_span
+        list.now.head.now (forest_of list.now.rest.now) (words.keyword_of list.now.head.now))
+        ≡ Some f)) }
 {
-    match keyword_of(head) {
+    match keyword_of(list.head) {
         Keyword::Other => {
-            let atom = read_ground_atom(alloc, known, span, head_span, head, rest)?;
+            let atom = read_ground_atom(alloc, known, list)?;
             Ok(InitialLiteral {
                 atom,
                 positive: true,
             })
         }
         Keyword::Not => {
-            let atom = read_under(alloc, known, span, rest)?;
+            let atom = read_under(alloc, known, list.span, list.rest)?;
             Ok(InitialLiteral {
                 atom,
                 positive: false,
             })
         }
-        Keyword::And => Err(fault_at(span, FaultKind::BadForm)),
-        Keyword::Unknown => Err(unknown_fault(alloc, span, head, rest)),
-        _ => Err(left_out(alloc, span, head)),
+        Keyword::And => Err(fault_at(list.span, FaultKind::BadForm)),
+        Keyword::Unknown => Err(unknown_fault(alloc, list.span, list.head, list.rest)),
+        _ => Err(left_out(alloc, list.span, list.head)),
     }
 }
 
@@ -160,7 +141,13 @@ fn read_part(
     let Head::Word(head_span, head, rest) = head_of(parts) else {
         return Err(fault_at(span, FaultKind::BadForm));
     };
-    read_literal(alloc, known, span, head_span, head, rest)
+    let list = HeadedList {
+        span,
+        head_span,
+        head,
+        rest,
+    };
+    read_literal(alloc, known, &list)
 }
 
 /// The literals of an alternative's parts.
@@ -204,7 +191,13 @@ fn read_alternative(
         Head::Word(head_span, head, rest) => match keyword_of(head) {
             Keyword::And => read_parts(alloc, known, rest),
             _ => {
-                let literal = read_literal(alloc, known, span, head_span, head, rest)?;
+                let list = HeadedList {
+                    span,
+                    head_span,
+                    head,
+                    rest,
+                };
+                let literal = read_literal(alloc, known, &list)?;
                 let mut literals = Vec::new(alloc);
                 literals.push(literal)?;
                 Ok(literals)
@@ -305,51 +298,49 @@ impl Initial {
     }
 }
 
-/// Adds what an entry says whose list is at this span, with this word at its head.
+/// Adds what an entry says, whose list has a word at its head.
 fn read_entry(
     alloc: Global,
     known: &Known,
-    span: Span,
-    head_span: Span,
-    head: &Text,
-    rest: &[Form],
+    list: &HeadedList<'_>,
     initial: &mut Initial,
 ) -> Result<(), ReadErr>
     ensures sound { OnOk result (init.entry_flaws_by
-        (known_value known.now) span head_span head.now (forest_of rest.now)
-        (words.keyword_of head.now) ≡ []) }
+        (known_value known.now) list.now.span list.now.head_span list.now.head.now
+        (forest_of list.now.rest.now) (words.keyword_of list.now.head.now) ≡ []) }
     ensures facts { OnOk result (values.facts_in initial.new
-        ≡ values.facts_in initial.old ++ init.facts_by (known_value known.now) head.now
-        (forest_of rest.now) (words.keyword_of head.now)) }
+        ≡ values.facts_in initial.old ++ init.facts_by (known_value known.now) list.now.head.now
+        (forest_of list.now.rest.now) (words.keyword_of list.now.head.now)) }
     ensures entries { OnOk result (values.entries_in initial.new
         ≡ values.entries_in initial.old ++ init.uncertain_by (known_value known.now)
-        (forest_of rest.now) (words.keyword_of head.now)) }
+        (forest_of list.now.rest.now) (words.keyword_of list.now.head.now)) }
     ensures fault { IfErr result (λ e. IfFault e (λ f.
-        first_listed (init.entry_flaws_by (known_value known.now) span head_span head.now
-        (forest_of rest.now) (words.keyword_of head.now)) ≡ Some f)) }
+        first_listed (init.entry_flaws_by (known_value known.now) list.now.span list.now.head_span
+        list.now.head.now (forest_of list.now.rest.now) (words.keyword_of list.now.head.now))
+        ≡ Some f)) }
 {
-    match keyword_of(head) {
+    match keyword_of(list.head) {
         Keyword::Other => {
-            let atom = read_ground_atom(alloc, known, span, head_span, head, rest)?;
+            let atom = read_ground_atom(alloc, known, list)?;
             initial.add_fact(atom)?;
             Ok(())
         }
         Keyword::Oneof => {
-            if is_nothing(rest) {
-                return Err(fault_at(span, FaultKind::EmptyOneof));
+            if is_nothing(list.rest) {
+                return Err(fault_at(list.span, FaultKind::EmptyOneof));
             }
-            let alternatives = read_alternatives(alloc, known, rest)?;
+            let alternatives = read_alternatives(alloc, known, list.rest)?;
             initial.add_entry(alternatives)?;
             Ok(())
         }
         Keyword::Unknown => {
-            let atom = read_under(alloc, known, span, rest)?;
+            let atom = read_under(alloc, known, list.span, list.rest)?;
             let alternatives = either_way(alloc, atom)?;
             initial.add_entry(alternatives)?;
             Ok(())
         }
         _ => {
-            let _says_nothing = read_literal(alloc, known, span, head_span, head, rest)?;
+            let _says_nothing = read_literal(alloc, known, list)?;
             Ok(())
         }
     }
@@ -382,7 +373,13 @@ pub(crate) fn read_entries(
                     if spells(head, b"and") {
                         read_entries(alloc, known, rest, initial)?;
                     } else {
-                        read_entry(alloc, known, span, head_span, head, rest, initial)?;
+                        let list = HeadedList {
+                            span,
+                            head_span,
+                            head,
+                            rest,
+                        };
+                        read_entry(alloc, known, &list, initial)?;
                     }
                 }
             },
