@@ -15,6 +15,13 @@ pub struct Atom {
     pub objects: Objects,
 }
 
+/// An atom of a formula or of an effect: a predicate with terms.
+#[derive(Clone, Copy, Debug)]
+pub struct LiftedAtom<'a> {
+    pub predicate: PredicateId,
+    pub terms: &'a [Term],
+}
+
 impl Atom {
     /// The atom of a predicate and terms, where the variables in scope stand for these objects.
     /// Fails only where memory runs out.

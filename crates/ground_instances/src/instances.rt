@@ -25,6 +25,13 @@ pub struct Instance {
     pub objects: Objects,
 }
 
+/// An action of a domain with its number.
+#[derive(Clone, Copy)]
+struct NumberedSchema<'a> {
+    number: usize,
+    schema: &'a Schema,
+}
+
 /// The kept instances in their order, unless there are too many.
 #[derive(Debug, Drop)]
 pub enum Kept {
@@ -75,8 +82,12 @@ impl Setting {
         if self.few_bindings(&schema.parameters)? == 0 {
             return Ok(true);
         }
+        let action = NumberedSchema {
+            number: action,
+            schema,
+        };
         let mut objects = Vec::new(alloc);
-        Ok(self.add_under(alloc, action, schema, &mut objects, kept)?)
+        Ok(self.add_under(alloc, &action, &mut objects, kept)?)
     }
 
     /// Brings the next variables of these types into scope, as long as their types have one object,
@@ -128,34 +139,33 @@ impl Setting {
     fn add_under(
         &self,
         alloc: Global,
-        action: usize,
-        schema: &Schema,
+        action: &NumberedSchema<'_>,
         objects: &mut Vec<ObjectId>,
         kept: &mut Vec<Instance>,
     ) -> Result<bool, AllocError>
         requires few { length kept.old.items ≤ most_actions }
-        requires objects { length objects.old.items ≤ length schema.now.parameters.items }
+        requires objects { length objects.old.items ≤ length action.now.schema.now.parameters.items }
         ensures objects { IfOk result (λ fits. fits ≡ true
             → IsBegunBy objects.old.items objects.new.items) }
         ensures within { IfOk result (λ fits. fits ≡ nat_le (length kept.old.items
-            + length (kept_under (setting_in self.now) (schema_value schema.now)
+            + length (kept_under (setting_in self.now) (schema_value action.now.schema.now)
             objects.old.items)) most_actions) }
         ensures added { IfOk result (λ fits. fits ≡ true
             → map numbered kept.new.items ≡ map numbered kept.old.items
-            ++ map (with_number action) (kept_under (setting_in self.now)
-            (schema_value schema.now) objects.old.items)) }
+            ++ map (with_number action.now.number) (kept_under (setting_in self.now)
+            (schema_value action.now.schema.now) objects.old.items)) }
     {
-        self.bind_lone(&schema.parameters, objects)?;
+        self.bind_lone(&action.schema.parameters, objects)?;
         let place = objects.len();
-        if place == schema.parameters.len() {
-            return self.add_if_kept(alloc, action, schema, objects, kept);
+        if place == action.schema.parameters.len() {
+            return self.add_if_kept(alloc, action, objects, kept);
         }
-        if self.is_hopeless(alloc, schema, objects)? {
+        if self.is_hopeless(alloc, action.schema, objects)? {
             return Ok(true);
         }
-        for object in self.objects_of(schema.parameters[place]) {
+        for object in self.objects_of(action.schema.parameters[place]) {
             objects.push(*object)?;
-            if !self.add_under(alloc, action, schema, objects, kept)? {
+            if !self.add_under(alloc, action, objects, kept)? {
                 return Ok(false);
             }
             objects.truncate(place);
@@ -168,29 +178,28 @@ impl Setting {
     fn add_if_kept(
         &self,
         alloc: Global,
-        action: usize,
-        schema: &Schema,
+        action: &NumberedSchema<'_>,
         objects: &mut Vec<ObjectId>,
         kept: &mut Vec<Instance>,
     ) -> Result<bool, AllocError>
         requires { length kept.old.items ≤ most_actions }
         ensures objects { OnOk result (objects.new.items ≡ objects.old.items) }
         ensures within { IfOk result (λ fits. fits ≡ nat_le (length kept.old.items
-            + length (kept_among (setting_in self.now) (schema_value schema.now)
+            + length (kept_among (setting_in self.now) (schema_value action.now.schema.now)
             (objects.old.items ∷ []))) most_actions) }
         ensures added { IfOk result (λ fits. fits ≡ true
             → map numbered kept.new.items ≡ map numbered kept.old.items
-            ++ map (with_number action) (kept_among (setting_in self.now)
-            (schema_value schema.now) (objects.old.items ∷ []))) }
+            ++ map (with_number action.now.number) (kept_among (setting_in self.now)
+            (schema_value action.now.schema.now) (objects.old.items ∷ []))) }
     {
-        if self.value(alloc, &schema.precondition, objects)? == Value::No {
+        if self.value(alloc, &action.schema.precondition, objects)? == Value::No {
             return Ok(true);
         }
         if kept.len() == MOST_KEPT {
             return Ok(false);
         }
         kept.push(Instance {
-            action,
+            action: action.number,
             objects: Objects::from_slice(alloc, objects)?,
         })?;
         Ok(true)

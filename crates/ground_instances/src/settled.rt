@@ -6,13 +6,13 @@ ghost use Rattle.std.specs.Option.{option_map};
 ghost use Rattle.ground_instances.specs.Settled as plain;
 ghost use Rattle.ground_instances.specs.Tables.{setting_in};
 ghost use Rattle.ground_instances.specs.Values.{known_value};
-ghost use Rattle.pddl_ast.specs.Trees.{atom};
+ghost use Rattle.pddl_ast.specs.Trees.{atom as atom_tree};
 ghost use Rattle.pddl_ast.specs.Values.{formula_value};
 
-use crate::atoms::{Atom, object_of};
+use crate::atoms::{Atom, LiftedAtom, object_of};
 use crate::setting::Setting;
 use crate::values::{Free, Value, both, certainly, opposite};
-use pddl_ast::{Formula, ObjectId, PredicateId, Term};
+use pddl_ast::{Formula, ObjectId, Term};
 use std::alloc::{AllocError, Global};
 
 /// Whether a term is an object, or one of the first `count` variables and not free.
@@ -96,21 +96,21 @@ impl Setting {
     fn settled_atom(
         &self,
         alloc: Global,
-        predicate: PredicateId,
-        terms: &[Term],
+        atom: &LiftedAtom<'_>,
         scope: &[ObjectId],
         free: Free,
     ) -> Result<Option<Value>, AllocError>
         ensures { IfOk result (λ value. option_map known_value value
-            ≡ plain.settled (setting_in self.now) (atom predicate terms.now) scope.now free) }
+            ≡ plain.settled (setting_in self.now) (atom_tree atom.now.predicate atom.now.terms.now)
+            scope.now free) }
     {
-        if !self.is_rigid(predicate) {
+        if !self.is_rigid(atom.predicate) {
             return Ok(Some(Value::Unknown));
         }
-        if !are_bound(free, scope.len(), terms) {
+        if !are_bound(free, scope.len(), atom.terms) {
             return Ok(None);
         }
-        let atom = Atom::of_terms(alloc, predicate, terms, scope)?;
+        let atom = Atom::of_terms(alloc, atom.predicate, atom.terms, scope)?;
         Ok(Some(certainly(self.is_fact(&atom))))
     }
 
@@ -127,9 +127,13 @@ impl Setting {
             ≡ plain.settled (setting_in self.now) (formula_value formula.now) scope.now free) }
     {
         match formula {
-            Formula::Atom(predicate, terms) => self.settled_atom(
-                alloc, *predicate, terms, scope, free,
-            ),
+            Formula::Atom(predicate, terms) => {
+                let atom = LiftedAtom {
+                    predicate: *predicate,
+                    terms,
+                };
+                self.settled_atom(alloc, &atom, scope, free)
+            }
             Formula::Equal(left, right) => Ok(settled_equal(left, right, scope, free)),
             Formula::All(parts) => {
                 let mut known = Some(Value::Yes);

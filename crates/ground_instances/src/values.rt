@@ -5,13 +5,13 @@ ghost use Rattle.std.specs.List.{list_any};
 ghost use Rattle.ground_instances.specs.Partial.{has_free, is_free, partial_value, value_of_equal};
 ghost use Rattle.ground_instances.specs.Values.{known_value};
 ghost use Rattle.ground_instances.specs.Tables.{setting_in};
-ghost use Rattle.pddl_ast.specs.Trees.{atom};
+ghost use Rattle.pddl_ast.specs.Trees.{atom as atom_tree};
 ghost use Rattle.pddl_ast.specs.Values.{formula_value};
 ghost use Rattle.pddl_system.specs.ThreeValues.{value, value_and, value_not, value_or};
 
-use crate::atoms::{Atom, object_of};
+use crate::atoms::{Atom, LiftedAtom, object_of};
 use crate::setting::Setting;
-use pddl_ast::{Formula, ObjectId, PredicateId, Term};
+use pddl_ast::{Formula, ObjectId, Term};
 use std::alloc::{AllocError, Global};
 
 /// What is known of a formula before any action is looked at: that it is false, nothing, or that it
@@ -114,18 +114,17 @@ impl Setting {
     fn value_of_atom(
         &self,
         alloc: Global,
-        predicate: PredicateId,
-        terms: &[Term],
+        atom: &LiftedAtom<'_>,
         scope: &[ObjectId],
         free: Free,
     ) -> Result<Value, AllocError>
         ensures { IfOk result (λ v. known_value v
-            ≡ partial_value (setting_in self.now) (atom predicate terms.now) scope.now free) }
+            ≡ partial_value (setting_in self.now) (atom_tree atom.now.predicate atom.now.terms.now) scope.now free) }
     {
-        if !self.is_rigid(predicate) || free.has_one_of(terms) {
+        if !self.is_rigid(atom.predicate) || free.has_one_of(atom.terms) {
             return Ok(Value::Unknown);
         }
-        let atom = Atom::of_terms(alloc, predicate, terms, scope)?;
+        let atom = Atom::of_terms(alloc, atom.predicate, atom.terms, scope)?;
         Ok(certainly(self.is_fact(&atom)))
     }
 
@@ -164,7 +163,11 @@ impl Setting {
     {
         match formula {
             Formula::Atom(predicate, terms) => {
-                self.value_of_atom(alloc, *predicate, terms, scope, free)
+                let atom = LiftedAtom {
+                    predicate: *predicate,
+                    terms,
+                };
+                self.value_of_atom(alloc, &atom, scope, free)
             }
             Formula::Equal(left, right) => Ok(value_of_equation(left, right, scope, free)),
             Formula::All(parts) => {
