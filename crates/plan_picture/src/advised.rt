@@ -225,36 +225,43 @@ fn add_steps(
     }
     for outcome in 0..outcome_count(task, advice.action) {
         let after = step(task, state, advice.action, outcome);
-        add_step(task, places, &after, advice, outcome, steps)?;
+        let led = Led { outcome, after };
+        add_step(task, places, advice, led, steps)?;
     }
     Ok(())
 }
 
-/// Adds the step by one outcome of what is advised, which leads to this vector, if it is a state and
-/// stands among the places with the next context.
+/// An outcome of an action, and the vector to which it leads.
+#[derive(Clone, Copy)]
+struct Led {
+    outcome: u32,
+    after: State,
+}
+
+/// Adds the step by one outcome of what is advised, if it leads to a state that stands among the
+/// places with the next context.
 fn add_step(
     task: &Task,
     places: &[Place],
-    after: &State,
     advice: &Advice<'_>,
-    outcome: u32,
+    led: Led,
     steps: &mut Vec<Step>,
 ) -> Result<(), AllocError>
     requires in_task { IsAdviceOf (fluent_count task.now) (action_count task.now) advice.now }
     requires few { length places.now < 4294967296 }
     requires within { AreWithin (fluent_count task.now) places.now }
-    requires after_within { IsWithin (fluent_count task.now) after.now }
+    requires after_within { IsWithin (fluent_count task.now) led.after }
     ensures steps { let n = fluent_count task.now in OnOk result (map step_value steps.new.items
         ≡ map step_value steps.old.items ++ outcome_steps (configurations_of n places.now)
-        (advice_value advice.now) outcome (if_state task.now (vector n after.now))) }
+        (advice_value advice.now) led.outcome (if_state task.now (vector n led.after))) }
 {
-    if !in_space(task, after) {
+    if !in_space(task, &led.after) {
         return Ok(());
     }
-    if let Some(target) = target_of(task, places, after, &advice.onward) {
+    if let Some(target) = target_of(task, places, &led.after, &advice.onward) {
         steps.push(Step {
             action: advice.action,
-            outcome,
+            outcome: led.outcome,
             target,
         })?;
     }

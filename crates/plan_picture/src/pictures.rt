@@ -132,7 +132,8 @@ fn nodes_at(
     for number in 0..graph.len() {
         let place = place_at(places, number);
         let is_initial = graph.initial(number);
-        let node = node_of(alloc, task, plan, places, place, is_initial)?;
+        let marked = Marked { place, is_initial };
+        let node = node_of(alloc, task, plan, places, &marked)?;
         nodes.push(node)?;
     }
     Ok(nodes)
@@ -175,27 +176,34 @@ fn is_large(graph: &Graph, most: u32) -> bool
     graph.len() > most
 }
 
+/// A configuration, and whether an execution may begin there.
+#[derive(Clone, Copy)]
+struct Marked<'a> {
+    place: &'a Place,
+    is_initial: bool,
+}
+
 /// What is shown of a configuration.
 fn node_of(
     alloc: Global,
     task: &Task,
     plan: &Plan,
     places: &[Place],
-    place: &Place,
-    is_initial: bool,
+    marked: &Marked<'_>,
 ) -> Result<Node, AllocError>
     requires plan_of_task { IsPlanOf (fluent_count task.now) (action_count task.now) plan.now }
     requires few { length places.now < 4294967296 }
     requires within { AreWithin (fluent_count task.now) places.now }
-    requires from_within { IsWithin (fluent_count task.now) place.now.state }
+    requires from_within { IsWithin (fluent_count task.now) marked.now.place.now.state }
     ensures { let n = fluent_count task.now in IfOk result (λ node.
         Shows (system_of task.now) (plain_of plan.now) (configurations_of n places.now)
-        (configuration_of n place.now) is_initial (node_value n node)) }
+        (configuration_of n marked.now.place.now) marked.now.is_initial (node_value n node)) }
 {
+    let place = marked.place;
     Ok(Node {
         state: place.state,
         context: place.context,
-        is_initial,
+        is_initial: marked.is_initial,
         is_goal: is_in_goal(task, &place.state),
         steps: steps_from(alloc, task, plan, places, place)?,
     })

@@ -1,3 +1,4 @@
+pub mod Drawing
 pub mod Rules
 pub mod Texts
 pub mod Values

@@ -6,6 +6,7 @@ ghost use Rattle.plan_picture.specs.Values.{node_value, nodes_of, step_value};
 ghost use Rattle.plan_rules.specs.Plans.{IsCubeOf, IsPlanOf};
 ghost use Rattle.plan_rules.specs.Rules.{plain_of};
 ghost use Rattle.plan_rules.specs.Texts.{atom_text, literal_text, name_at};
+ghost use Rattle.rule_picture.specs.Drawing.{AreOverTask};
 ghost use Rattle.rule_picture.specs.Texts.{
   all_lines as lines_of_all,
   change_line,
@@ -63,6 +64,14 @@ use std::alloc::{AllocError, Global};
 use std::rc::RcStr;
 use task_core::{FluentId, Lit, State, Task};
 
+/// What is drawn: the nodes of a picture, by the rules of a plan of a task.
+#[derive(Clone, Copy)]
+pub(crate) struct Drawn<'a> {
+    pub(crate) task: &'a Task,
+    pub(crate) rules: &'a [Seen<'a>],
+    pub(crate) nodes: &'a [Node],
+}
+
 /// The text of a picture of the plan by its rules, in the DOT language: a node for what each rule
 /// serves, and an edge for each change that a step makes between these.
 #[tactic(auto, using(crate::proofs::Cubes::cubes_in_task))]
@@ -104,20 +113,21 @@ fn push_all(
 }
 
 /// The lines for all nodes of a picture, each once.
-fn all_lines(
+fn all_lines<'a>(
     alloc: Global,
-    task: &Task,
-    rules: &[Seen<'_>],
-    nodes: &[Node],
+    task: &'a Task,
+    rules: &'a [Seen<'a>],
+    nodes: &'a [Node],
 ) -> Result<Vec<Vec<u8>>, AllocError>
     requires { All (λ rule. IsCubeOf (fluent_count task.now) rule.cube.now) rules.now }
     ensures { let n = fluent_count task.now in let shown = map (node_value n) nodes.now in
         IfOk result (λ lines. bytes_of lines.items ≡ lines_of_all (fluent_names task.now)
         (action_names task.now) (seen_values rules.now) shown) }
 {
+    let drawn = Drawn { task, rules, nodes };
     let mut lines = Vec::new(alloc);
     for node in nodes {
-        add_lines_for(alloc, &mut lines, task, rules, nodes, node)?;
+        add_lines_for(alloc, &mut lines, &drawn, node)?;
     }
     Ok(lines)
 }
@@ -126,58 +136,56 @@ fn all_lines(
 fn add_lines_for(
     alloc: Global,
     lines: &mut Vec<Vec<u8>>,
-    task: &Task,
-    rules: &[Seen<'_>],
-    nodes: &[Node],
+    drawn: &Drawn<'_>,
     node: &Node,
 ) -> Result<(), AllocError>
-    requires { All (λ rule. IsCubeOf (fluent_count task.now) rule.cube.now) rules.now }
-    ensures { let n = fluent_count task.now in let shown = map (node_value n) nodes.now in
+    requires { AreOverTask drawn.now }
+    ensures { let n = fluent_count drawn.now.task.now in
+        let shown = map (node_value n) drawn.now.nodes.now in
         OnOk result (bytes_of lines.new.items ≡ insert_all bytes_eq (bytes_of lines.old.items)
-        (lines_for (fluent_names task.now) (action_names task.now)
-        (seen_values rules.now) shown (node_value n node.now))) }
+        (lines_for (fluent_names drawn.now.task.now) (action_names drawn.now.task.now)
+        (seen_values drawn.now.rules.now) shown (node_value n node.now))) }
 {
-    add_line(lines, place_text(alloc, task, rules, node)?)?;
-    add_start(alloc, lines, task, rules, node)?;
-    add_steps(alloc, lines, task, rules, nodes, node)
+    add_line(lines, place_text(alloc, drawn, node)?)?;
+    add_start(alloc, lines, drawn, node)?;
+    add_steps(alloc, lines, drawn, node)
 }
 
 /// Adds the line of an edge to a node where an execution may begin.
 fn add_start(
     alloc: Global,
     lines: &mut Vec<Vec<u8>>,
-    task: &Task,
-    rules: &[Seen<'_>],
+    drawn: &Drawn<'_>,
     node: &Node,
 ) -> Result<(), AllocError>
-    requires { All (λ rule. IsCubeOf (fluent_count task.now) rule.cube.now) rules.now }
+    requires { AreOverTask drawn.now }
     ensures { OnOk result (bytes_of lines.new.items ≡ insert_all bytes_eq (bytes_of lines.old.items)
-        (start_lines (seen_values rules.now) node.now.is_initial
-        (node_value (fluent_count task.now) node.now))) }
+        (start_lines (seen_values drawn.now.rules.now) node.now.is_initial
+        (node_value (fluent_count drawn.now.task.now) node.now))) }
 {
     if !node.is_initial {
         return Ok(());
     }
-    add_line(lines, start_text(alloc, task, rules, node)?)
+    add_line(lines, start_text(alloc, drawn, node)?)
 }
 
 /// Adds the lines of the steps from a node.
 fn add_steps(
     alloc: Global,
     lines: &mut Vec<Vec<u8>>,
-    task: &Task,
-    rules: &[Seen<'_>],
-    nodes: &[Node],
+    drawn: &Drawn<'_>,
     node: &Node,
 ) -> Result<(), AllocError>
-    requires { All (λ rule. IsCubeOf (fluent_count task.now) rule.cube.now) rules.now }
-    ensures { let n = fluent_count task.now in let shown = map (node_value n) nodes.now in
+    requires { AreOverTask drawn.now }
+    ensures { let n = fluent_count drawn.now.task.now in
+        let shown = map (node_value n) drawn.now.nodes.now in
         OnOk result (bytes_of lines.new.items ≡ insert_all bytes_eq (bytes_of lines.old.items)
-        (flat_map (step_lines (fluent_names task.now) (seen_values rules.now) shown
+        (flat_map
+        (step_lines (fluent_names drawn.now.task.now) (seen_values drawn.now.rules.now) shown
         (node_value n node.now)) (map step_value node.now.steps.items))) }
 {
     for step in &node.steps {
-        add_step(alloc, lines, task, rules, nodes, node, step)?;
+        add_step(alloc, lines, drawn, node, step)?;
     }
     Ok(())
 }
@@ -186,56 +194,47 @@ fn add_steps(
 fn add_step(
     alloc: Global,
     lines: &mut Vec<Vec<u8>>,
-    task: &Task,
-    rules: &[Seen<'_>],
-    nodes: &[Node],
+    drawn: &Drawn<'_>,
     node: &Node,
     step: &Step,
 ) -> Result<(), AllocError>
-    requires { All (λ rule. IsCubeOf (fluent_count task.now) rule.cube.now) rules.now }
-    ensures { let n = fluent_count task.now in let shown = map (node_value n) nodes.now in
+    requires { AreOverTask drawn.now }
+    ensures { let n = fluent_count drawn.now.task.now in
+        let shown = map (node_value n) drawn.now.nodes.now in
         OnOk result (bytes_of lines.new.items ≡ insert_all bytes_eq (bytes_of lines.old.items)
-        (step_lines (fluent_names task.now) (seen_values rules.now) shown
+        (step_lines (fluent_names drawn.now.task.now) (seen_values drawn.now.rules.now) shown
         (node_value n node.now) (step_value step.now))) }
 {
-    match nodes.get(step.target as usize) {
-        Some(target) => add_line(lines, edge_text(alloc, task, rules, node, target)?),
+    match drawn.nodes.get(step.target as usize) {
+        Some(target) => add_line(lines, edge_text(alloc, drawn, node, target)?),
         None => Ok(()),
     }
 }
 
 /// The line of the node for a configuration.
-fn place_text(
-    alloc: Global,
-    task: &Task,
-    rules: &[Seen<'_>],
-    node: &Node,
-) -> Result<Vec<u8>, AllocError>
-    requires { All (λ rule. IsCubeOf (fluent_count task.now) rule.cube.now) rules.now }
-    ensures { IfOk result (λ line. line.items ≡ place_line (fluent_names task.now)
-        (action_names task.now) (seen_values rules.now) (node_value (fluent_count task.now) node.now)) }
+fn place_text(alloc: Global, drawn: &Drawn<'_>, node: &Node) -> Result<Vec<u8>, AllocError>
+    requires { AreOverTask drawn.now }
+    ensures { IfOk result (λ line. line.items ≡ place_line (fluent_names drawn.now.task.now)
+        (action_names drawn.now.task.now) (seen_values drawn.now.rules.now)
+        (node_value (fluent_count drawn.now.task.now) node.now)) }
 {
-    let number = number_at(task, rules, &node.state, node.context);
+    let number = number_at(drawn.task, drawn.rules, &node.state, node.context);
     let mut line = Vec::from_slice(alloc, b"  ")?;
     push_place(&mut line, number, node.is_goal)?;
-    push_marks(alloc, &mut line, task, rules, number, node.is_goal)?;
+    push_marks(alloc, &mut line, drawn, number, node.is_goal)?;
     push_text(&mut line, "\n")?;
     Ok(line)
 }
 
 /// The line of an edge to where an execution may begin.
-fn start_text(
-    alloc: Global,
-    task: &Task,
-    rules: &[Seen<'_>],
-    node: &Node,
-) -> Result<Vec<u8>, AllocError>
-    requires { All (λ rule. IsCubeOf (fluent_count task.now) rule.cube.now) rules.now }
+fn start_text(alloc: Global, drawn: &Drawn<'_>, node: &Node) -> Result<Vec<u8>, AllocError>
+    requires { AreOverTask drawn.now }
     ensures { IfOk result (λ line. line.items
-        ≡ start_line (seen_values rules.now) (node_value (fluent_count task.now) node.now)) }
+        ≡ start_line (seen_values drawn.now.rules.now)
+        (node_value (fluent_count drawn.now.task.now) node.now)) }
 {
     let mut line = Vec::from_slice(alloc, b"  start -> ")?;
-    push_name_for(&mut line, task, rules, node)?;
+    push_name_for(&mut line, drawn, node)?;
     push_text(&mut line, ";\n")?;
     Ok(line)
 }
@@ -243,18 +242,18 @@ fn start_text(
 /// The line of an edge between the nodes for two configurations.
 fn edge_text(
     alloc: Global,
-    task: &Task,
-    rules: &[Seen<'_>],
+    drawn: &Drawn<'_>,
     from: &Node,
     to: &Node,
 ) -> Result<Vec<u8>, AllocError>
-    requires { All (λ rule. IsCubeOf (fluent_count task.now) rule.cube.now) rules.now }
-    ensures { let n = fluent_count task.now in IfOk result (λ line. line.items
-        ≡ edge_line (fluent_names task.now) (seen_values rules.now) (node_value n from.now)
+    requires { AreOverTask drawn.now }
+    ensures { let n = fluent_count drawn.now.task.now in IfOk result (λ line. line.items
+        ≡ edge_line (fluent_names drawn.now.task.now) (seen_values drawn.now.rules.now)
+        (node_value n from.now)
         (node_value n to.now)) }
 {
     let mut line = Vec::new(alloc);
-    push_edge(alloc, &mut line, task, rules, from, to)?;
+    push_edge(alloc, &mut line, drawn, from, to)?;
     Ok(line)
 }
 
@@ -262,18 +261,18 @@ fn edge_text(
 fn push_edge(
     alloc: Global,
     out: &mut Vec<u8>,
-    task: &Task,
-    rules: &[Seen<'_>],
+    drawn: &Drawn<'_>,
     from: &Node,
     to: &Node,
 ) -> Result<(), AllocError>
-    requires { All (λ rule. IsCubeOf (fluent_count task.now) rule.cube.now) rules.now }
-    ensures { let n = fluent_count task.now in OnOk result (out.new.items ≡ out.old.items
-        ++ edge_line (fluent_names task.now) (seen_values rules.now) (node_value n from.now)
+    requires { AreOverTask drawn.now }
+    ensures { let n = fluent_count drawn.now.task.now in OnOk result (out.new.items ≡ out.old.items
+        ++ edge_line (fluent_names drawn.now.task.now) (seen_values drawn.now.rules.now)
+        (node_value n from.now)
         (node_value n to.now)) }
 {
-    push_edge_front(out, task, rules, from, to)?;
-    push_changes(alloc, out, &task.fluents, &from.state, &to.state)?;
+    push_edge_front(out, drawn, from, to)?;
+    push_changes(alloc, out, &drawn.task.fluents, &from.state, &to.state)?;
     push_text(out, "\"];\n")?;
     Ok(())
 }
@@ -281,34 +280,30 @@ fn push_edge(
 /// Appends an edge between the nodes for two configurations, up to its label.
 fn push_edge_front(
     out: &mut Vec<u8>,
-    task: &Task,
-    rules: &[Seen<'_>],
+    drawn: &Drawn<'_>,
     from: &Node,
     to: &Node,
 ) -> Result<(), AllocError>
-    requires { All (λ rule. IsCubeOf (fluent_count task.now) rule.cube.now) rules.now }
-    ensures { let n = fluent_count task.now in OnOk result (out.new.items ≡ out.old.items
-        ++ edge_front (seen_values rules.now) (node_value n from.now) (node_value n to.now)) }
+    requires { AreOverTask drawn.now }
+    ensures { let n = fluent_count drawn.now.task.now in OnOk result (out.new.items ≡ out.old.items
+        ++ edge_front (seen_values drawn.now.rules.now) (node_value n from.now)
+        (node_value n to.now)) }
 {
     push_text(out, "  ")?;
-    push_name_for(out, task, rules, from)?;
+    push_name_for(out, drawn, from)?;
     push_text(out, " -> ")?;
-    push_name_for(out, task, rules, to)?;
+    push_name_for(out, drawn, to)?;
     push_text(out, " [label=\"")
 }
 
 /// Appends the name of the node for a configuration.
-fn push_name_for(
-    out: &mut Vec<u8>,
-    task: &Task,
-    rules: &[Seen<'_>],
-    node: &Node,
-) -> Result<(), AllocError>
-    requires { All (λ rule. IsCubeOf (fluent_count task.now) rule.cube.now) rules.now }
+fn push_name_for(out: &mut Vec<u8>, drawn: &Drawn<'_>, node: &Node) -> Result<(), AllocError>
+    requires { AreOverTask drawn.now }
     ensures { OnOk result (out.new.items ≡ out.old.items
-        ++ name_of_node (seen_values rules.now) (node_value (fluent_count task.now) node.now)) }
+        ++ name_of_node (seen_values drawn.now.rules.now)
+        (node_value (fluent_count drawn.now.task.now) node.now)) }
 {
-    let number = number_at(task, rules, &node.state, node.context);
+    let number = number_at(drawn.task, drawn.rules, &node.state, node.context);
     push_place(out, number, node.is_goal)
 }
 
@@ -339,19 +334,19 @@ fn push_number(out: &mut Vec<u8>, number: usize) -> Result<(), AllocError>
 fn push_marks(
     alloc: Global,
     out: &mut Vec<u8>,
-    task: &Task,
-    rules: &[Seen<'_>],
+    drawn: &Drawn<'_>,
     number: Option<usize>,
     is_goal: bool,
 ) -> Result<(), AllocError>
-    requires cubes { All (λ rule. IsCubeOf (fluent_count task.now) rule.cube.now) rules.now }
-    requires within { IfSome number (λ number. number < length rules.now) }
+    requires cubes { AreOverTask drawn.now }
+    requires within { IfSome number (λ number. number < length drawn.now.rules.now) }
     ensures { OnOk result (out.new.items ≡ out.old.items
-        ++ place_marks (fluent_names task.now) (action_names task.now) (seen_values rules.now)
+        ++ place_marks (fluent_names drawn.now.task.now) (action_names drawn.now.task.now)
+        (seen_values drawn.now.rules.now)
         number is_goal) }
 {
     match number {
-        Some(number) => push_rule_marks(alloc, out, task, number, &rules[number]),
+        Some(number) => push_rule_marks(alloc, out, drawn.task, number, &drawn.rules[number]),
         None => push_end_marks(out, is_goal),
     }
 }

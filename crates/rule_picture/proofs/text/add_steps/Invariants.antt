@@ -13,5 +13,5 @@ abbrev pub invariant-loop-step : goal.invariant-loop-step
 invariant-loop-step l =
     bytes_of l.lines.items
     ≡ insert_all bytes_eq (bytes_of l.fn.lines.items)
-    (flat_map (step_lines (fluent_names l.task) (seen_values l.rules) (map (node_value (fluent_count l.task)) l.nodes) (node_value (fluent_count l.task) l.node))
+    (flat_map (step_lines (fluent_names l.drawn.task.now) (seen_values l.drawn.rules.now) (map (node_value (fluent_count l.drawn.task.now)) l.drawn.nodes.now) (node_value (fluent_count l.drawn.task.now) l.node))
     (map step_value (take l.step-index l.node.steps.items)))

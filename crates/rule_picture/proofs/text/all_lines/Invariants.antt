@@ -13,5 +13,5 @@ abbrev pub invariant-loop-node : goal.invariant-loop-node
 invariant-loop-node l =
     bytes_of l.lines.items
     ≡ insert_all bytes_eq []
-    (flat_map (lines_for (fluent_names l.task) (action_names l.task) (seen_values l.rules) (map (node_value (fluent_count l.task)) l.nodes))
-    (map (node_value (fluent_count l.task)) (take l.node-index l.nodes)))
+    (flat_map (lines_for (fluent_names l.fn.task) (action_names l.fn.task) (seen_values l.fn.rules) (map (node_value (fluent_count l.fn.task)) l.nodes))
+    (map (node_value (fluent_count l.fn.task)) (take l.node-index l.nodes)))
