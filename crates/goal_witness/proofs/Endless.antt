@@ -21,7 +21,7 @@ stands (x ∷ xs) y =
 
 range_length : (a n : ℕ) → length (range_with_len a n) ≡ n
 range_length a zero = refl
-range_length a (suc n) = ap suc (range_length (suc a) n)
+range_length a (suc n) = ap suc (range_length (a + 1) n)
 
 module _ (n : ℕ) (next : ℕ → List ℕ) (S : ℕ → Type 0) (below : (x : ℕ) → S x → x < n) (onward : (x : ℕ) → S x → (y : ℕ) × Contains (next x) y × S y) where
   -- each number follows the one after it in the list

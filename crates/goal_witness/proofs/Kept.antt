@@ -133,9 +133,9 @@ module _ (n : ℕ) (next : ℕ → List ℕ) (stays : StaysBelow n next) (marks 
         let b = lasso_end stem j first back z in
         let r = z.round in
         let on : IsOnRound (kept next inside) j = record { follower = first; rest = back; walk = (r.follows, r.walk); round = r.round } in
-        let w = (round_without j b on).walk in
+        let w = round_without j b on in
         record {
-          walk = walk_without j (first ∷ back) b (each_first (Lacks marks) j (first ∷ back) w.each) (r.follows, r.walk);
+          walk = walk_without j (first ∷ back) b (each_first (Lacks marks) j (w.follower ∷ w.rest) w.walk.each) (r.follows, r.walk);
           round = r.round;
           least = λ follower rest other round. r.least follower rest (walk_in j (follower ∷ rest) b other.walk other.each) round;
         }

@@ -1,4 +1,6 @@
-use Rattle.std.proofs.Common.{◌≡◌, ℕ, sym, subst, ap, map, ◌∙◌}
+use Rattle.std.proofs.Common.{◌≡◌, ℕ, [], sym, subst, ap, map, ◌∙◌, rules}
+use Rattle.plan_witness.specs.Values.{steps_value}
+use Rattle.task_core.specs.Tasks.{fluent_count}
 use Rattle.std.specs.Prelude.{IfOk}
 use Rattle.ctl_syntax.specs.Goals.{CtlTree, all, af, ag, au, aw, ax, implication, goal_row}
 use Rattle.ctl_syntax.specs.Values.{ctl_value}
@@ -93,3 +95,15 @@ returns-in-Eu g c = told_as c.args.scene.now c.requires.scene (ctl_value c.args.
 
 pub returns-in-Ew : goal.returns-in-Ew
 returns-in-Ew g c = told_as c.args.scene.now c.requires.scene (ctl_value c.args.goal.now) _ (ap ctl_value c.in-Ew.is ∙ value_Ew c.in-Ew.field-0 c.in-Ew.field-1) tt c.args.number c.requires.fails
+
+pub returns-in-Imply : goal.returns-in-Imply
+returns-in-Imply g c =
+    let scene = c.args.scene.now in
+    let n = fluent_count scene.task.now in
+    let right = c.deref-in-Imply.result.now in
+    let nothing : c.new.result.items ≡ [] = search rules in
+    let is : ctl_value c.args.goal.now ≡ implication (ctl_value c.in-Imply.field-0.value) (ctl_value right) =
+    ap ctl_value c.in-Imply.is ∙ value_Imply c.in-Imply.field-0 c.in-Imply.right ∙ ap (λ p. implication (ctl_value c.in-Imply.field-0.value) (ctl_value p)) (sym c.deref-in-Imply.ensures) in
+    subst (λ t. LeadsInside scene t c.args.number (by_way (steps_value n c.new.result.items)) (ctl_value right) c.args.number) (sym is)
+    (subst (λ steps. LeadsInside scene (implication (ctl_value c.in-Imply.field-0.value) (ctl_value right)) c.args.number (by_way (steps_value n steps)) (ctl_value right) c.args.number) (sym nothing)
+    (leads_imply scene c.requires.scene (ctl_value c.in-Imply.field-0.value) (ctl_value right) c.args.number (subst (λ t. IsFalseAtNumber scene t c.args.number) is c.requires.fails)))

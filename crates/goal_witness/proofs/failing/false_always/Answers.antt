@@ -42,8 +42,8 @@ endless-requires-clause-misses g c =
     misses_af scene c.requires.scene (ctl_value c.args.part.now) c.args.number c.deref.result.now c.deref-2.result.now c.requires.fails
     (shows_as scene (ctl_value c.args.part.now) c.in_ok-right.right.items c.deref-2.result.now c.deref-2.ensures.value c.in_ok-right.ensures)
 
-pub returns-in_ok-lasso : goal.returns-in_ok-lasso
-returns-in_ok-lasso g c =
+pub returns : goal.returns
+returns g c =
     let scene = c.args.scene.now in
     let n = fluent_count scene.task.now in
     ends_af scene c.requires.scene (ctl_value c.args.part.now) c.args.number c.deref-2.result.now (steps_value n c.in_ok-lasso.lasso.stem.items) (steps_value n c.in_ok-lasso.lasso.back.items) c.requires.fails

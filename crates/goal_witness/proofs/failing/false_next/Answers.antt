@@ -18,8 +18,8 @@ first_without-requires-clause-count g c = ap length c.deref.ensures.value ∙ c.
 pub first_without-requires-clause-number : goal.first_without-requires-clause-number
 first_without-requires-clause-number g c = c.requires.fails.below
 
-pub returns-in_ok-way-in-Some : goal.returns-in_ok-way-in-Some
-returns-in_ok-way-in-Some g c =
+pub returns-in-Some : goal.returns-in-Some
+returns-in-Some g c =
     let scene = c.args.scene.now in
     leads_ax scene c.requires.scene (ctl_value c.args.part.now) c.args.number c.in-Some.next (steps_value (fluent_count scene.task.now) c.in_ok-way-in-Some.way.items) c.in_ok-marks.marks.items c.requires.fails
     c.in-Some.ensures.follows c.in_ok-marks.ensures (ap (λ ms. mark_at ms c.in-Some.next) (sym c.deref.ensures.value) ∙ c.in-Some.ensures.lacks) c.in_ok-way-in-Some.ensures

@@ -1,4 +1,7 @@
-use Rattle.std.proofs.Common.{◌≡◌, ◌<◌, false, length, sym, ap, ◌∙◌, subst, arith}
+use Rattle.std.proofs.Common.{◌≡◌, ◌<◌, false, [], length, sym, ap, ◌∙◌, subst, arith, rules}
+use Rattle.plan_witness.specs.Values.{steps_value}
+use Rattle.goal_witness.specs.Failing.{LeadsInside}
+use Rattle.goal_witness.specs.Failures.{by_way}
 use Rattle.ctl_syntax.specs.Values.{ctl_value}
 use Rattle.exec_graph.specs.Values.{graph_size}
 use Rattle.plan_check.specs.Labels.{ComesAfter, HoldsIn, mark_at}
@@ -24,8 +27,10 @@ is_marked-requires g c =
 
 pub returns-then-not-is_marked : goal.returns-then-not-is_marked
 returns-then-not-is_marked g c =
-    leads_all c.args.scene.now c.requires.scene c.args.parts.now c.loop-part.part-index c.part-item.result c.args.number c.in_ok-marks.marks.items c.loop-part-test.true (sym c.part-item.is) c.loop-part.invariant c.requires.fails c.in_ok-marks.ensures
-    (ap (λ ms. mark_at ms c.args.number) (sym c.deref.ensures.value) ∙ (sym c.is_marked.ensures ∙ c.if-not-is_marked.true))
+    let nothing : c.new.result.items ≡ [] = search rules in
+    subst (λ steps. LeadsInside c.args.scene.now (row c.args.parts.now) c.args.number (by_way (steps_value (fluent_count c.args.scene.now.task.now) steps)) (ctl_value c.part-item.result) c.args.number) (sym nothing)
+    (leads_all c.args.scene.now c.requires.scene c.args.parts.now c.loop-part.part-index c.part-item.result c.args.number c.in_ok-marks.marks.items c.loop-part-test.true (sym c.part-item.is) c.loop-part.invariant c.requires.fails c.in_ok-marks.ensures
+    (ap (λ ms. mark_at ms c.args.number) (sym c.deref.ensures.value) ∙ (sym c.is_marked.ensures ∙ c.if-not-is_marked.true)))
 
 pub loop-part-preserved : goal.loop-part-preserved
 loop-part-preserved g c =

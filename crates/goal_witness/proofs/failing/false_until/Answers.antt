@@ -58,19 +58,20 @@ pub endless-requires-clause-none : goal.endless-requires-clause-none
 endless-requires-clause-none g c =
     let scene = c.args.scene.now in
     let none = none_of c.in_ok-reached.field-0 (NoneWithout (followers_at scene.graph.now) c.deref-2.result.now (Lacks c.deref.result.now) c.args.number) c.in-None.is c.in_ok-reached.ensures.none in
-    none
+    subst (λ l. NoneWithout (followers_at scene.graph.now) c.deref-in-None-2.result.now (Lacks l) c.args.number) (c.deref.ensures.value ∙ sym c.deref-in-None.ensures.value)
+    (subst (λ r. NoneWithout (followers_at scene.graph.now) r (Lacks c.deref.result.now) c.args.number) (c.deref-2.ensures.value ∙ sym c.deref-in-None-2.ensures.value) none)
 
 pub endless-requires-clause-misses : goal.endless-requires-clause-misses
 endless-requires-clause-misses g c =
     let scene = c.args.scene.now in
-    let left_shows = shows_as scene (ctl_value c.args.left_part.now) c.in_ok-left.left.items c.deref.result.now c.deref.ensures.value c.in_ok-left.ensures in
-    let right_shows = shows_as scene (ctl_value c.args.right_part.now) c.in_ok-right.right.items c.deref-2.result.now c.deref-2.ensures.value c.in_ok-right.ensures in
-    misses_au scene c.requires.scene (ctl_value c.args.left_part.now) (ctl_value c.args.right_part.now) c.args.number c.deref.result.now c.deref-2.result.now c.requires.fails left_shows right_shows
+    let left_shows = shows_as scene (ctl_value c.args.left_part.now) c.in_ok-left.left.items c.deref-in-None.result.now c.deref-in-None.ensures.value c.in_ok-left.ensures in
+    let right_shows = shows_as scene (ctl_value c.args.right_part.now) c.in_ok-right.right.items c.deref-in-None-2.result.now c.deref-in-None-2.ensures.value c.in_ok-right.ensures in
+    misses_au scene c.requires.scene (ctl_value c.args.left_part.now) (ctl_value c.args.right_part.now) c.args.number c.deref-in-None.result.now c.deref-in-None-2.result.now c.requires.fails left_shows right_shows
 
-pub returns-in_ok-lasso-in-None : goal.returns-in_ok-lasso-in-None
-returns-in_ok-lasso-in-None g c =
+pub returns : goal.returns
+returns g c =
     let scene = c.args.scene.now in
-    let left_shows = shows_as scene (ctl_value c.args.left_part.now) c.in_ok-left.left.items c.deref.result.now c.deref.ensures.value c.in_ok-left.ensures in
-    let right_shows = shows_as scene (ctl_value c.args.right_part.now) c.in_ok-right.right.items c.deref-2.result.now c.deref-2.ensures.value c.in_ok-right.ensures in
+    let left_shows = shows_as scene (ctl_value c.args.left_part.now) c.in_ok-left.left.items c.deref-in-None.result.now c.deref-in-None.ensures.value c.in_ok-left.ensures in
+    let right_shows = shows_as scene (ctl_value c.args.right_part.now) c.in_ok-right.right.items c.deref-in-None-2.result.now c.deref-in-None-2.ensures.value c.in_ok-right.ensures in
     let n = fluent_count scene.task.now in
-    ends_au scene c.requires.scene (ctl_value c.args.left_part.now) (ctl_value c.args.right_part.now) c.args.number c.deref-2.result.now (steps_value n c.in_ok-lasso-in-None.lasso.stem.items) (steps_value n c.in_ok-lasso-in-None.lasso.back.items) c.requires.fails right_shows c.in_ok-lasso-in-None.ensures
+    ends_au scene c.requires.scene (ctl_value c.args.left_part.now) (ctl_value c.args.right_part.now) c.args.number c.deref-in-None-2.result.now (steps_value n c.in_ok-lasso-in-None.lasso.stem.items) (steps_value n c.in_ok-lasso-in-None.lasso.back.items) c.requires.fails right_shows c.in_ok-lasso-in-None.ensures

@@ -27,8 +27,8 @@ lasso_without-requires-clause-lacks g c =
     let fails = whole_lacks (size_in scene) (followers_at scene.graph.now) s.graph.next_below s.followers c.args.left.now c.args.right.now c.spread.new.marks.items c.requires.left c.requires.right least c.args.number c.requires.number c.requires.none c.requires.misses in
     right_lacks (size_in scene) (followers_at scene.graph.now) s.graph.next_below s.followers c.args.left.now c.args.right.now c.spread.new.marks.items c.requires.left c.requires.right least c.args.number c.requires.number c.requires.none c.requires.misses c.args.number fails
 
-pub returns-in-None : goal.returns-in-None
-returns-in-None g c =
+pub returns : goal.returns
+returns g c =
     let scene = c.args.scene.now in
     let s = c.requires.scene in
     let copied : c.in_ok-whole.whole.items ≡ c.args.right.now = search rules in

@@ -43,8 +43,8 @@ steps_back-requires-clause-walk g c =
     (back_least scene c.requires.scene c.args.right.now c.in_ok-inside.inside.items c.requires.right c.in_ok-inside.ensures c.args.number c.requires.number c.requires.lacks read c.deref.ensures.value
     found.stem.numbers.items found.stem.end found.back.start found.back.numbers.items lasso).walk.walk
 
-pub returns-in_ok-back-in-Some-clause-some : goal.returns-in_ok-back-in-Some-clause-some
-returns-in_ok-back-in-Some-clause-some g c =
+pub returns-in-Some-clause-some : goal.returns-in-Some-clause-some
+returns-in-Some-clause-some g c =
     let scene = c.args.scene.now in
     let n = fluent_count scene.task.now in
     let read = c.deref.result.now in

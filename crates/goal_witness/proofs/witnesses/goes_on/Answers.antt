@@ -11,10 +11,10 @@ returns-in-Table-clause-followers c = λ task h t. absurd (false≢true t)
 pub returns-in-Table-clause-complete : goal.returns-in-Table-clause-complete
 returns-in-Table-clause-complete c = λ task goal h m. absurd (let clash = sym (ap plain_of c.in-Table.is) ∙ m.is in cc)
 
-pub returns-clause-followers : goal.returns-clause-followers
-returns-clause-followers c = λ task h t.
+pub returns-in-Auto-clause-followers : goal.returns-in-Auto-clause-followers
+returns-in-Auto-clause-followers c = λ task h t.
     followers_of (system_of task) (plain_of c.args.plan.now) (fluent_count task) c.args.graph.now h _ _ (ap plain_of c.in-Auto.is) (c.is_followed.ensures.unexecutable t) (c.is_followed.ensures.stuck t)
 
-pub returns-clause-complete : goal.returns-clause-complete
-returns-clause-complete c = λ task goal h m.
+pub returns-in-Auto-clause-complete : goal.returns-in-Auto-clause-complete
+returns-in-Auto-clause-complete c = λ task goal h m.
     c.is_followed.ensures.all (not_unexecutable (system_of task) (plain_of c.args.plan.now) (fluent_count task) c.args.graph.now h goal m) (not_stuck (system_of task) (plain_of c.args.plan.now) (fluent_count task) c.args.graph.now h goal m)

@@ -11,7 +11,7 @@ pub inside-preserved : goal.inside-preserved
 inside-preserved g c =
     let scene = c.args.scene.now in
     let n = fluent_count scene.task.now in
-    let leads = subst (IsFailing scene (ctl_value c.inside.part) c.inside.at) c.in-Leads.is c.in_ok-how.ensures in
+    let leads = subst (IsFailing scene (ctl_value c.inside.part.now) c.inside.at) c.in-Leads.is c.in_ok-how.ensures in
     record {
       fails = leads.inside;
       joins = λ more fails.
@@ -21,12 +21,12 @@ inside-preserved g c =
 
 pub inside-smaller : goal.inside-smaller
 inside-smaller g c =
-    (subst (IsFailing c.args.scene.now (ctl_value c.inside.part) c.inside.at) c.in-Leads.is c.in_ok-how.ensures).smaller
+    (subst (IsFailing c.args.scene.now (ctl_value c.inside.part.now) c.inside.at) c.in-Leads.is c.in_ok-how.ensures).smaller
 
 pub returns-in-Ends : goal.returns-in-Ends
 returns-in-Ends g c =
     let scene = c.args.scene.now in
     let n = fluent_count scene.task.now in
-    let ends = subst (IsFailing scene (ctl_value c.inside.part) c.inside.at) c.in-Ends.is c.in_ok-how.ensures in
+    let ends = subst (IsFailing scene (ctl_value c.inside.part.now) c.inside.at) c.in-Ends.is c.in_ok-how.ensures in
     subst (FailsFrom scene (ctl_value c.args.goal.now) c.args.number) (sym (joined_end n c.inside.links.items _ _ c.in_ok-push-in-Ends.ensures.items))
     (c.inside.invariant.joins _ ends)

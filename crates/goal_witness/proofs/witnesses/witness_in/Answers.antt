@@ -27,8 +27,8 @@ links_from-requires-clause-fails g c =
     let shows = subst (λ ms. ShowsGoal n scene.graph.now tree ms) (sym c.deref.ensures.value) c.in_ok-marks.ensures in
     false_at scene c.requires.scene tree c.requires.names c.deref.result.now shows c.in-Some.number c.in-Some.ensures.below c.in-Some.ensures.lacks
 
-pub returns-in_ok-witness-in-Some-clause-witness : goal.returns-in_ok-witness-in-Some-clause-witness
-returns-in_ok-witness-in-Some-clause-witness g c =
+pub returns-in-Some-clause-witness : goal.returns-in-Some-clause-witness
+returns-in-Some-clause-witness g c =
     let scene = c.args.scene.now in
     let n = fluent_count scene.task.now in
     let made = c.in_ok-witness-in-Some in
