@@ -1,9 +1,7 @@
 -- How each form of goal fails, from what was found at the numbers of a graph.
-use Rattle.std.proofs.Common.{◌≡◌, ◌⊎◌, ◌↔◌, ℕ, zero, suc, ◌+◌, ◌<◌, ◌≤◌, Bool, true, false, List, [], ◌∷◌, length, map, get_or, drop, refl, sym, ap, ◌∙◌, subst, arith, ⊎_elim, inl, inr}
+use Rattle.std.proofs.Common.{◌≡◌, ◌↔◌, ℕ, zero, suc, ◌<◌, ◌≤◌, Bool, true, false, List, [], ◌∷◌, length, map, get_or, drop, refl, sym, ap, ◌∙◌, subst, arith, ⊎_elim, inl, inr}
 use Rattle.std.specs.Prelude.{⊤}
-use Rattle.std.specs.List.{Contains}
 use Rattle.std.proofs.lemmas.Bool.{false≢true}
-use Rattle.std.proofs.lemmas.List.{drop_all, drop_more}
 use Rattle.ctl_syntax.specs.Goals.{CtlTree, CtlTrees, plain, negation, all, any, implication, ax, ex, af, ef, ag, eg, au, eu, aw, ew, no_goal, goal_then, goal_row}
 use Rattle.ctl_syntax.specs.Paths.{EveryPathMeets, Meets}
 use Rattle.ctl_syntax.specs.Truth.{Anything, Nothing, Satisfies}
@@ -12,9 +10,8 @@ use Rattle.ctl_syntax.specs.declared.goals.Ctl.{Ctl}
 use Rattle.ctl_syntax.proofs.Meeting.{holds_here, meets_here}
 use Rattle.exec_graph.specs.Values.{followers_at}
 use Rattle.exec_graph.specs.declared.graphs.Graph.{Graph}
-use Rattle.plan_check.specs.Labels.{ComesAfter, HoldsIn, Shows, ShowsGoal, mark_at}
-use Rattle.plan_check.specs.Walks.{IsWalk, last_number}
-use Rattle.plan_check.proofs.LabelFacts.{decided}
+use Rattle.plan_check.specs.Labels.{ComesAfter, HoldsIn, ShowsGoal, mark_at}
+use Rattle.plan_check.specs.Walks.{last_number}
 use Rattle.plan_check.proofs.LabelTruth.{is_not_so, is_so, nowhere}
 use Rattle.plan_check.proofs.MarkFacts.{marked_below}
 use Rattle.plan_rules.specs.Rules.{PlainPlan}

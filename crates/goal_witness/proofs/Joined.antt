@@ -1,5 +1,5 @@
 -- The parts of a witness, one after another.
-use Rattle.std.proofs.Common.{◌≡◌, ℕ, List, [], ◌∷◌, ◌++◌, map, ap, ◌∙◌, append_assoc}
+use Rattle.std.proofs.Common.{◌≡◌, ℕ, List, [], ◌∷◌, ◌++◌, ap, ◌∙◌, append_assoc}
 use Rattle.plan_witness.proofs.GraphRuns.{map_push}
 use Rattle.goal_witness.specs.Failures.{PlainLink}
 use Rattle.goal_witness.specs.Links.{link_value, links_value}

@@ -1,13 +1,12 @@
 -- Walks within a part of a graph, and those through numbers that lack a mark.
-use Rattle.std.proofs.Common.{◌≡◌, ◌↔◌, ℕ, ◌<◌, Bool, true, false, not, List, [], ◌∷◌, ◌++◌, length, refl, sym, ap, ◌∙◌, subst, arith, ⊎_elim}
+use Rattle.std.proofs.Common.{◌≡◌, ◌↔◌, ℕ, ◌<◌, Bool, not, List, [], ◌∷◌, ◌++◌, length, refl, sym, ap, ◌∙◌, subst}
 use Rattle.std.specs.List.{Contains}
-use Rattle.std.proofs.lemmas.Bool.{false≢true}
 use Rattle.list_laws.proofs.Elements.{Contains-filter, Contains-filter-witness}
 use Rattle.plan_check.specs.Labels.{IsNegated, mark_at}
 use Rattle.plan_check.specs.Walks.{IsMarked, IsWalk, StaysBelow, last_number}
 use Rattle.plan_check.proofs.LabelFacts.{not_true}
 use Rattle.plan_check.proofs.MarkFacts.{marked_below}
-use Rattle.plan_witness.specs.Ways.{IsOnRound, IsShortestRoundAt, IsShortestWay, NoneLeads}
+use Rattle.plan_witness.specs.Ways.{IsOnRound, IsShortestWay, NoneLeads}
 use Rattle.goal_witness.specs.Failures.{EachOn}
 use Rattle.goal_witness.specs.Walks.{IsLeastRound, IsLeastWithout, IsRoundWithout, IsWalkWithout, Lacks, NoneWithout}
 use Rattle.goal_witness.specs.Zones.{HasNoRound, IsZoneLasso, kept}

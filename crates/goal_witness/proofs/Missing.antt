@@ -1,16 +1,15 @@
 -- Initial states in which a goal is false, and plans that always go on.
-use Rattle.std.proofs.Common.{◌≡◌, ◌⊎◌, ℕ, ◌<◌, Bool, true, false, List, ◌++◌, length, refl, sym, ap, ◌∙◌, subst, ⊎_elim}
-use Rattle.std.proofs.lemmas.Bool.{false≢true}
+use Rattle.std.proofs.Common.{◌≡◌, ℕ, ◌<◌, Bool, true, false, List, ◌++◌, length, sym, ap, ◌∙◌, subst, ⊎_elim}
 use Rattle.ctl_syntax.specs.Goals.{CtlTree}
 use Rattle.ctl_syntax.specs.Truth.{Satisfies}
 use Rattle.ctl_syntax.specs.Values.{NamesBelow}
 use Rattle.exec_graph.specs.Graphs.{IsGraphOf}
 use Rattle.exec_graph.specs.Orders.{in_first}
-use Rattle.exec_graph.specs.Values.{graph_size, plain_graph, state_at}
+use Rattle.exec_graph.specs.Values.{plain_graph}
 use Rattle.exec_graph.specs.declared.graphs.Graph.{Graph}
 use Rattle.exec_graph.proofs.Reaching.{reached_first}
 use Rattle.plan_check.specs.ContextVerdicts.{IsTrueAt}
-use Rattle.plan_check.specs.Labels.{ComesAfter, HasFollowers, HoldsIn, ShowsGoal, mark_at}
+use Rattle.plan_check.specs.Labels.{ComesAfter, HasFollowers, HoldsIn, ShowsGoal}
 use Rattle.plan_check.specs.Plain.{HasMarkedStarts, is_initial_at}
 use Rattle.plan_check.specs.declared.verdicts.Reason.TheVariants.{Stuck, Unexecutable}
 use Rattle.plan_check.proofs.ContextLaws.{context_excludes, executes_always, has_followers, may_get_stuck, may_not_execute, never_stuck}
@@ -18,7 +17,7 @@ use Rattle.plan_check.proofs.LabelFacts.{decided}
 use Rattle.plan_check.proofs.LabelTruth.{is_so}
 use Rattle.plan_rules.specs.Denoted.{denoted_contexts}
 use Rattle.plan_rules.specs.Rules.{ContextRule, PlainPlan, automaton}
-use Rattle.task_core.specs.ContextPlans.{Configuration, IsInitial}
+use Rattle.task_core.specs.ContextPlans.{IsInitial}
 use Rattle.task_core.specs.Systems.{System}
 use Rattle.task_core.specs.Tasks.{fluent_count}
 use Rattle.task_core.specs.Vectors.{Vector}

@@ -1,16 +1,16 @@
 -- What the searches within a part of a graph found, where the part is that of the numbers that lack a mark.
-use Rattle.std.proofs.Common.{◌≡◌, ◌↔◌, ℕ, ◌<◌, Bool, true, false, not, ◌||◌, List, ◌∷◌, length, refl, sym, ap, ◌∙◌, subst, ⊎_elim}
+use Rattle.std.proofs.Common.{◌≡◌, ◌↔◌, ℕ, ◌<◌, Bool, true, false, not, ◌||◌, List, ◌∷◌, length, sym, ap, ◌∙◌, subst, ⊎_elim}
 use Rattle.std.proofs.lemmas.Bool.{false≢true, or_left}
 use Rattle.exec_graph.specs.Values.{followers_at}
 use Rattle.plan_check.specs.Labels.{IsJoined, IsNegated, mark_at}
-use Rattle.plan_check.specs.Walks.{IsMarked, IsWalk, last_number}
+use Rattle.plan_check.specs.Walks.{IsMarked, last_number}
 use Rattle.plan_check.specs.declared.labelling.Join.TheVariants.{Neither}
 use Rattle.plan_check.proofs.LabelFacts.{decided, not_true}
 use Rattle.plan_check.proofs.MarkFacts.{marked_below}
 use Rattle.plan_witness.specs.Runs.{PlainStep}
 use Rattle.plan_witness.specs.Ways.{IsShortestWay, NoneLeads}
 use Rattle.goal_witness.specs.Scenes.{IsScene, size_in}
-use Rattle.goal_witness.specs.Walks.{IsAlong, IsLassoFound, IsLeastRound, IsLeastWithout, IsRoundWithout, IsWayFound, Lacks, NoneWithout}
+use Rattle.goal_witness.specs.Walks.{IsAlong, IsLassoFound, IsLeastRound, IsLeastWithout, IsRoundWithout, Lacks, NoneWithout}
 use Rattle.goal_witness.specs.Zones.{HasNoRound, IsZone, IsZoneLasso, kept}
 use Rattle.goal_witness.specs.declared.scenes.Scene.{Scene}
 use Rattle.goal_witness.proofs.Kept.{lasso_back, lasso_end, lasso_stem, least_without, no_lasso, none_without}

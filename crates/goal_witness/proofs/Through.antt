@@ -1,20 +1,18 @@
 -- Walks through a graph's numbers that lack a mark, as runs through the configurations with a property.
-use Rattle.std.proofs.Common.{◌≡◌, ◌↔◌, ℕ, ◌+◌, ◌<◌, ◌≤◌, Bool, true, List, [], ◌∷◌, length, map, refl, sym, ap, ◌∙◌, subst, arith}
-use Rattle.std.specs.List.{Contains}
+use Rattle.std.proofs.Common.{◌≡◌, ◌↔◌, ℕ, ◌<◌, Bool, true, List, [], ◌∷◌, length, map, sym, ap, ◌∙◌, subst, arith}
 use Rattle.ctl_syntax.specs.Goals.{CtlTree}
 use Rattle.ctl_syntax.specs.Truth.{Satisfies}
 use Rattle.ctl_syntax.specs.Values.{NamesBelow}
 use Rattle.ctl_syntax.proofs.Carried.{Lifted, carried}
 use Rattle.exec_graph.specs.Executions.{GoesTo}
 use Rattle.exec_graph.specs.Graphs.{PlainGraph}
-use Rattle.exec_graph.specs.Values.{followers_at, graph_size, plain_graph}
+use Rattle.exec_graph.specs.Values.{followers_at, plain_graph}
 use Rattle.exec_graph.specs.declared.graphs.Graph.{Graph}
 use Rattle.plan_check.specs.ContextVerdicts.{HoldsAt}
 use Rattle.plan_check.specs.Labels.{ComesAfter, HoldsIn}
 use Rattle.plan_check.specs.Walks.{IsWalk, last_number}
 use Rattle.plan_rules.specs.Rules.{PlainPlan}
-use Rattle.plan_witness.specs.Marked.{IsRunAlong}
-use Rattle.plan_witness.specs.Runs.{PlainStep, end_of}
+use Rattle.plan_witness.specs.Runs.{PlainStep}
 use Rattle.plan_witness.proofs.GraphRuns.{along_ends, along_length, end_of_walk, last_node, last_place, length_walk, path_of, step_goes, step_to, walk_of}
 use Rattle.task_core.specs.Conditions.{ids_below}
 use Rattle.task_core.specs.ContextPlans.{Configuration}
@@ -24,9 +22,8 @@ use Rattle.task_core.specs.Tasks.{fluent_count}
 use Rattle.task_core.specs.declared.conditions.Cond.{Cond}
 use Rattle.goal_witness.specs.Failures.{ComesBackThrough, EachOn, IsLassoThrough, IsShortestBack, IsShortestThrough, IsTrueIn, places}
 use Rattle.goal_witness.specs.Scenes.{IsScene, place_in, plan_in, size_in, sys_in}
-use Rattle.goal_witness.specs.Walks.{IsAlong, IsLassoFound, IsLeastRound, IsLeastWithout, IsRoundWithout, IsWalkWithout, IsWayFound, Lacks}
+use Rattle.goal_witness.specs.Walks.{IsAlong, IsLassoFound, IsLeastRound, IsLeastWithout, IsRoundWithout, IsWalkWithout, Lacks}
 use Rattle.goal_witness.specs.declared.scenes.Scene.{Scene}
-use Rattle.goal_witness.proofs.Kept.{each_first}
 
 module _ (scene : Scene) (s : IsScene scene) where
   abbrev n : ℕ

@@ -1,18 +1,16 @@
 -- Where no way leads to a number at which a goal over all runs fails, the goal is true.
-use Rattle.std.proofs.Common.{◌≡◌, ◌⊎◌, ◌↔◌, ℕ, ◌<◌, Bool, true, false, not, ◌||◌, List, [], ◌∷◌, ◌++◌, length, refl, sym, ap, ◌∙◌, subst, arith, ⊎_elim, inl, inr}
+use Rattle.std.proofs.Common.{◌≡◌, ℕ, ◌<◌, Bool, true, false, List, [], ◌∷◌, ◌++◌, length, refl, sym, ◌∙◌, subst, ⊎_elim, inr}
 use Rattle.std.specs.List.{Contains}
 use Rattle.std.proofs.lemmas.Bool.{false≢true}
 use Rattle.ctl_syntax.specs.Paths.{EveryPathKeeps, EveryPathMeets, MeetsOrKeeps}
 use Rattle.ctl_syntax.proofs.Meeting.{holds_here, holds_later, keeps_more, keeps_nothing}
-use Rattle.plan_check.specs.Labels.{IsJoined, IsLeast, Shows, is_led, mark_at}
-use Rattle.plan_check.specs.Walks.{IsWalk, StaysBelow, last_number}
-use Rattle.plan_check.specs.declared.labelling.Join.TheVariants.{Neither}
+use Rattle.plan_check.specs.Labels.{IsLeast, Shows, is_led, mark_at}
+use Rattle.plan_check.specs.Walks.{StaysBelow, last_number}
 use Rattle.plan_check.specs.declared.spreading.Need.TheVariants.{Each}
 use Rattle.plan_check.proofs.LabelFacts.{decided, each_fails}
 use Rattle.plan_check.proofs.WalkFacts.{last_append, walk_append}
-use Rattle.plan_check.proofs.LabelTruth.{every_until, is_decided, is_marked, is_not_so, is_so}
+use Rattle.plan_check.proofs.LabelTruth.{every_until, is_decided, is_so}
 use Rattle.task_core.specs.Paths.{IsPath}
-use Rattle.goal_witness.specs.Failures.{EachOn}
 use Rattle.goal_witness.specs.Walks.{IsRoundWithout, IsWalkWithout, Lacks, NoneWithout}
 use Rattle.goal_witness.proofs.Endless.{found_round}
 use Rattle.goal_witness.proofs.Kept.{each_push, each_weaker}

@@ -1,5 +1,5 @@
 -- A visit of a number in a part of a graph, follower by follower.
-use Rattle.std.proofs.Common.{◌≡◌, ◌⊎◌, ℕ, ◌+◌, ◌<◌, ◌≤◌, Bool, true, List, length, set, get_or, sym, subst, arith, inl, inr, slice_index_or, ◌∙◌}
+use Rattle.std.proofs.Common.{◌≡◌, ℕ, ◌+◌, ◌<◌, ◌≤◌, Bool, true, List, length, set, get_or, sym, subst, arith, inl, inr, slice_index_or, ◌∙◌}
 use Rattle.std.specs.List.{Contains}
 use borrow.Author.Count.{below_more}
 use Rattle.std.proofs.lemmas.Grind.{get_or_default_zero}

@@ -1,7 +1,7 @@
 -- Why a goal in computation tree logic is false: the runs along which it fails, and so on inside
 -- (Clarke, Grumberg, McMillan, Zhao 1995 call them counterexamples). Only parts over all runs are
 -- followed; of any other it is said where it is false.
-use Rattle.std.specs.Prelude.{◌≡◌, ◌⊎◌, ◌<◌, ◌≤◌, ℕ, List, [], ◌∷◌, length, map}
+use Rattle.std.specs.Prelude.{◌≡◌, ◌⊎◌, ◌<◌, ◌≤◌, List, [], ◌∷◌, length, map}
 use Rattle.ctl_syntax.specs.Goals.{CtlTree, CtlTrees, plain, negation, all, any, implication, ax}
 use Rattle.ctl_syntax.specs.Goals.{ex, af, ef, ag, eg, au, eu, aw, ew, no_goal, goal_then}
 use Rattle.ctl_syntax.specs.Truth.{Anything, Satisfies}

@@ -1,11 +1,10 @@
-use Rattle.std.proofs.Common.{◌≡◌, ℕ, [], sym, subst, ap, map, ◌∙◌, rules}
+use Rattle.std.proofs.Common.{◌≡◌, [], sym, subst, ap, map, ◌∙◌, rules}
 use Rattle.plan_witness.specs.Values.{steps_value}
 use Rattle.task_core.specs.Tasks.{fluent_count}
 use Rattle.std.specs.Prelude.{IfOk}
-use Rattle.ctl_syntax.specs.Goals.{CtlTree, all, af, ag, au, aw, ax, implication, goal_row}
+use Rattle.ctl_syntax.specs.Goals.{all, af, ag, au, aw, ax, implication, goal_row}
 use Rattle.ctl_syntax.specs.Values.{ctl_value}
 use Rattle.ctl_syntax.proofs.Shapes.{value_All, value_Any, value_Plain, value_Not, value_Imply, value_Ax, value_Ex, value_Af, value_Ef, value_Ag, value_Eg, value_Au, value_Eu, value_Aw, value_Ew}
-use Rattle.task_core.specs.declared.conditions.Cond.{Cond}
 use Rattle.goal_witness.specs.Failing.{IsFailing, LeadsInside}
 use Rattle.goal_witness.specs.Failures.{by_way}
 use Rattle.goal_witness.specs.Scenes.{IsFalseAtNumber}

@@ -1,18 +1,13 @@
-use Rattle.std.proofs.Common.{◌≡◌, ◌<◌, Bool, List, Option, Some, None, true, false, ℕ, length, sym, ap, ◌∙◌, subst}
-use Rattle.std.specs.Prelude.{IfNone, IfSome}
-use Rattle.ctl_syntax.specs.Goals.{CtlTree, af}
+use Rattle.std.proofs.Common.{◌≡◌, ◌<◌, Bool, List, true, ℕ, length, sym, ap, ◌∙◌, subst}
+use Rattle.ctl_syntax.specs.Goals.{CtlTree}
 use Rattle.ctl_syntax.specs.Values.{ctl_value}
-use Rattle.exec_graph.specs.Values.{followers_at}
 use Rattle.plan_check.specs.Labels.{ShowsGoal, mark_at}
 use Rattle.plan_witness.specs.Values.{steps_value}
 use Rattle.task_core.specs.Tasks.{fluent_count}
 use Rattle.task_core.specs.declared.conditions.Cond.{Cond}
 use Rattle.goal_witness.specs.Scenes.{size_in}
-use Rattle.goal_witness.specs.Walks.{IsWayFound, Lacks, NoneWithout}
-use Rattle.goal_witness.specs.declared.runs.Reached.{Reached}
 use Rattle.goal_witness.specs.declared.scenes.Scene.{Scene}
 use Rattle.goal_witness.proofs.Fails.{ends_af, misses_af, none_everywhere}
-use Rattle.goal_witness.proofs.Found.{none_of, some_of}
 use Rattle.goal_witness.proofs.failing.false_always.Goals as goal
 
 shows_as : (scene : Scene) (goal : CtlTree Cond) (marks read : List Bool) → read ≡ marks → ShowsGoal (fluent_count scene.task.now) scene.graph.now goal marks → ShowsGoal (fluent_count scene.task.now) scene.graph.now goal read

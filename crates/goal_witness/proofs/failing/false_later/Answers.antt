@@ -1,5 +1,4 @@
-use Rattle.std.proofs.Common.{◌≡◌, ◌<◌, Bool, List, Option, Some, None, true, false, ℕ, length, sym, ap, ◌∙◌, subst}
-use Rattle.std.specs.Prelude.{IfNone, IfSome}
+use Rattle.std.proofs.Common.{◌≡◌, ◌<◌, Bool, List, false, ℕ, length, sym, ap, ◌∙◌, subst}
 use Rattle.ctl_syntax.specs.Goals.{CtlTree, ag}
 use Rattle.ctl_syntax.specs.Values.{ctl_value}
 use Rattle.exec_graph.specs.Values.{followers_at}

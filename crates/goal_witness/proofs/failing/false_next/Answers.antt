@@ -1,11 +1,9 @@
-use Rattle.std.proofs.Common.{◌≡◌, Option, true, ℕ, length, sym, ap, ◌∙◌, subst, arith}
-use Rattle.std.specs.Prelude.{IfNone, IfSome}
+use Rattle.std.proofs.Common.{length, sym, ap, ◌∙◌}
 use Rattle.ctl_syntax.specs.Goals.{ax}
 use Rattle.ctl_syntax.specs.Values.{ctl_value}
-use Rattle.plan_check.specs.Labels.{ComesAfter, mark_at}
+use Rattle.plan_check.specs.Labels.{mark_at}
 use Rattle.plan_witness.specs.Values.{steps_value}
 use Rattle.task_core.specs.Tasks.{fluent_count}
-use Rattle.goal_witness.specs.Walks.{Lacks}
 use Rattle.goal_witness.proofs.Fails.{leads_ax, not_sat, true_ax}
 use Rattle.goal_witness.proofs.failing.false_next.Goals as goal
 

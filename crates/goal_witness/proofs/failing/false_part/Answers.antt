@@ -1,4 +1,4 @@
-use Rattle.std.proofs.Common.{◌≡◌, ◌<◌, false, [], length, sym, ap, ◌∙◌, subst, arith, rules}
+use Rattle.std.proofs.Common.{◌≡◌, [], length, sym, ap, ◌∙◌, subst, arith, rules}
 use Rattle.plan_witness.specs.Values.{steps_value}
 use Rattle.goal_witness.specs.Failing.{LeadsInside}
 use Rattle.goal_witness.specs.Failures.{by_way}

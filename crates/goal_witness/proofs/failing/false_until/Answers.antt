@@ -1,6 +1,5 @@
-use Rattle.std.proofs.Common.{◌≡◌, ◌<◌, Bool, List, Option, Some, None, true, false, ℕ, length, sym, ap, ◌∙◌, subst}
-use Rattle.std.specs.Prelude.{IfNone, IfSome}
-use Rattle.ctl_syntax.specs.Goals.{CtlTree, au}
+use Rattle.std.proofs.Common.{◌≡◌, ◌<◌, Bool, List, ℕ, length, sym, ap, ◌∙◌, subst}
+use Rattle.ctl_syntax.specs.Goals.{CtlTree}
 use Rattle.ctl_syntax.specs.Values.{ctl_value}
 use Rattle.exec_graph.specs.Values.{followers_at}
 use Rattle.plan_check.specs.Labels.{ShowsGoal, mark_at}

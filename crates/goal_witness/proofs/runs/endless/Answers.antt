@@ -1,5 +1,4 @@
-use Rattle.std.proofs.Common.{◌≡◌, List, Option, ℕ, length, sym, ap, ◌∙◌, subst, rules}
-use Rattle.std.specs.Prelude.{IfNone}
+use Rattle.std.proofs.Common.{◌≡◌, subst, rules}
 use Rattle.exec_graph.specs.Values.{followers_at}
 use Rattle.plan_check.specs.Labels.{IsLeast}
 use Rattle.plan_check.specs.declared.spreading.Need.TheVariants.{Each}

@@ -1,7 +1,6 @@
-use Rattle.std.proofs.Common.{◌≡◌, ◌∷◌, List, Option, ℕ, length, sym, ap, ◌∙◌, subst}
-use Rattle.std.specs.Prelude.{IfNone, IfSome}
+use Rattle.std.proofs.Common.{sym, subst}
 use Rattle.exec_graph.specs.Values.{followers_at}
-use Rattle.plan_check.specs.Walks.{IsWalk, last_number}
+use Rattle.plan_check.specs.Walks.{IsWalk}
 use Rattle.plan_witness.specs.Values.{steps_value}
 use Rattle.task_core.specs.Tasks.{fluent_count}
 use Rattle.goal_witness.specs.Walks.{IsAlong}

@@ -1,11 +1,10 @@
-use Rattle.std.proofs.Common.{◌≡◌, List, Option, ℕ, length, sym, ap, ◌∙◌, subst}
-use Rattle.std.specs.Prelude.{IfNone, IfSome}
+use Rattle.std.proofs.Common.{◌≡◌, length, sym, ap, ◌∙◌, subst}
 use Rattle.exec_graph.specs.Values.{followers_at}
 use Rattle.plan_check.specs.Walks.{IsMarked, IsWalk, last_number}
 use Rattle.plan_witness.specs.Values.{steps_value}
 use Rattle.plan_witness.specs.Ways.{IsShortestWay, NoneLeads}
 use Rattle.task_core.specs.Tasks.{fluent_count}
-use Rattle.goal_witness.specs.Walks.{IsAlong, IsLeastWithout, Lacks}
+use Rattle.goal_witness.specs.Walks.{IsAlong}
 use Rattle.goal_witness.specs.Zones.{kept}
 use Rattle.goal_witness.specs.declared.shortest.Way.{Way}
 use Rattle.goal_witness.proofs.Found.{none_of, some_of}

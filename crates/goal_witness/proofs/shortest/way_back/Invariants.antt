@@ -1,6 +1,6 @@
 -- The numbers so far are a way from the number to the last one.
 use Rattle.std.proofs.Common.{◌≡◌, ◌<◌, ◌≤◌, ◌+◌, length}
-use Rattle.exec_graph.specs.Values.{followers_at, graph_size}
+use Rattle.exec_graph.specs.Values.{graph_size}
 use Rattle.goal_witness.specs.Zones.{next_in}
 use Rattle.plan_check.specs.Walks.{IsWalk, last_number}
 use Rattle.plan_witness.specs.Ways.{at, far}

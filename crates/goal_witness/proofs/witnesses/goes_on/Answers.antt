@@ -1,6 +1,6 @@
-use Rattle.std.proofs.Common.{◌≡◌, sym, ap, ◌∙◌}
+use Rattle.std.proofs.Common.{sym, ap, ◌∙◌}
 use Rattle.std.proofs.lemmas.Bool.{false≢true}
-use Rattle.plan_rules.specs.Rules.{PlainPlan, automaton, plain_of, table}
+use Rattle.plan_rules.specs.Rules.{plain_of}
 use Rattle.task_core.specs.Tasks.{fluent_count, system_of}
 use Rattle.goal_witness.proofs.Missing.{followers_of, not_stuck, not_unexecutable}
 use Rattle.goal_witness.proofs.witnesses.goes_on.Goals as goal

@@ -1,9 +1,7 @@
-use Rattle.std.proofs.Common.{◌≡◌, ◌++◌, ◌∷◌, [], List, sym, subst}
+use Rattle.std.proofs.Common.{sym, subst}
 use Rattle.ctl_syntax.specs.Values.{ctl_value}
 use Rattle.task_core.specs.Tasks.{fluent_count}
 use Rattle.goal_witness.specs.Failing.{FailsFrom, IsFailing}
-use Rattle.goal_witness.specs.Links.{how_value}
-use Rattle.goal_witness.specs.declared.failing.Failing.{Failing}
 use Rattle.goal_witness.proofs.Joined.{joined_end, joined_more}
 use Rattle.goal_witness.proofs.witnesses.links_from.Goals as goal
 

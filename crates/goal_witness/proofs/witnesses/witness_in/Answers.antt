@@ -1,9 +1,6 @@
-use Rattle.std.proofs.Common.{◌≡◌, ◌<◌, Bool, List, Option, true, ℕ, length, sym, ap, ◌∙◌, subst}
-use Rattle.std.specs.Prelude.{IfNone, IfSome}
+use Rattle.std.proofs.Common.{length, sym, ap, ◌∙◌, subst}
 use Rattle.ctl_syntax.specs.Values.{ctl_value}
-use Rattle.exec_graph.specs.Values.{plain_graph}
 use Rattle.plan_check.specs.Labels.{ShowsGoal}
-use Rattle.plan_check.specs.Plain.{HasMarkedStarts}
 use Rattle.task_core.specs.Tasks.{fluent_count}
 use Rattle.goal_witness.proofs.Missing.{all_marked, false_at, is_witness}
 use Rattle.goal_witness.proofs.witnesses.witness_in.Goals as goal
