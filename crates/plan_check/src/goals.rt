@@ -69,7 +69,7 @@ fn labels_of_any<L: Ledger>(
 
 /// Where a goal is true.
 #[cycle(labelling)]
-pub(crate) fn labels<L: Ledger>(
+pub fn labels<L: Ledger>(
     alloc: Global,
     graph: &Graph,
     goal: &Ctl,

@@ -35,7 +35,7 @@ use task_core::Cond;
 
 /// How two labels are put together.
 #[derive(Clone, Copy, Debug, PartialEq, Eq)]
-pub(crate) enum Join {
+pub enum Join {
     And,
     Or,
     Implies,
@@ -55,7 +55,7 @@ fn joins(join: Join, left: bool, right: bool) -> bool
 }
 
 /// Two labels put together.
-pub(crate) fn joined(
+pub fn joined(
     alloc: Global,
     join: Join,
     left: &[bool],
@@ -73,7 +73,7 @@ pub(crate) fn joined(
 }
 
 /// Where a label isn't.
-pub(crate) fn negated(alloc: Global, label: &[bool]) -> Result<Vec<bool>, AllocError>
+pub fn negated(alloc: Global, label: &[bool]) -> Result<Vec<bool>, AllocError>
     ensures { IfOk result (λ marks. IsNegated (length label.now) label.now marks.items) }
 {
     let mut marks = Vec::new(alloc);
@@ -84,7 +84,7 @@ pub(crate) fn negated(alloc: Global, label: &[bool]) -> Result<Vec<bool>, AllocE
 }
 
 /// The same mark for each configuration.
-pub(crate) fn same_label(alloc: Global, graph: &Graph, mark: bool) -> Result<Vec<bool>, AllocError>
+pub fn same_label(alloc: Global, graph: &Graph, mark: bool) -> Result<Vec<bool>, AllocError>
     ensures count { IfOk result (λ marks. length marks.items ≡ graph_size graph.now) }
     ensures each { IfOk result (λ marks. (i : ℕ) → i < graph_size graph.now
         → mark_at marks.items i ≡ mark) }

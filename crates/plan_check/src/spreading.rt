@@ -42,7 +42,7 @@ use std::sync::ledger::Ledger;
 
 /// How many of the followers of a configuration must have a label.
 #[derive(Clone, Copy, Debug, PartialEq, Eq)]
-pub(crate) enum Need {
+pub enum Need {
     /// One of them.
     One,
     /// Each of them.
@@ -285,7 +285,7 @@ fn look_back<L: Ledger>(
 
 /// Marks each configuration that has the guard and is led to marked ones, until there are none
 /// left. Each that has a mark or gets one looks at those that it follows, once.
-pub(crate) fn spread<L: Ledger>(
+pub fn spread<L: Ledger>(
     alloc: Global,
     along: &Along<'_>,
     marks: &mut Vec<bool>,

@@ -20,6 +20,6 @@ mod ways;
 pub use cycles::{Lasso, cycle_run};
 pub use reasons::{terminal_run, unexecutable_run};
 pub use rules::counting_rule;
-pub use runs::{Run, RunStep};
+pub use runs::{Run, RunStep, steps_along};
 pub use stuck::{lost_outcome, stuck_run};
 pub use unreachable::{endless_run, goal_run, lost_run};

@@ -134,7 +134,7 @@ pub(crate) fn run_along(
 }
 
 /// The steps along a way from a number.
-pub(crate) fn steps_along(
+pub fn steps_along(
     alloc: Global,
     task: &Task,
     plan: &Plan,

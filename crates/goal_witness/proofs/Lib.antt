@@ -1,0 +1,13 @@
+pub mod Conjunctions
+pub mod Endless
+pub mod Fails
+pub mod Found
+pub mod Joined
+pub mod Kept
+pub mod Lined
+pub mod Missing
+pub mod Ran
+pub mod Searched
+pub mod Through
+pub mod Truths
+pub mod Visiting

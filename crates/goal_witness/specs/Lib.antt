@@ -1,0 +1,9 @@
+pub mod Failing
+pub mod Failures
+pub mod Lines
+pub mod Links
+pub mod Scenes
+pub mod Texts
+pub mod Walks
+pub mod Witnesses
+pub mod Zones
