@@ -9,8 +9,9 @@ ghost use Rattle.pddl_system.specs.Tasks.{atom_condition, condition_of, constant
 ghost use Rattle.ctl_syntax.specs.Conditions.{condition_value};
 
 use crate::fluents::Fluents;
+use crate::variables::Bindings;
 use ground_instances::{Atom, Setting, object_of};
-use pddl_ast::{Formula, ObjectId, TypeId};
+use pddl_ast::{Formula, ObjectId};
 use std::alloc::{AllocError, Global};
 use task_core::{Cond, FluentId};
 
@@ -53,23 +54,23 @@ fn conditions(
     Ok(conds)
 }
 
-/// The conditions of a formula for each binding of variables of these types, in order. The scope is
-/// afterwards as it was before.
+/// The conditions of a formula for each of these bindings, in order. The scope is afterwards as it was
+/// before.
 #[cycle(making)]
 fn conditions_for_each(
     alloc: Global,
-    setting: &Setting,
+    all: &Bindings<'_, '_>,
     fluents: &Fluents,
-    types: &[TypeId],
     formula: &Formula,
     scope: &mut Vec<ObjectId>,
 ) -> Result<Vec<Cond>, AllocError>
     ensures conditions { IfOk result (λ conds. map condition_value conds.items
-        ≡ map (λ chosen. condition_of (setting_in setting.now) fluents.now
+        ≡ map (λ chosen. condition_of (setting_in all.now.setting.now) fluents.now
         (formula_value formula.now) (scope.old.items ++ chosen))
-        (bindings (setting_in setting.now).objects types.now)) }
+        (bindings (setting_in all.now.setting.now).objects all.now.types.now)) }
     ensures scope { OnOk result (scope.new.items ≡ scope.old.items) }
 {
+    let Bindings { setting, types } = *all;
     let outer = scope.len();
     let count = setting.few_bindings(types)?;
     let mut conds = Vec::new(alloc);
@@ -117,10 +118,12 @@ pub(crate) fn condition(
             Ok(Cond::Any(vec![in alloc; Cond::Not(Box::new(alloc, cond)?), then]?))
         }
         Formula::Exists(types, part) => {
-            Ok(Cond::Any(conditions_for_each(alloc, setting, fluents, types, part, scope)?))
+            let all = Bindings { setting, types };
+            Ok(Cond::Any(conditions_for_each(alloc, &all, fluents, part, scope)?))
         }
         Formula::Forall(types, part) => {
-            Ok(Cond::All(conditions_for_each(alloc, setting, fluents, types, part, scope)?))
+            let all = Bindings { setting, types };
+            Ok(Cond::All(conditions_for_each(alloc, &all, fluents, part, scope)?))
         }
     }
 }

@@ -36,12 +36,11 @@ ghost use Rattle.task_core.specs.Tasks.{fluent_count, system_of};
 use crate::actions::actions;
 use crate::conditions::condition;
 use crate::counts::has_few_outcomes;
-use crate::drafts::ActionDraft;
 use crate::fluents::Fluents;
 use crate::found::{Found, find_fluents};
 use crate::goals::ctl_goal;
 use crate::initial::{entries, facts};
-use crate::names::fluent_names;
+use crate::names::{Naming, fluent_names};
 use crate::words::NameWords;
 use ctl_syntax::Ctl;
 use ground_instances::{Instance, Kept, Setting, has_few_objects, kept_instances};
@@ -237,15 +236,14 @@ fn invariant_condition(
     Ok(cond)
 }
 
-/// The task of a domain and a problem that pass no limit, from their setting, the outcomes of the
-/// kept instances and the fluents.
-fn build(
+/// The task of a domain and a problem that pass no limit, from their setting, and from the fluents and
+/// the outcomes of the kept instances.
+fn build<'a>(
     alloc: Global,
-    domain: &Domain,
-    problem: &Problem,
+    domain: &'a Domain,
+    problem: &'a Problem,
     setting: &Setting,
-    drafts: &[ActionDraft<'_>],
-    fluents: &Fluents,
+    found: &Found<'_>,
 ) -> Result<Task, AllocError>
     requires fits_domain { FitsDomain (domain_value domain.now) }
     requires fits_problem { FitsProblem (domain_value domain.now) (problem_value problem.now) }
@@ -253,18 +251,24 @@ fn build(
     requires within { first_passed (domain_value domain.now) (problem_value problem.now) ≡ None }
     requires setting { setting_in setting.now
         ≡ setting_of (domain_value domain.now) (problem_value problem.now) }
-    requires drafts { map (action_tree (domain_value domain.now)) drafts.now
+    requires drafts { map (action_tree (domain_value domain.now)) found.now.drafts.items
         ≡ map (drafted (setting_in setting.now))
         (kept_by (setting_in setting.now) (domain_value domain.now)) }
-    requires fluents { fluents.now
+    requires fluents { found.now.fluents
         ≡ fluents_of (domain_value domain.now) (problem_value problem.now) }
-    requires few { length fluents.now ≤ 256 }
+    requires few { length found.now.fluents ≤ 256 }
     ensures { IfOk result (λ task. task_value task
         ≡ task_of (domain_value domain.now) (problem_value problem.now)) }
 {
+    let fluents = &found.fluents;
     let words = NameWords::of_trees(alloc, domain, problem)?;
-    let names = fluent_names(alloc, domain, problem, &words, fluents)?;
-    let actions = actions(alloc, setting, fluents, domain, problem, &words, drafts)?;
+    let naming = Naming {
+        domain,
+        problem,
+        words: &words,
+    };
+    let names = fluent_names(alloc, &naming, fluents)?;
+    let actions = actions(alloc, setting, fluents, &naming, &found.drafts)?;
     let entries = entries(alloc, fluents, &problem.entries)?;
     let goal = goal_condition(alloc, setting, fluents, &problem.goal)?;
     let invariant = invariant_condition(alloc, setting, fluents, domain)?;
@@ -302,14 +306,7 @@ fn ground_kept(
         ≡ limit_of refusal)) }
 {
     let found = all_fluents(alloc, setting, domain, problem, instances)?;
-    let task = build(
-        alloc,
-        domain,
-        problem,
-        setting,
-        &found.drafts,
-        &found.fluents,
-    )?;
+    let task = build(alloc, domain, problem, setting, &found)?;
     let ctl = ctl_goal(alloc, setting, &found.fluents, &problem.ctl)?;
     Ok(Grounded { task, ctl })
 }

@@ -19,6 +19,7 @@ mod naming;
 mod outcomes;
 mod products;
 mod schemas;
+mod variables;
 mod walk;
 mod words;
 

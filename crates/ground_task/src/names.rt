@@ -16,6 +16,14 @@ use pddl_ast::{Domain, ObjectId, Problem, Schema};
 use std::alloc::{AllocError, Global};
 use std::rc::RcStr;
 
+/// A domain and a problem, and the words that their names are made of.
+#[derive(Clone, Copy)]
+pub(crate) struct Naming<'a> {
+    pub(crate) domain: &'a Domain,
+    pub(crate) problem: &'a Problem,
+    pub(crate) words: &'a NameWords,
+}
+
 /// The first word and the names of objects, which stand in `words` by their numbers.
 fn with_objects(
     alloc: Global,
@@ -35,36 +43,32 @@ fn with_objects(
 }
 
 /// The name of an atom.
-fn fluent_name(
-    alloc: Global,
-    domain: &Domain,
-    problem: &Problem,
-    words: &NameWords,
-    atom: &Atom,
-) -> Result<Vec<RcStr>, AllocError>
-    requires { AreWordsOf (domain_value domain.now) (problem_value problem.now) words.now }
+fn fluent_name(alloc: Global, naming: &Naming<'_>, atom: &Atom) -> Result<Vec<RcStr>, AllocError>
+    requires { AreWordsOf (domain_value naming.now.domain.now)
+        (problem_value naming.now.problem.now) naming.now.words.now }
     ensures { IfOk result (λ name. name_bytes name
-        ≡ atom_name (domain_value domain.now) (problem_value problem.now) (atom_tree atom.now)) }
+        ≡ atom_name (domain_value naming.now.domain.now) (problem_value naming.now.problem.now)
+        (atom_tree atom.now)) }
 {
-    let first = word_at(alloc, &words.predicates, atom.predicate)?;
-    Ok(with_objects(alloc, first, &words.objects, &atom.objects)?)
+    let first = word_at(alloc, &naming.words.predicates, atom.predicate)?;
+    Ok(with_objects(alloc, first, &naming.words.objects, &atom.objects)?)
 }
 
 /// The names of the fluents.
 pub(crate) fn fluent_names(
     alloc: Global,
-    domain: &Domain,
-    problem: &Problem,
-    words: &NameWords,
+    naming: &Naming<'_>,
     fluents: &Fluents,
 ) -> Result<Vec<Vec<RcStr>>, AllocError>
-    requires { AreWordsOf (domain_value domain.now) (problem_value problem.now) words.now }
+    requires { AreWordsOf (domain_value naming.now.domain.now)
+        (problem_value naming.now.problem.now) naming.now.words.now }
     ensures { IfOk result (λ names. map name_bytes names.items
-        ≡ map (atom_name (domain_value domain.now) (problem_value problem.now)) fluents.now) }
+        ≡ map (atom_name (domain_value naming.now.domain.now)
+        (problem_value naming.now.problem.now)) fluents.now) }
 {
     let mut names = Vec::new(alloc);
     for place in 0..fluents.len() {
-        names.push(fluent_name(alloc, domain, problem, words, fluents.atom(place))?)?;
+        names.push(fluent_name(alloc, naming, fluents.atom(place))?)?;
     }
     Ok(names)
 }
@@ -72,19 +76,18 @@ pub(crate) fn fluent_names(
 /// The name of an instance of an action.
 pub(crate) fn action_name(
     alloc: Global,
-    domain: &Domain,
-    problem: &Problem,
-    words: &NameWords,
+    naming: &Naming<'_>,
     schema: &Schema,
     instance: &Instance,
 ) -> Result<Vec<RcStr>, AllocError>
-    requires words { AreWordsOf (domain_value domain.now) (problem_value problem.now) words.now }
-    requires first { listed words.now.actions.items instance.now.action
+    requires words { AreWordsOf (domain_value naming.now.domain.now)
+        (problem_value naming.now.problem.now) naming.now.words.now }
+    requires first { listed naming.now.words.now.actions.items instance.now.action
         ≡ (schema_value schema.now).name }
     ensures { IfOk result (λ name. name_bytes name
-        ≡ instance_name (domain_value domain.now) (problem_value problem.now)
+        ≡ instance_name (domain_value naming.now.domain.now) (problem_value naming.now.problem.now)
         (instance_with (schema_value schema.now) instance.now)) }
 {
-    let first = word_at(alloc, &words.actions, instance.action)?;
-    Ok(with_objects(alloc, first, &words.objects, &instance.objects)?)
+    let first = word_at(alloc, &naming.words.actions, instance.action)?;
+    Ok(with_objects(alloc, first, &naming.words.objects, &instance.objects)?)
 }

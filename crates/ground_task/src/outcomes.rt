@@ -13,8 +13,9 @@ ghost use Rattle.pddl_system.specs.Settings.{Setting as PlainSetting};
 use crate::drafts::{ChangeDraft, OutcomeDraft, PartDraft};
 use crate::guards::{may_also_hold, outcomes_under};
 use crate::products::{no_change, products};
+use crate::variables::Bindings;
 use ground_instances::{Atom, Setting};
-use pddl_ast::{Effect, ObjectId, TypeId};
+use pddl_ast::{Effect, ObjectId};
 use std::alloc::{AllocError, Global};
 
 /// The outcome that adds an atom (positive) or deletes it.
@@ -116,24 +117,23 @@ fn outcomes_of_either<'a>(
     Ok(made)
 }
 
-/// The outcomes of an effect for all objects of these types. The scope is afterwards as it was
-/// before.
+/// The outcomes of an effect for all of these bindings. The scope is afterwards as it was before.
 #[cycle(building)]
 fn outcomes_of_each<'a>(
     alloc: Global,
-    setting: &Setting,
+    all: &Bindings<'_, '_>,
     possible: bool,
-    types: &[TypeId],
     effect: &'a Effect,
     scope: &mut Vec<ObjectId>,
 ) -> Result<Vec<OutcomeDraft<'a>>, AllocError>
-    ensures outcomes { IfOk result (λ outcomes. draft_trees outcomes.items
-        ≡ map (possible_where (setting_in setting.now) possible)
-        (plain.product_of_all (map (λ chosen. plain.outcomes (setting_in setting.now).objects
-        (effect_value effect.now) (scope.old.items ++ chosen))
-        (bindings (setting_in setting.now).objects types.now)))) }
+    ensures outcomes { let at = setting_in all.now.setting.now in
+        IfOk result (λ outcomes. draft_trees outcomes.items
+        ≡ map (possible_where at possible) (plain.product_of_all
+        (map (λ chosen. plain.outcomes at.objects (effect_value effect.now)
+        (scope.old.items ++ chosen)) (bindings at.objects all.now.types.now)))) }
     ensures scope { OnOk result (scope.new.items ≡ scope.old.items) }
 {
+    let Bindings { setting, types } = *all;
     let outer = scope.len();
     let count = setting.few_bindings(types)?;
     let mut made = no_change(alloc)?;
@@ -181,7 +181,8 @@ fn outcomes<'a>(
             Ok(outcomes_under(alloc, formula, scope, made)?)
         }
         Effect::Each(types, part) => {
-            Ok(outcomes_of_each(alloc, setting, possible, types, part, scope)?)
+            let all = Bindings { setting, types };
+            Ok(outcomes_of_each(alloc, &all, possible, part, scope)?)
         }
     }
 }

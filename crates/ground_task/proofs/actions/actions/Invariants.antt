@@ -9,6 +9,6 @@ use Rattle.ground_task.proofs.actions.actions.Given as goal
 
 abbrev pub invariant-loop-draft : goal.invariant-loop-draft
 invariant-loop-draft l =
-    (map action_value l.actions.items ++ map (action_in (setting_in l.setting) l.fluents (domain_value l.domain) (problem_value l.problem)) (drop l.draft-index (kept_by (setting_in l.setting) (domain_value l.domain)))
-    ≡ map (action_in (setting_in l.setting) l.fluents (domain_value l.domain) (problem_value l.problem)) (kept_by (setting_in l.setting) (domain_value l.domain)))
+    (map action_value l.actions.items ++ map (action_in (setting_in l.setting) l.fluents (domain_value l.naming.domain.now) (problem_value l.naming.problem.now)) (drop l.draft-index (kept_by (setting_in l.setting) (domain_value l.naming.domain.now)))
+    ≡ map (action_in (setting_in l.setting) l.fluents (domain_value l.naming.domain.now) (problem_value l.naming.problem.now)) (kept_by (setting_in l.setting) (domain_value l.naming.domain.now)))
     × (list_all action_has_literals l.actions.items ≡ true)

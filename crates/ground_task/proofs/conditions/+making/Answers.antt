@@ -33,12 +33,12 @@ condition-returns-in_ok-atom-in-Atom-clause-condition t c =
 
 pub conditions_for_each-loop-number-preserved : goal.conditions_for_each-loop-number-preserved
 conditions_for_each-loop-number-preserved t c =
-    let at = setting_in c.args.setting.now in
+    let at = setting_in c.args.all.now.setting.now in
     let scope = c.args.scope.now.items in
-    let all = bindings at.objects c.args.types.now in
+    let all = bindings at.objects c.args.all.now.types.now in
     let number = c.loop-number.number in
     let part = formula_value c.args.formula.now in
-    let there : number < length all = bound_below at.objects c.args.types.now c.in_ok-count.count number c.in_ok-count.ensures.count c.loop-number-test.true in
+    let there : number < length all = bound_below at.objects c.args.all.now.types.now c.in_ok-count.count number c.in_ok-count.ensures.count c.loop-number-test.true in
     let entered : c.bind.new.scope.items ≡ scope ++ get_or all number [] = c.in_ok-bind.ensures ∙ ap (λ s. s ++ get_or all number []) c.loop-number.invariant.0 in
     let new : condition_value c.in_ok-condition.field-0 ≡ condition_of at c.args.fluents.now part (scope ++ get_or all number []) = c.in_ok-condition.ensures.condition ∙ ap (condition_of at c.args.fluents.now part) entered in (
       c.truncate.ensures.items ∙ unbound scope c.bind.new.scope.items c.condition.new.scope.items c.loop-number.scope.items (get_or all number []) c.len-outer.result (c.in_ok-bind.ensures) c.loop-number.invariant.0 c.in_ok-condition.ensures.scope (c.len-outer.ensures ∙ c.args.scope.now.ok.0),
@@ -48,7 +48,7 @@ conditions_for_each-loop-number-preserved t c =
 
 pub conditions_for_each-returns-clause-conditions : goal.conditions_for_each-returns-clause-conditions
 conditions_for_each-returns-clause-conditions t c =
-    let at = setting_in c.args.setting.now in
-    map_end (λ chosen. condition_of at c.args.fluents.now (formula_value c.args.formula.now) (c.args.scope.now.items ++ chosen)) (bindings at.objects c.args.types.now) c.loop-number.number _ _
-    (bound_end at.objects c.args.types.now c.in_ok-count.count c.loop-number.number c.in_ok-count.ensures.count c.loop-number-test.false)
+    let at = setting_in c.args.all.now.setting.now in
+    map_end (λ chosen. condition_of at c.args.fluents.now (formula_value c.args.formula.now) (c.args.scope.now.items ++ chosen)) (bindings at.objects c.args.all.now.types.now) c.loop-number.number _ _
+    (bound_end at.objects c.args.all.now.types.now c.in_ok-count.count c.loop-number.number c.in_ok-count.ensures.count c.loop-number-test.false)
     c.loop-number.invariant.1

@@ -12,7 +12,7 @@ new-requires-clause-few_fluents c =
     let d = domain_value c.args.domain.now in
     let p = problem_value c.args.problem.now in
     let at = setting_in c.args.setting.now in
-    let fl = c.args.fluents.now in
+    let fl = c.args.found.now.fluents in
     let init : InitSpec = record { facts = c.facts-facts.result; entries = c.in_ok-entries.entries } in
     let built : AreBuilt d p at fl c.in_ok-names.names.items c.in_ok-actions.actions.items init c.in_ok-goal.goal c.in_ok-invariant.invariant = record {
       setting_is = c.requires.setting;
@@ -21,7 +21,7 @@ new-requires-clause-few_fluents c =
       acts = c.in_ok-actions.ensures.value;
       says = c.in_ok-actions.ensures.says;
       begins = c.facts-facts.ensures;
-      entered = c.in_ok-entries.ensures ∙ ap (λ l. map (systems.entry_over fl) (entries_value l)) c.deref.ensures.value;
+      entered = c.in_ok-entries.ensures ∙ ap (λ l. map (systems.entry_over fl) (entries_value l)) c.deref-2.ensures.value;
       wanted = c.in_ok-goal.ensures;
       holding = c.in_ok-invariant.ensures;
     } in
@@ -32,7 +32,7 @@ new-requires-clause-few_actions c =
     let d = domain_value c.args.domain.now in
     let p = problem_value c.args.problem.now in
     let at = setting_in c.args.setting.now in
-    let fl = c.args.fluents.now in
+    let fl = c.args.found.now.fluents in
     let init : InitSpec = record { facts = c.facts-facts.result; entries = c.in_ok-entries.entries } in
     let built : AreBuilt d p at fl c.in_ok-names.names.items c.in_ok-actions.actions.items init c.in_ok-goal.goal c.in_ok-invariant.invariant = record {
       setting_is = c.requires.setting;
@@ -41,7 +41,7 @@ new-requires-clause-few_actions c =
       acts = c.in_ok-actions.ensures.value;
       says = c.in_ok-actions.ensures.says;
       begins = c.facts-facts.ensures;
-      entered = c.in_ok-entries.ensures ∙ ap (λ l. map (systems.entry_over fl) (entries_value l)) c.deref.ensures.value;
+      entered = c.in_ok-entries.ensures ∙ ap (λ l. map (systems.entry_over fl) (entries_value l)) c.deref-2.ensures.value;
       wanted = c.in_ok-goal.ensures;
       holding = c.in_ok-invariant.ensures;
     } in
@@ -52,7 +52,7 @@ new-requires-clause-actions_within c =
     let d = domain_value c.args.domain.now in
     let p = problem_value c.args.problem.now in
     let at = setting_in c.args.setting.now in
-    let fl = c.args.fluents.now in
+    let fl = c.args.found.now.fluents in
     let init : InitSpec = record { facts = c.facts-facts.result; entries = c.in_ok-entries.entries } in
     let built : AreBuilt d p at fl c.in_ok-names.names.items c.in_ok-actions.actions.items init c.in_ok-goal.goal c.in_ok-invariant.invariant = record {
       setting_is = c.requires.setting;
@@ -61,7 +61,7 @@ new-requires-clause-actions_within c =
       acts = c.in_ok-actions.ensures.value;
       says = c.in_ok-actions.ensures.says;
       begins = c.facts-facts.ensures;
-      entered = c.in_ok-entries.ensures ∙ ap (λ l. map (systems.entry_over fl) (entries_value l)) c.deref.ensures.value;
+      entered = c.in_ok-entries.ensures ∙ ap (λ l. map (systems.entry_over fl) (entries_value l)) c.deref-2.ensures.value;
       wanted = c.in_ok-goal.ensures;
       holding = c.in_ok-invariant.ensures;
     } in
@@ -72,7 +72,7 @@ new-requires-clause-facts_within c =
     let d = domain_value c.args.domain.now in
     let p = problem_value c.args.problem.now in
     let at = setting_in c.args.setting.now in
-    let fl = c.args.fluents.now in
+    let fl = c.args.found.now.fluents in
     let init : InitSpec = record { facts = c.facts-facts.result; entries = c.in_ok-entries.entries } in
     let built : AreBuilt d p at fl c.in_ok-names.names.items c.in_ok-actions.actions.items init c.in_ok-goal.goal c.in_ok-invariant.invariant = record {
       setting_is = c.requires.setting;
@@ -81,7 +81,7 @@ new-requires-clause-facts_within c =
       acts = c.in_ok-actions.ensures.value;
       says = c.in_ok-actions.ensures.says;
       begins = c.facts-facts.ensures;
-      entered = c.in_ok-entries.ensures ∙ ap (λ l. map (systems.entry_over fl) (entries_value l)) c.deref.ensures.value;
+      entered = c.in_ok-entries.ensures ∙ ap (λ l. map (systems.entry_over fl) (entries_value l)) c.deref-2.ensures.value;
       wanted = c.in_ok-goal.ensures;
       holding = c.in_ok-invariant.ensures;
     } in
@@ -92,7 +92,7 @@ new-requires-clause-entries_within c =
     let d = domain_value c.args.domain.now in
     let p = problem_value c.args.problem.now in
     let at = setting_in c.args.setting.now in
-    let fl = c.args.fluents.now in
+    let fl = c.args.found.now.fluents in
     let init : InitSpec = record { facts = c.facts-facts.result; entries = c.in_ok-entries.entries } in
     let built : AreBuilt d p at fl c.in_ok-names.names.items c.in_ok-actions.actions.items init c.in_ok-goal.goal c.in_ok-invariant.invariant = record {
       setting_is = c.requires.setting;
@@ -101,7 +101,7 @@ new-requires-clause-entries_within c =
       acts = c.in_ok-actions.ensures.value;
       says = c.in_ok-actions.ensures.says;
       begins = c.facts-facts.ensures;
-      entered = c.in_ok-entries.ensures ∙ ap (λ l. map (systems.entry_over fl) (entries_value l)) c.deref.ensures.value;
+      entered = c.in_ok-entries.ensures ∙ ap (λ l. map (systems.entry_over fl) (entries_value l)) c.deref-2.ensures.value;
       wanted = c.in_ok-goal.ensures;
       holding = c.in_ok-invariant.ensures;
     } in
@@ -112,7 +112,7 @@ new-requires-clause-goal_within c =
     let d = domain_value c.args.domain.now in
     let p = problem_value c.args.problem.now in
     let at = setting_in c.args.setting.now in
-    let fl = c.args.fluents.now in
+    let fl = c.args.found.now.fluents in
     let init : InitSpec = record { facts = c.facts-facts.result; entries = c.in_ok-entries.entries } in
     let built : AreBuilt d p at fl c.in_ok-names.names.items c.in_ok-actions.actions.items init c.in_ok-goal.goal c.in_ok-invariant.invariant = record {
       setting_is = c.requires.setting;
@@ -121,7 +121,7 @@ new-requires-clause-goal_within c =
       acts = c.in_ok-actions.ensures.value;
       says = c.in_ok-actions.ensures.says;
       begins = c.facts-facts.ensures;
-      entered = c.in_ok-entries.ensures ∙ ap (λ l. map (systems.entry_over fl) (entries_value l)) c.deref.ensures.value;
+      entered = c.in_ok-entries.ensures ∙ ap (λ l. map (systems.entry_over fl) (entries_value l)) c.deref-2.ensures.value;
       wanted = c.in_ok-goal.ensures;
       holding = c.in_ok-invariant.ensures;
     } in
@@ -132,7 +132,7 @@ new-requires-clause-invariant_within c =
     let d = domain_value c.args.domain.now in
     let p = problem_value c.args.problem.now in
     let at = setting_in c.args.setting.now in
-    let fl = c.args.fluents.now in
+    let fl = c.args.found.now.fluents in
     let init : InitSpec = record { facts = c.facts-facts.result; entries = c.in_ok-entries.entries } in
     let built : AreBuilt d p at fl c.in_ok-names.names.items c.in_ok-actions.actions.items init c.in_ok-goal.goal c.in_ok-invariant.invariant = record {
       setting_is = c.requires.setting;
@@ -141,7 +141,7 @@ new-requires-clause-invariant_within c =
       acts = c.in_ok-actions.ensures.value;
       says = c.in_ok-actions.ensures.says;
       begins = c.facts-facts.ensures;
-      entered = c.in_ok-entries.ensures ∙ ap (λ l. map (systems.entry_over fl) (entries_value l)) c.deref.ensures.value;
+      entered = c.in_ok-entries.ensures ∙ ap (λ l. map (systems.entry_over fl) (entries_value l)) c.deref-2.ensures.value;
       wanted = c.in_ok-goal.ensures;
       holding = c.in_ok-invariant.ensures;
     } in
@@ -152,7 +152,7 @@ new-requires-clause-fluent_names c =
     let d = domain_value c.args.domain.now in
     let p = problem_value c.args.problem.now in
     let at = setting_in c.args.setting.now in
-    let fl = c.args.fluents.now in
+    let fl = c.args.found.now.fluents in
     let init : InitSpec = record { facts = c.facts-facts.result; entries = c.in_ok-entries.entries } in
     let built : AreBuilt d p at fl c.in_ok-names.names.items c.in_ok-actions.actions.items init c.in_ok-goal.goal c.in_ok-invariant.invariant = record {
       setting_is = c.requires.setting;
@@ -161,7 +161,7 @@ new-requires-clause-fluent_names c =
       acts = c.in_ok-actions.ensures.value;
       says = c.in_ok-actions.ensures.says;
       begins = c.facts-facts.ensures;
-      entered = c.in_ok-entries.ensures ∙ ap (λ l. map (systems.entry_over fl) (entries_value l)) c.deref.ensures.value;
+      entered = c.in_ok-entries.ensures ∙ ap (λ l. map (systems.entry_over fl) (entries_value l)) c.deref-2.ensures.value;
       wanted = c.in_ok-goal.ensures;
       holding = c.in_ok-invariant.ensures;
     } in
@@ -172,7 +172,7 @@ new-requires-clause-action_names c =
     let d = domain_value c.args.domain.now in
     let p = problem_value c.args.problem.now in
     let at = setting_in c.args.setting.now in
-    let fl = c.args.fluents.now in
+    let fl = c.args.found.now.fluents in
     let init : InitSpec = record { facts = c.facts-facts.result; entries = c.in_ok-entries.entries } in
     let built : AreBuilt d p at fl c.in_ok-names.names.items c.in_ok-actions.actions.items init c.in_ok-goal.goal c.in_ok-invariant.invariant = record {
       setting_is = c.requires.setting;
@@ -181,7 +181,7 @@ new-requires-clause-action_names c =
       acts = c.in_ok-actions.ensures.value;
       says = c.in_ok-actions.ensures.says;
       begins = c.facts-facts.ensures;
-      entered = c.in_ok-entries.ensures ∙ ap (λ l. map (systems.entry_over fl) (entries_value l)) c.deref.ensures.value;
+      entered = c.in_ok-entries.ensures ∙ ap (λ l. map (systems.entry_over fl) (entries_value l)) c.deref-2.ensures.value;
       wanted = c.in_ok-goal.ensures;
       holding = c.in_ok-invariant.ensures;
     } in
@@ -192,7 +192,7 @@ new-requires-clause-shallow_actions c =
     let d = domain_value c.args.domain.now in
     let p = problem_value c.args.problem.now in
     let at = setting_in c.args.setting.now in
-    let fl = c.args.fluents.now in
+    let fl = c.args.found.now.fluents in
     let init : InitSpec = record { facts = c.facts-facts.result; entries = c.in_ok-entries.entries } in
     let built : AreBuilt d p at fl c.in_ok-names.names.items c.in_ok-actions.actions.items init c.in_ok-goal.goal c.in_ok-invariant.invariant = record {
       setting_is = c.requires.setting;
@@ -201,7 +201,7 @@ new-requires-clause-shallow_actions c =
       acts = c.in_ok-actions.ensures.value;
       says = c.in_ok-actions.ensures.says;
       begins = c.facts-facts.ensures;
-      entered = c.in_ok-entries.ensures ∙ ap (λ l. map (systems.entry_over fl) (entries_value l)) c.deref.ensures.value;
+      entered = c.in_ok-entries.ensures ∙ ap (λ l. map (systems.entry_over fl) (entries_value l)) c.deref-2.ensures.value;
       wanted = c.in_ok-goal.ensures;
       holding = c.in_ok-invariant.ensures;
     } in
@@ -212,7 +212,7 @@ new-requires-clause-shallow_goal c =
     let d = domain_value c.args.domain.now in
     let p = problem_value c.args.problem.now in
     let at = setting_in c.args.setting.now in
-    let fl = c.args.fluents.now in
+    let fl = c.args.found.now.fluents in
     let init : InitSpec = record { facts = c.facts-facts.result; entries = c.in_ok-entries.entries } in
     let built : AreBuilt d p at fl c.in_ok-names.names.items c.in_ok-actions.actions.items init c.in_ok-goal.goal c.in_ok-invariant.invariant = record {
       setting_is = c.requires.setting;
@@ -221,7 +221,7 @@ new-requires-clause-shallow_goal c =
       acts = c.in_ok-actions.ensures.value;
       says = c.in_ok-actions.ensures.says;
       begins = c.facts-facts.ensures;
-      entered = c.in_ok-entries.ensures ∙ ap (λ l. map (systems.entry_over fl) (entries_value l)) c.deref.ensures.value;
+      entered = c.in_ok-entries.ensures ∙ ap (λ l. map (systems.entry_over fl) (entries_value l)) c.deref-2.ensures.value;
       wanted = c.in_ok-goal.ensures;
       holding = c.in_ok-invariant.ensures;
     } in
@@ -232,7 +232,7 @@ new-requires-clause-shallow_invariant c =
     let d = domain_value c.args.domain.now in
     let p = problem_value c.args.problem.now in
     let at = setting_in c.args.setting.now in
-    let fl = c.args.fluents.now in
+    let fl = c.args.found.now.fluents in
     let init : InitSpec = record { facts = c.facts-facts.result; entries = c.in_ok-entries.entries } in
     let built : AreBuilt d p at fl c.in_ok-names.names.items c.in_ok-actions.actions.items init c.in_ok-goal.goal c.in_ok-invariant.invariant = record {
       setting_is = c.requires.setting;
@@ -241,7 +241,7 @@ new-requires-clause-shallow_invariant c =
       acts = c.in_ok-actions.ensures.value;
       says = c.in_ok-actions.ensures.says;
       begins = c.facts-facts.ensures;
-      entered = c.in_ok-entries.ensures ∙ ap (λ l. map (systems.entry_over fl) (entries_value l)) c.deref.ensures.value;
+      entered = c.in_ok-entries.ensures ∙ ap (λ l. map (systems.entry_over fl) (entries_value l)) c.deref-2.ensures.value;
       wanted = c.in_ok-goal.ensures;
       holding = c.in_ok-invariant.ensures;
     } in
@@ -252,7 +252,7 @@ returns c =
     let d = domain_value c.args.domain.now in
     let p = problem_value c.args.problem.now in
     let at = setting_in c.args.setting.now in
-    let fl = c.args.fluents.now in
+    let fl = c.args.found.now.fluents in
     let init : InitSpec = record { facts = c.facts-facts.result; entries = c.in_ok-entries.entries } in
     let built : AreBuilt d p at fl c.in_ok-names.names.items c.in_ok-actions.actions.items init c.in_ok-goal.goal c.in_ok-invariant.invariant = record {
       setting_is = c.requires.setting;
@@ -261,7 +261,7 @@ returns c =
       acts = c.in_ok-actions.ensures.value;
       says = c.in_ok-actions.ensures.says;
       begins = c.facts-facts.ensures;
-      entered = c.in_ok-entries.ensures ∙ ap (λ l. map (systems.entry_over fl) (entries_value l)) c.deref.ensures.value;
+      entered = c.in_ok-entries.ensures ∙ ap (λ l. map (systems.entry_over fl) (entries_value l)) c.deref-2.ensures.value;
       wanted = c.in_ok-goal.ensures;
       holding = c.in_ok-invariant.ensures;
     } in

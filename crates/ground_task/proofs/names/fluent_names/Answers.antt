@@ -8,7 +8,7 @@ use Rattle.ground_task.proofs.names.fluent_names.Goals as goal
 
 pub loop-place-preserved : goal.loop-place-preserved
 loop-place-preserved c =
-    let name = atom_name (domain_value c.args.domain.now) (problem_value c.args.problem.now) in
+    let name = atom_name (domain_value c.args.naming.now.domain.now) (problem_value c.args.naming.now.problem.now) in
     let a = atom_tree c.atom.result.now in
     let there : c.loop-place.place < length c.args.fluents.now = omega (arith, c.len-place-end.ensures.count, c.loop-place-test.true) in
     ap (λ l. map name_bytes l ++ map name (drop (c.loop-place.place + 1) c.args.fluents.now)) c.in_ok-push.ensures.items

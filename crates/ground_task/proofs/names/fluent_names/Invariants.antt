@@ -6,5 +6,5 @@ use Rattle.ground_task.proofs.names.fluent_names.Given as goal
 
 abbrev pub invariant-loop-place : goal.invariant-loop-place
 invariant-loop-place l =
-    map name_bytes l.names.items ++ map (atom_name (domain_value l.domain) (problem_value l.problem)) (drop l.place l.fluents)
-    ≡ map (atom_name (domain_value l.domain) (problem_value l.problem)) l.fluents
+    map name_bytes l.names.items ++ map (atom_name (domain_value l.naming.domain.now) (problem_value l.naming.problem.now)) (drop l.place l.fluents)
+    ≡ map (atom_name (domain_value l.naming.domain.now) (problem_value l.naming.problem.now)) l.fluents

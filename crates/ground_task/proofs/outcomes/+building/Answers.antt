@@ -81,18 +81,18 @@ outcomes_of_either-returns-clause-outcomes t c =
 
 pub outcomes_of_each-loop-number-init : goal.outcomes_of_each-loop-number-init
 outcomes_of_each-loop-number-init t c =
-    let at = setting_in c.args.setting.now in
-    (refl, together_start at c.args.possible (λ (chosen : List ℕ). plain.outcomes at.objects (effect_value c.args.effect.now) (c.args.scope.now.items ++ chosen)) (bindings at.objects c.args.types.now) _ c.in_ok-made.ensures)
+    let at = setting_in c.args.all.now.setting.now in
+    (refl, together_start at c.args.possible (λ (chosen : List ℕ). plain.outcomes at.objects (effect_value c.args.effect.now) (c.args.scope.now.items ++ chosen)) (bindings at.objects c.args.all.now.types.now) _ c.in_ok-made.ensures)
 
 pub outcomes_of_each-loop-number-preserved : goal.outcomes_of_each-loop-number-preserved
 outcomes_of_each-loop-number-preserved t c =
-    let at = setting_in c.args.setting.now in
+    let at = setting_in c.args.all.now.setting.now in
     let scope = c.args.scope.now.items in
-    let all = bindings at.objects c.args.types.now in
+    let all = bindings at.objects c.args.all.now.types.now in
     let number = c.loop-number.number in
     let part = effect_value c.args.effect.now in
     let chosen = get_or all number [] in
-    let there : number < length all = bound_below at.objects c.args.types.now c.in_ok-count.count number c.in_ok-count.ensures.count c.loop-number-test.true in
+    let there : number < length all = bound_below at.objects c.args.all.now.types.now c.in_ok-count.count number c.in_ok-count.ensures.count c.loop-number-test.true in
     let entered : c.bind.new.scope.items ≡ scope ++ chosen = c.in_ok-bind.ensures ∙ ap (λ s. s ++ chosen) c.loop-number.invariant.0 in (
       c.truncate.ensures.items ∙ unbound scope c.bind.new.scope.items c.outcomes.new.scope.items c.loop-number.scope.items chosen c.len-outer.result c.in_ok-bind.ensures c.loop-number.invariant.0 c.in_ok-next.ensures.scope (c.len-outer.ensures ∙ c.args.scope.now.ok.0),
       together_step at c.args.possible (λ (b : List ℕ). plain.outcomes at.objects part (scope ++ b)) all number []
@@ -104,7 +104,7 @@ outcomes_of_each-loop-number-preserved t c =
 
 pub outcomes_of_each-returns-clause-outcomes : goal.outcomes_of_each-returns-clause-outcomes
 outcomes_of_each-returns-clause-outcomes t c =
-    let at = setting_in c.args.setting.now in
-    together_end at c.args.possible (λ (chosen : List ℕ). plain.outcomes at.objects (effect_value c.args.effect.now) (c.args.scope.now.items ++ chosen)) (bindings at.objects c.args.types.now) c.loop-number.number (draft_trees c.loop-number.made.items)
-    (bound_end at.objects c.args.types.now c.in_ok-count.count c.loop-number.number c.in_ok-count.ensures.count c.loop-number-test.false)
+    let at = setting_in c.args.all.now.setting.now in
+    together_end at c.args.possible (λ (chosen : List ℕ). plain.outcomes at.objects (effect_value c.args.effect.now) (c.args.scope.now.items ++ chosen)) (bindings at.objects c.args.all.now.types.now) c.loop-number.number (draft_trees c.loop-number.made.items)
+    (bound_end at.objects c.args.all.now.types.now c.in_ok-count.count c.loop-number.number c.in_ok-count.ensures.count c.loop-number-test.false)
     c.loop-number.invariant.1
