@@ -23,7 +23,7 @@ use crate::scenes::Scene;
 use crate::shortest::shortest_way;
 use crate::zones::Zone;
 use exec_graph::Steps;
-use plan_check::{Join, Need, joined, negated, spread};
+use plan_check::{Along, Join, Need, joined, negated, spread};
 use plan_witness::{RunStep, steps_along};
 use std::alloc::{AllocError, Global};
 use std::sync::ledger::Ledger;
@@ -190,7 +190,12 @@ pub(crate) fn endless<L: Ledger>(
         (steps_value n lasso.back.items)) }
 {
     let mut whole = Vec::from_slice(alloc, right)?;
-    spread(alloc, Need::Each, scene.graph, left, &mut whole, steps)?;
+    let along = Along {
+        graph: scene.graph,
+        need: Need::Each,
+        guard: left,
+    };
+    spread(alloc, &along, &mut whole, steps)?;
     match lasso_without(alloc, scene, right, number, steps)? {
         Some(lasso) => Ok(lasso),
         None => Ok(Lasso {

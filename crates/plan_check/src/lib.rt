@@ -27,5 +27,5 @@ pub use labelling::{Join, joined, negated, same_label};
 pub use laws::{
     one_context_verdict, one_verdict, reasons_exclude_freedom, yes_is_met, yes_is_solution,
 };
-pub use spreading::{Need, spread};
+pub use spreading::{Along, Need, spread};
 pub use verdicts::{Reason, Verdict};

@@ -52,10 +52,13 @@ pub enum Need {
 /// How a label goes back through a graph: to configurations of which one, or each, of the followers
 /// has it, and that are in the guard.
 #[derive(Clone, Copy)]
-pub(crate) struct Along<'a> {
-    pub(crate) graph: &'a Graph,
-    pub(crate) need: Need,
-    pub(crate) guard: &'a [bool],
+pub struct Along<'a> {
+    /// The graph of a plan.
+    pub graph: &'a Graph,
+    /// How many of the followers must have the label.
+    pub need: Need,
+    /// Which configurations may have it, by number.
+    pub guard: &'a [bool],
 }
 
 /// How far a label has spread: how many of the followers of each configuration lack it or weren't
