@@ -109,7 +109,9 @@ impl Words {
         self.want("exec");
         GroundAction {
             exec: self.condition(),
-            outcomes: (0..outcomes).map(|_| self.list("outcome", Words::change)).collect(),
+            outcomes: (0..outcomes)
+                .map(|_| self.list("outcome", Words::change))
+                .collect(),
         }
     }
 }
@@ -117,25 +119,43 @@ impl Words {
 fn read(path: &str) -> Problem {
     let text = std::fs::read_to_string(path).expect("a file");
     let mut lines = text.lines();
-    let count: usize = lines.next().unwrap().trim_start_matches("fluents ").parse().unwrap();
+    let count: usize = lines
+        .next()
+        .unwrap()
+        .trim_start_matches("fluents ")
+        .parse()
+        .unwrap();
     let fluents = lines.by_ref().take(count).map(str::to_string).collect();
     let words = lines.flat_map(|line| {
         // An action's name is of any words, and is left out.
-        let most = if line.starts_with("action ") { 2 } else { usize::MAX };
+        let most = if line.starts_with("action ") {
+            2
+        } else {
+            usize::MAX
+        };
         line.split_whitespace().take(most).map(str::to_string)
     });
-    let mut words = Words { words: words.collect(), place: 0 };
+    let mut words = Words {
+        words: words.collect(),
+        place: 0,
+    };
     let problem = Problem {
         fluents,
         actions: words.list("actions", Words::action),
         facts: words.list("init", |words| words.number() as usize),
-        entries: words.list("entries", |words| words.list("entry", |words| words.list("alt", Words::number))),
+        entries: words.list("entries", |words| {
+            words.list("entry", |words| words.list("alt", Words::number))
+        }),
         goal: {
             words.want("goal");
             words.condition()
         },
     };
-    assert_eq!(words.place, words.words.len(), "a problem with an invariant is not read");
+    assert_eq!(
+        words.place,
+        words.words.len(),
+        "a problem with an invariant is not read"
+    );
     problem
 }
 
@@ -144,7 +164,10 @@ fn variables(fluents: &[String]) -> Vec<u32> {
     let key = |name: &str| {
         let object = name.split_whitespace().nth(1).unwrap_or("").to_string();
         let digits: String = object.chars().filter(char::is_ascii_digit).collect();
-        let letters: String = object.chars().filter(|letter| !letter.is_ascii_digit()).collect();
+        let letters: String = object
+            .chars()
+            .filter(|letter| !letter.is_ascii_digit())
+            .collect();
         (letters, digits.parse::<u64>().unwrap_or(0))
     };
     let mut order: Vec<usize> = (0..fluents.len()).collect();
@@ -225,16 +248,23 @@ impl Sets {
             Operation::And(a, b) => self.ops.and(self.number(a), self.number(b)),
             Operation::Or(a, b) => self.ops.or(self.number(a), self.number(b)),
             Operation::Minus(a, b) => self.ops.minus(self.number(a), self.number(b)),
-            Operation::Cofactor(a, variable, value) => self.ops.cofactor(self.number(a), variable, value),
+            Operation::Cofactor(a, variable, value) => {
+                self.ops.cofactor(self.number(a), variable, value)
+            }
             Operation::Subst(a, map) => {
-                let numbers: Vec<(u32, Ref)> = map.iter().map(|entry| (entry.0, self.number(entry.1))).collect();
+                let numbers: Vec<(u32, Ref)> = map
+                    .iter()
+                    .map(|entry| (entry.0, self.number(entry.1)))
+                    .collect();
                 self.ops.subst(self.number(a), &numbers)
             }
         }
     }
 
     fn collect(&mut self) {
-        let live: Vec<Slot> = (0..self.slots.len()).filter(|&slot| self.slots[slot].is_some()).collect();
+        let live: Vec<Slot> = (0..self.slots.len())
+            .filter(|&slot| self.slots[slot].is_some())
+            .collect();
         let mut roots: Vec<Ref> = live.iter().map(|&slot| self.number(slot)).collect();
         self.ops.collect(&mut roots);
         for (slot, root) in live.into_iter().zip(roots) {
@@ -254,7 +284,11 @@ impl Sets {
         match answer {
             Ok(number) => self.store(number),
             Err(_) => {
-                println!("full collections {} left {}", self.collections, self.ops.table().len());
+                println!(
+                    "full collections {} left {}",
+                    self.collections,
+                    self.ops.table().len()
+                );
                 std::process::exit(5);
             }
         }
@@ -302,7 +336,11 @@ impl Encoded {
         let mut set = self.sets.constant(is_all);
         for part in parts {
             let other = self.of(part);
-            let operation = if is_all { Operation::And(set, other) } else { Operation::Or(set, other) };
+            let operation = if is_all {
+                Operation::And(set, other)
+            } else {
+                Operation::Or(set, other)
+            };
             set = self.sets.replace(set, operation);
             self.sets.end(other);
         }
@@ -325,7 +363,11 @@ impl Encoded {
 
     fn add_action(&mut self, action: &GroundAction) {
         let exec = self.of(&action.exec);
-        let outcomes = action.outcomes.iter().map(|changes| self.next_values(changes)).collect();
+        let outcomes = action
+            .outcomes
+            .iter()
+            .map(|changes| self.next_values(changes))
+            .collect();
         self.actions.push(ActionSets { exec, outcomes });
     }
 
@@ -333,7 +375,9 @@ impl Encoded {
         let mut made: BTreeMap<usize, [Slot; 2]> = BTreeMap::new();
         for change in changes {
             let set = self.of(&change.condition);
-            let both = made.entry(change.fluent).or_insert_with(|| [self.sets.constant(false), self.sets.constant(false)]);
+            let both = made
+                .entry(change.fluent)
+                .or_insert_with(|| [self.sets.constant(false), self.sets.constant(false)]);
             let mut place = both[change.positive as usize];
             place = self.sets.replace(place, Operation::Or(place, set));
             both[change.positive as usize] = place;
@@ -356,7 +400,9 @@ impl Encoded {
         by_variable.sort_by_key(|&fluent| std::cmp::Reverse(self.variables[fluent]));
         for fluent in by_variable {
             let literal = self.of_literal(fluent, problem.facts.contains(&fluent));
-            self.initial = self.sets.replace(self.initial, Operation::And(literal, self.initial));
+            self.initial = self
+                .sets
+                .replace(self.initial, Operation::And(literal, self.initial));
             self.sets.end(literal);
         }
         for entry in &problem.entries {
@@ -375,12 +421,19 @@ impl Encoded {
     fn with_literals(&mut self, literals: &[i64]) -> Slot {
         let mut values: BTreeMap<usize, bool> = BTreeMap::new();
         for literal in literals {
-            *values.entry(literal.unsigned_abs() as usize - 1).or_insert(false) |= *literal > 0;
+            *values
+                .entry(literal.unsigned_abs() as usize - 1)
+                .or_insert(false) |= *literal > 0;
         }
         let mut states = self.sets.copy(self.initial);
         for (fluent, value) in values {
-            let high = self.sets.make(Operation::Cofactor(states, self.variables[fluent], true));
-            states = self.sets.replace(states, Operation::Cofactor(states, self.variables[fluent], false));
+            let high = self
+                .sets
+                .make(Operation::Cofactor(states, self.variables[fluent], true));
+            states = self.sets.replace(
+                states,
+                Operation::Cofactor(states, self.variables[fluent], false),
+            );
             states = self.sets.replace(states, Operation::Or(states, high));
             self.sets.end(high);
             let literal = self.of_literal(fluent, value);
@@ -398,7 +451,11 @@ impl Encoded {
                 return rest;
             }
             let led = self.sets.make(Operation::Subst(target, outcome));
-            let operation = if is_inside { Operation::And(rest, led) } else { Operation::Minus(rest, led) };
+            let operation = if is_inside {
+                Operation::And(rest, led)
+            } else {
+                Operation::Minus(rest, led)
+            };
             rest = self.sets.replace(rest, operation);
             self.sets.end(led);
         }
@@ -414,7 +471,9 @@ impl Encoded {
             return self.strong(action, target);
         }
         let mut states = self.on_side(action, false, target);
-        states = self.sets.replace(states, Operation::Minus(self.actions[action].exec, states));
+        states = self
+            .sets
+            .replace(states, Operation::Minus(self.actions[action].exec, states));
         states
     }
 
@@ -441,9 +500,15 @@ struct Search {
 
 impl Search {
     fn hits(&self, encoded: &mut Encoded, action: usize, layer: Slot) -> Slot {
-        let mut hits = if self.is_strong { encoded.strong(action, layer) } else { encoded.weak(action, layer) };
+        let mut hits = if self.is_strong {
+            encoded.strong(action, layer)
+        } else {
+            encoded.weak(action, layer)
+        };
         if let Some(pairs) = &self.pairs {
-            hits = encoded.sets.replace(hits, Operation::And(hits, pairs[action]));
+            hits = encoded
+                .sets
+                .replace(hits, Operation::And(hits, pairs[action]));
         }
         hits
     }
@@ -457,7 +522,11 @@ impl Search {
     }
 
     /// Layers from the goal back until nothing is new, or until `stops` says so: the last one, and the steps.
-    fn spread(&self, encoded: &mut Encoded, stops: impl Fn(&mut Encoded, Slot) -> bool) -> (Slot, Vec<Step>) {
+    fn spread(
+        &self,
+        encoded: &mut Encoded,
+        stops: impl Fn(&mut Encoded, Slot) -> bool,
+    ) -> (Slot, Vec<Step>) {
         let mut steps = Vec::new();
         let mut spent = vec![false; encoded.actions.len()];
         let mut layer = encoded.sets.copy(encoded.goal);
@@ -492,7 +561,11 @@ impl Search {
     fn take(&self, encoded: &mut Encoded, steps: &[Step]) {
         let mut layer = encoded.sets.copy(encoded.goal);
         let mut next = encoded.sets.copy(layer);
-        let mut takers: Vec<Slot> = encoded.actions.iter().map(|_| encoded.sets.constant(false)).collect();
+        let mut takers: Vec<Slot> = encoded
+            .actions
+            .iter()
+            .map(|_| encoded.sets.constant(false))
+            .collect();
         for step in steps {
             let Step::Grow(action) = *step else {
                 layer = encoded.sets.put(layer, next);
@@ -500,7 +573,9 @@ impl Search {
             };
             let hits = self.hits(encoded, action, layer);
             let new = encoded.sets.make(Operation::Minus(hits, next));
-            takers[action] = encoded.sets.replace(takers[action], Operation::Or(takers[action], new));
+            takers[action] = encoded
+                .sets
+                .replace(takers[action], Operation::Or(takers[action], new));
             next = encoded.sets.replace(next, Operation::Or(next, hits));
             encoded.sets.end(new);
             encoded.sets.end(hits);
@@ -509,12 +584,18 @@ impl Search {
 }
 
 fn rounds_of(steps: &[Step]) -> usize {
-    steps.iter().filter(|step| matches!(step, Step::Advance)).count()
+    steps
+        .iter()
+        .filter(|step| matches!(step, Step::Advance))
+        .count()
 }
 
 /// Weak and strong plans: whether there is one, and the rounds.
 fn plan_by_layers(encoded: &mut Encoded, is_strong: bool) -> (bool, usize) {
-    let search = Search { is_strong, pairs: None };
+    let search = Search {
+        is_strong,
+        pairs: None,
+    };
     let (layer, steps) = search.spread(encoded, Encoded::covers_initial);
     let is_found = encoded.covers_initial(layer);
     if is_found {
@@ -543,9 +624,14 @@ fn keep_pairs(encoded: &mut Encoded, pairs: &mut [Slot], left: Slot) -> bool {
 /// Strong cyclic plans: whether there is one, and the rounds of all spreads.
 fn plan_cyclic(encoded: &mut Encoded) -> (bool, usize) {
     let outside = encoded.sets.make(Operation::Not(encoded.goal));
-    let pairs = (0..encoded.actions.len()).map(|_| encoded.sets.copy(outside)).collect();
+    let pairs = (0..encoded.actions.len())
+        .map(|_| encoded.sets.copy(outside))
+        .collect();
     let mut left = encoded.sets.constant(true);
-    let mut search = Search { is_strong: false, pairs: Some(pairs) };
+    let mut search = Search {
+        is_strong: false,
+        pairs: Some(pairs),
+    };
     keep_pairs(encoded, search.pairs.as_mut().unwrap(), left);
     let mut rounds = 0;
     loop {
@@ -567,11 +653,27 @@ fn plan_cyclic(encoded: &mut Encoded) -> (bool, usize) {
 fn main() {
     let words: Vec<String> = std::env::args().collect();
     let problem = read(&words[1]);
-    let limit = words.get(3).map_or(MOST_NODES, |word| word.parse().expect("a number of nodes"));
-    let ops = Ops::new(stand_in::Global, problem.fluents.len().max(1) as u32, limit).expect("memory");
-    let mut sets = Sets { ops, slots: Vec::new(), free: Vec::new(), operations: 0, collections: 0, most_left: 0 };
+    let limit = words
+        .get(3)
+        .map_or(MOST_NODES, |word| word.parse().expect("a number of nodes"));
+    let ops =
+        Ops::new(stand_in::Global, problem.fluents.len().max(1) as u32, limit).expect("memory");
+    let mut sets = Sets {
+        ops,
+        slots: Vec::new(),
+        free: Vec::new(),
+        operations: 0,
+        collections: 0,
+        most_left: 0,
+    };
     let (initial, goal) = (sets.constant(true), sets.constant(true));
-    let mut encoded = Encoded { sets, variables: variables(&problem.fluents), actions: Vec::new(), initial, goal };
+    let mut encoded = Encoded {
+        sets,
+        variables: variables(&problem.fluents),
+        actions: Vec::new(),
+        initial,
+        goal,
+    };
     encoded.add_initial(&problem);
     encoded.goal = encoded.of(&problem.goal);
     for action in &problem.actions {
