@@ -23,11 +23,4 @@ pub enum MistakeKind {
     Idle,
     /// The predicate is needed, and none of its atoms is ever true.
     NeverTrue,
-    /// No instance of the action can ever be taken: neither the one with this number, which is the
-    /// first, nor another.
-    NeverTaken(usize),
-    /// The action has no instance: facts that never change rule out each.
-    NoInstance,
-    /// The goal can never hold.
-    GoalNever,
 }

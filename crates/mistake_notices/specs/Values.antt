@@ -1,0 +1,40 @@
+-- Private: what the code's own types stand for.
+use Rattle.std.specs.Prelude.{ℕ, List, map, string_bytes}
+use Rattle.std.specs.Option.{option_map}
+use Rattle.mistake_notices.specs.Notices.{PlainNotice, PlainReport, PlainSource}
+use Rattle.mistake_notices.specs.Texts.{PlainFileNames}
+use Rattle.mistake_notices.specs.declared.messages.Source.{Source}
+use Rattle.mistake_notices.specs.declared.notices.FileNames.{FileNames}
+use Rattle.mistake_notices.specs.declared.notices.LimitName.{LimitName}
+use Rattle.mistake_notices.specs.declared.notices.Notice.{Notice}
+use Rattle.mistake_notices.specs.declared.notices.Report.{Report}
+
+abbrev pub notice_value : Notice → PlainNotice
+notice_value notice = record {
+  in_problem = notice.in_problem;
+  place = notice.place;
+  kind = notice.kind.now;
+  message = string_bytes notice.message;
+}
+
+abbrev pub name_of : LimitName → List ℕ
+name_of limit = limit.name.now
+
+abbrev pub report_value : Report → PlainReport
+report_value report = record {
+  notices = map notice_value report.notices.items;
+  limit = option_map name_of report.limit;
+}
+
+abbrev pub source_value : Source → PlainSource
+source_value source = record {
+  in_problem = source.in_problem;
+  text = source.text.now;
+  types = source.types.now;
+}
+
+abbrev pub names_value : FileNames → PlainFileNames
+names_value names = record {
+  domain = names.domain.now;
+  problem = names.problem.now;
+}

@@ -1,0 +1,119 @@
+//! The JSON document.
+
+ghost use Rattle.mistake_notices.specs.Texts.{
+  count_data,
+  document_text,
+  limit_data,
+  notice_data,
+  report_data,
+};
+ghost use Rattle.mistake_notices.specs.Values.{name_of, names_value, notice_value, report_value};
+ghost use Rattle.plan_rules.specs.Texts.{line_feed};
+ghost use Rattle.serde_json.specs.Data.{array};
+ghost use Rattle.serde_json.specs.View.{items_of, view};
+ghost use Rattle.serde_json.specs.Written.{compact_text, has_float};
+ghost use Rattle.std.specs.Option.{option_map};
+ghost use Rattle.std.specs.Prelude.{◌≡◌, ◌++◌, IfOk, false, map};
+
+use crate::notices::{FileNames, LimitName, Notice, Report};
+use crate::texts::file_of;
+use serde_json::{Map, Value, put};
+use std::alloc::{AllocError, Global};
+
+/// The document of all that is told: JSON in one line with a line feed at its end. It is an object with the
+/// members `limit`, a name or null, and `mistakes`, a list of objects with the members `column`, `file`,
+/// `kind`, `line` and `message`.
+pub fn report_document(
+    alloc: Global,
+    names: &FileNames<'_>,
+    report: &Report,
+) -> Result<Vec<u8>, AllocError>
+    ensures { IfOk result (λ text. text.items
+        ≡ document_text (names_value names.now) (report_value report.now)) }
+{
+    let value = document_value(alloc, names, report)?;
+    value_text(alloc, &value)
+}
+
+/// The text of a value, with a line feed at its end.
+fn value_text(alloc: Global, value: &Value) -> Result<Vec<u8>, AllocError>
+    ensures { has_float (view value.now) ≡ false
+        → IfOk result (λ text. text.items ≡ compact_text (view value.now) ++ line_feed) }
+{
+    let mut text = value.to_string(alloc)?;
+    text.push('\n')?;
+    Ok(text.into_bytes())
+}
+
+/// The document as a value.
+fn document_value(
+    alloc: Global,
+    names: &FileNames<'_>,
+    report: &Report,
+) -> Result<Value, AllocError>
+    ensures { IfOk result (λ value. view value
+        ≡ report_data (names_value names.now) (report_value report.now)) }
+{
+    let mistakes = notice_values(alloc, names, &report.notices)?;
+    let limit = limit_value(alloc, report.limit)?;
+    let mut members = Map::new(alloc);
+    put(&mut members, alloc, "mistakes", mistakes)?;
+    put(&mut members, alloc, "limit", limit)?;
+    Ok(Value::from(members))
+}
+
+/// The name of the limit, where one is passed.
+fn limit_value(alloc: Global, limit: Option<LimitName>) -> Result<Value, AllocError>
+    ensures { IfOk result (λ value.
+        view value ≡ limit_data (option_map name_of limit)) }
+{
+    match limit {
+        Some(limit) => Value::try_from_str(alloc, limit.name),
+        None => Ok(Value::Null),
+    }
+}
+
+/// The list of the mistakes.
+fn notice_values(
+    alloc: Global,
+    names: &FileNames<'_>,
+    notices: &[Notice],
+) -> Result<Value, AllocError>
+    ensures { IfOk result (λ value. view value ≡ array (items_of
+        (map (notice_data (names_value names.now)) (map notice_value notices.now)))) }
+{
+    let mut values = Vec::new(alloc);
+    for notice in notices {
+        values.push(notice_object(alloc, names, notice)?)?;
+    }
+    Ok(Value::from(values))
+}
+
+/// A mistake as an object.
+fn notice_object(alloc: Global, names: &FileNames<'_>, notice: &Notice) -> Result<Value, AllocError>
+    ensures { IfOk result (λ value.
+        view value ≡ notice_data (names_value names.now) (notice_value notice.now)) }
+{
+    let message = Value::try_from_str(alloc, &notice.message)?;
+    let kind = Value::try_from_str(alloc, notice.kind)?;
+    let file = Value::try_from_str(alloc, file_of(names, notice))?;
+    let mut members = Map::new(alloc);
+    put(&mut members, alloc, "message", message)?;
+    put(&mut members, alloc, "line", count_value(notice.place.line))?;
+    put(&mut members, alloc, "kind", kind)?;
+    put(&mut members, alloc, "file", file)?;
+    put(
+        &mut members,
+        alloc,
+        "column",
+        count_value(notice.place.column),
+    )?;
+    Ok(Value::from(members))
+}
+
+/// A number.
+fn count_value(count: u32) -> Value
+    ensures { view result ≡ count_data count }
+{
+    Value::from(u64::from(count))
+}

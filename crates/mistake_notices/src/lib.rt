@@ -1,0 +1,16 @@
+//! What is told of likely mistakes: the file and the place of each, its kind in a word, and what is the
+//! matter; as lines of text, and as a JSON document.
+//!
+//! `specs/Notices.antt` says what is told of each mistake, `specs/Texts.antt` which lines and which
+//! document that is.
+#![tactic(auto)]
+
+mod documents;
+mod messages;
+mod notices;
+mod texts;
+
+pub use documents::report_document;
+pub use messages::{Source, add_notices};
+pub use notices::{FileNames, LimitName, Notice, Report};
+pub use texts::report_text;
