@@ -6,3 +6,4 @@ pub mod Noted
 pub mod RunCubes
 pub mod Spelled
 pub mod Unlisted
+pub mod Marking

@@ -18,6 +18,7 @@ mod guards;
 mod laws;
 mod run_rules;
 mod served;
+mod serving;
 mod texts;
 
 pub use contexts::names_last_context;
@@ -25,4 +26,5 @@ pub use fits::is_plan_of;
 pub use guards::are_guarded;
 pub use laws::good_rules_control;
 pub use served::rules_serve;
+pub use serving::serving_part;
 pub use texts::write_controller;

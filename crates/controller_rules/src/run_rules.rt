@@ -9,6 +9,7 @@ ghost use Rattle.controller_rules.specs.Checks.{
   run_value,
 };
 ghost use Rattle.cube_index.specs.Places.{IsFirstTrue};
+ghost use Rattle.plan_document.specs.Faithful.{IsToldInFull, IsToldRule};
 ghost use Rattle.plan_guide.specs.RunRules.{in_one_context, run_rules};
 ghost use Rattle.plan_rules.specs.Plans.{IsPlanOf};
 ghost use Rattle.plan_rules.specs.Rules.{context_rule_of, plain_of, rule_of};
@@ -17,6 +18,8 @@ ghost use Rattle.std.specs.Prelude.{
   ◌<◌,
   ◌⊎◌,
   ℕ,
+  All,
+  IfNone,
   IfOk,
   IfSome,
   IsTrue,
@@ -61,6 +64,7 @@ impl<'a> RunRules<'a> {
         ensures rules { IfOk result (λ found. IfSome found (λ run.
             plain_rules run ≡ run_rules (plain_of plan.now))) }
         ensures indexed { IfOk result (λ found. IfSome found (AreIndexed (fluent_count task.now))) }
+        ensures none { IfOk result (λ found. IfNone found (IsToldInFull (plain_of plan.now) → ⊥)) }
     {
         // The task is read for its bound on fluents alone.
         let _bound = task.fluents.len();
@@ -75,7 +79,13 @@ impl<'a> RunRules<'a> {
     }
 
     /// The number of the first rule, from one number on, that counts in a state and a context.
-    fn next_counting(&self, task: &Task, state: &State, context: u32, from: usize) -> Option<usize>
+    pub(crate) fn next_counting(
+        &self,
+        task: &Task,
+        state: &State,
+        context: u32,
+        from: usize,
+    ) -> Option<usize>
         requires { AreIndexed (fluent_count task.now) self.now }
         ensures { IsFirstTrue
             (map (counts_at (place_of (fluent_count task.now) state.now context))
@@ -154,8 +164,9 @@ impl<'a> RunRules<'a> {
 
 /// The rules of a plan as they are run, in its order.
 fn rules_of(alloc: Global, plan: &Plan) -> Result<Option<Vec<RunRule<'_>>>, AllocError>
-    ensures { IfOk result (λ found. IfSome found (λ rules.
+    ensures rules { IfOk result (λ found. IfSome found (λ rules.
         map run_value rules.items ≡ run_rules (plain_of plan.now))) }
+    ensures none { IfOk result (λ found. IfNone found (IsToldInFull (plain_of plan.now) → ⊥)) }
 {
     match plan {
         Plan::Table(table) => Ok(Some(table_rules(alloc, &table.rules)?)),
@@ -182,8 +193,10 @@ fn table_rules(alloc: Global, rules: &[Rule]) -> Result<Vec<RunRule<'_>>, AllocE
 
 /// Those of an automaton.
 fn context_rules(alloc: Global, rules: &[AutoRule]) -> Result<Option<Vec<RunRule<'_>>>, AllocError>
-    ensures { IfOk result (λ found. IfSome found (λ made.
+    ensures rules { IfOk result (λ found. IfSome found (λ made.
         map run_value made.items ≡ map context_rule_of rules.now)) }
+    ensures none { IfOk result (λ found. IfNone found
+        (All IsToldRule (map context_rule_of rules.now) → ⊥)) }
 {
     let mut made = Vec::new(alloc);
     for rule in rules {

@@ -1,0 +1,10 @@
+pub mod Lists
+pub mod ApartCubes
+pub mod Marked
+pub mod Parts
+pub mod PrintedTables
+pub mod PrintedContexts
+pub mod Guarded
+pub mod ApartPlans
+pub mod PartGoals
+pub mod PartTexts

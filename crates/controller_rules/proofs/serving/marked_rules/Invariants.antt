@@ -1,0 +1,7 @@
+use Rattle.std.proofs.Common.{◌≡◌, map, take}
+use Rattle.plan_rules.specs.Rules.{rule_of}
+use Rattle.controller_rules.specs.Serving.{marked}
+use Rattle.controller_rules.proofs.serving.marked_rules.Given as goal
+
+abbrev pub invariant-loop-number : goal.invariant-loop-number
+invariant-loop-number l = map rule_of l.kept.items ≡ marked (take l.number l.marks) (map rule_of (take l.number l.rules))
