@@ -1,0 +1,3 @@
+mod AfterReading
+mod Answers
+mod Said

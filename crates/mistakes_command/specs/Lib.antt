@@ -1,0 +1,5 @@
+pub mod Mistakes
+pub mod ReadValues
+pub mod Runs
+pub mod Values
+pub mod Words
