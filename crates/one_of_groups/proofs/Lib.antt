@@ -1,0 +1,4 @@
+pub mod CaseLemmas
+pub mod Reached
+pub mod Soundness
+pub mod StartLemmas

@@ -1,0 +1,4 @@
+pub mod Cases
+pub mod Follows
+pub mod Groups
+pub mod Starts
