@@ -4,7 +4,7 @@ use Rattle.std.specs.List.{list_all}
 use Rattle.dd_sets.specs.Frames.{Owns}
 use Rattle.task_core.specs.Conditions.{ids_below}
 use Rattle.encode_task.proofs.PartLemmas.{all_hold, some_hold}
-use Rattle.encode_task.proofs.conditions.+set_where.Given as goal
+use Rattle.encode_task.proofs.conditions.+one_by_one.Given as goal
 
 abbrev pub invariant-loop-part : goal.invariant-loop-part
 invariant-loop-part l = record {
