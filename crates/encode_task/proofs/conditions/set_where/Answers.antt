@@ -1,5 +1,5 @@
 -- The parts one by one, where they found no room by halves.
-use Rattle.std.proofs.Common.{◌+◌, [], subst}
+use Rattle.std.proofs.Common.{◌+◌, subst}
 use Rattle.dd_sets.specs.Frames.{OwnsAnswer}
 use Rattle.task_core.specs.Conditions.{depth, holds}
 use Rattle.encode_task.proofs.HalfLemmas.{after_refusal, below_after, room_after, small_after}
