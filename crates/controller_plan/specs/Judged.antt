@@ -33,7 +33,7 @@ use Rattle.command_base.specs.Values.{bytes_of}
 use Rattle.command_base.specs.declared.answers.Text.{Text}
 use Rattle.command_base.specs.Reading.{file_limit}
 use Rattle.command_base.specs.Words.{Bytes, IsNodeLimit, PlanKind, of_class, with_contexts}
-use Rattle.controller_plan.specs.Controllers.{HasNoRoomToJudge, IsLimitPassed, IsProgramOf}
+use Rattle.controller_plan.specs.Controllers.{IsLimitPassed, IsProgramOf}
 use Rattle.controller_plan.specs.SetRoom.{IsTightForPlan}
 use Rattle.controller_words.specs.Words.{ControlWords}
 use Rattle.controller_words.specs.declared.shapes.Form.{Form}
@@ -92,12 +92,11 @@ IsJudgeRefusal kind nodes task plan refusal =
     (refusal ≡ no_memory)
     ⊎ (IsTightForPlan kind nodes task plan × (refusal ≡ full nodes))
 
--- want of memory, or a limit that is passed, for its cause, or a full table
+-- want of memory, or a limit that is passed, for its cause
 abbrev pub IsControlRefusal : ControlWords → DomainTree → ProblemTree → Refusal → Type 0
 IsControlRefusal asked domain problem refusal =
     (refusal ≡ no_memory)
     ⊎ ((name : Bytes) × IsLimitPassed asked domain problem name × (refusal ≡ over_limit name))
-    ⊎ (HasNoRoomToJudge asked domain problem × (refusal ≡ full asked.plan.options.nodes))
 
 -- what is shown of a plan with this text: the text, the document, or a program
 abbrev pub IsShownOver : Form → Task → PlainPlan → Bytes → Bytes → Type 0
@@ -129,24 +128,39 @@ pub record CanBeJudged (kind : PlanKind) (nodes : ℕ) (grounded : Grounded) : T
 abbrev pub text_over : Task → PlainPlan → List ℕ → Bytes
 text_over task plan steps = controller_text (fluent_names task) (action_names task) plan steps
 
--- a plan is shown that was judged, and whose text spells it and is no longer than a plan's file may be
-pub record IsJudgedShown (kind : PlanKind) (shape : Shape) (grounded : Grounded) (answer : Answer)
+-- a plan is shown, and its text spells it and is no longer than a plan's file may be
+pub record IsTextShown (shape : Shape) (grounded : Grounded) (plan : PlainPlan) (answer : Answer)
     : Type 0 where
-  pub plan : PlainPlan
   pub steps : List ℕ
-  pub judged : IsJudged kind grounded.task grounded.ctl plan
   pub spelled : SpellsPlain (fluent_names grounded.task) (action_names grounded.task)
       (text_over grounded.task plan steps) plan
   pub short : length (text_over grounded.task plan steps) ≤ file_limit
   pub guarded : IsGuardedOver shape.guarded grounded.task plan
   pub shown : IsAffirmedAs shape.form grounded.task plan (text_over grounded.task plan steps) answer
 
+-- the text of a plan is longer
+abbrev pub HasTextTooLong : Grounded → PlainPlan → List ℕ → Type 0
+HasTextTooLong grounded plan steps = file_limit < length (text_over grounded.task plan steps)
+
+-- a plan is shown that was judged
+pub record IsJudgedShown (kind : PlanKind) (shape : Shape) (grounded : Grounded) (answer : Answer)
+    : Type 0 where
+  pub plan : PlainPlan
+  pub judged : IsJudged kind grounded.task grounded.ctl plan
+  pub text : IsTextShown shape grounded plan answer
+
 -- a plan was judged whose text is longer
 pub record HasLongJudged (kind : PlanKind) (grounded : Grounded) : Type 0 where
   pub plan : PlainPlan
   pub steps : List ℕ
   pub judged : IsJudged kind grounded.task grounded.ctl plan
-  pub long : file_limit < length (text_over grounded.task plan steps)
+  pub long : HasTextTooLong grounded plan steps
+
+-- why the text of a plan isn't shown: want of memory, or its length
+abbrev pub IsTextRefusal : Grounded → PlainPlan → List ℕ → Refusal → Type 0
+IsTextRefusal grounded plan steps refusal =
+    (refusal ≡ no_memory)
+    ⊎ (HasTextTooLong grounded plan steps × (refusal ≡ over_limit (codes "file")))
 
 -- why no plan is shown that a search made: want of memory, or a text that is too long
 abbrev pub IsMadeRefusal : PlanKind → Grounded → Refusal → Type 0
@@ -154,19 +168,12 @@ IsMadeRefusal kind grounded refusal =
     (refusal ≡ no_memory)
     ⊎ (HasLongJudged kind grounded × (refusal ≡ over_limit (codes "file")))
 
--- the same where want of room to judge it is told, too
-abbrev pub IsRoomRefusal : PlanKind → ℕ → Grounded → PlainPlan → Refusal → Type 0
-IsRoomRefusal kind nodes grounded plan refusal =
-    IsMadeRefusal kind grounded refusal
-    ⊎ (IsTightForPlan kind nodes grounded.task plan × (refusal ≡ full nodes))
-
--- a limit that the plan in hand passes: there are too many initial states, or it reaches too many
--- configurations
-abbrev pub IsReachRefusal : Task → Type 0 → Refusal → Type 0
-IsReachRefusal task TooMany refusal =
-    (refusal ≡ no_memory)
-    ⊎ (HasTooManyInitial task most_followed × (refusal ≡ over_limit (codes "initial")))
-    ⊎ (TooMany × (refusal ≡ over_limit (codes "configurations")))
+-- the plan in hand is too much to be listed, which is the limit of this name: there are too many initial
+-- states, or it reaches too many configurations
+abbrev pub IsTooLarge : Task → PlainPlan → Bytes → Type 0
+IsTooLarge task plan name =
+    (HasTooManyInitial task most_followed × (name ≡ codes "initial"))
+    ⊎ (ReachesMoreThan (system_of task) plan most_followed × (name ≡ codes "configurations"))
 
 -- that there is no plan is told, with the text of a certificate, which spells it, or without
 abbrev pub IsNoPlanTold : Bool → List Name → PlainCertificate → Text → Type 0
