@@ -17,6 +17,7 @@
 //! `FairControllers` the answer, `Runs` a run with its cause, and `Laws` what follows of each run.
 #![tactic(auto)]
 
+mod allowances;
 mod commands;
 mod context_searches;
 mod fair;

@@ -9,6 +9,7 @@ ghost use Rattle.plan_theory.specs.Classes.{IsFoundByLayers};
 ghost use Rattle.std.specs.Prelude.{◌≡◌, ◌≤◌, IfOk, IfSome, IsSome, OnOk};
 ghost use Rattle.task_core.specs.Tasks.{action_count, fluent_count};
 
+use crate::allowances::allowance_for;
 use crate::context_searches::follow_contexts;
 use crate::followed::{Followed, TakerSets};
 use crate::staged::{follow_forward, follow_nearest};
@@ -233,14 +234,16 @@ fn follow_thoroughly(
     }
 }
 
-/// Looks for a plan of a class by a heuristic search which may do so much.
+/// Looks for a plan of a class by a heuristic search which may do so much, or less where conditions are
+/// large.
 fn seek_guided(
     alloc: Global,
     class: Class,
     task: &Task,
     allowance: &Allowance,
 ) -> Result<Searched, AllocError> {
-    match plan_guided(alloc, task, class, allowance)? {
+    let allowance = allowance_for(task, allowance);
+    match plan_guided(alloc, task, class, &allowance)? {
         GuidedAnswer::States(plan) => {
             outcome_of(follow_states(alloc, task, &StatePlan::Guided(plan)))
         }
