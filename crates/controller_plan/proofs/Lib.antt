@@ -5,7 +5,6 @@ pub mod FairRunLaws
 pub mod FoundPlans
 pub mod Limits
 pub mod NoPlans
-pub mod RuleRooms
 pub mod RunLaws
 pub mod ServedParts
 pub mod Tables

@@ -1,6 +1,6 @@
 -- Private: that a plan was judged, over its task.
 use Rattle.std.specs.Prelude.{◌≡◌, ◌≢◌, ◌++◌, ◌⊎◌, ◌<◌, ◌≤◌, ℕ, Bool, false, true, List, []}
-use Rattle.std.specs.Prelude.{Option, IfSome, IsTrue, codes, length}
+use Rattle.std.specs.Prelude.{All, Option, IfSome, IsSome, IsTrue, codes, length}
 use Rattle.controller_rules.specs.AsRun.{HasNoDeadRule, HasOneMove, NamesLastContext}
 use Rattle.controller_rules.specs.Guards.{AreGuarded}
 use Rattle.controller_rules.specs.Texts.{controller_text}
@@ -12,20 +12,22 @@ use Rattle.first_match.specs.FirstMatch.{AreGoodAsRun}
 use Rattle.ground_task.specs.declared.grounding.Grounded.{Grounded}
 use Rattle.pddl_ast.specs.Trees.{DomainTree, ProblemTree}
 use Rattle.plan_certs.specs.Certificates.{PlainCertificate}
+use Rattle.plan_certs.specs.Named.{AreSetsOf}
 use Rattle.plan_certs.specs.Readings.{SpellsPlain as SpellsCertificate}
 use Rattle.plan_certs.specs.Texts.{certificate_text}
 use Rattle.plan_check.specs.Verdicts.{SaysYes}
 use Rattle.plan_check.specs.declared.verdicts.Verdict.{Verdict}
 use Rattle.plan_document.specs.Documents.{document_text}
 use Rattle.plan_document.specs.Faithful.{IsToldInFull}
+use Rattle.plan_rules.specs.Plans.{IsRuleOf}
 use Rattle.plan_rules.specs.Readings.{SpellsPlain}
 use Rattle.plan_rules.specs.Rules.{PlainPlan, PlanRule, automaton, table}
 use Rattle.task_core.specs.Names.{Name}
-use Rattle.task_core.specs.Tasks.{action_names, fluent_count, fluent_names, initial_states}
+use Rattle.task_core.specs.Tasks.{action_count, action_names, fluent_count, fluent_names, initial_states}
 use Rattle.task_core.specs.Tasks.{system_of}
 use Rattle.task_core.specs.declared.classes.Class.{Class}
 use Rattle.task_core.specs.declared.tasks.Task.{Task}
-use Rattle.command_base.specs.Answers.{Answer, Refusal, affirmed, full, no_memory, over_limit}
+use Rattle.command_base.specs.Answers.{Answer, Refusal, affirmed, no_memory, over_limit}
 use Rattle.command_base.specs.Following.{most_followed}
 use Rattle.check_command.specs.Judged.{HasGoalIn, IsTaskVerdict}
 use Rattle.plan_command.specs.PlanCommand.{IsWrittenFor, no_plan_text}
@@ -34,7 +36,6 @@ use Rattle.command_base.specs.declared.answers.Text.{Text}
 use Rattle.command_base.specs.Reading.{file_limit}
 use Rattle.command_base.specs.Words.{Bytes, IsNodeLimit, PlanKind, of_class, with_contexts}
 use Rattle.controller_plan.specs.Controllers.{IsLimitPassed, IsProgramOf}
-use Rattle.controller_plan.specs.SetRoom.{IsTightForPlan}
 use Rattle.controller_words.specs.Words.{ControlWords}
 use Rattle.controller_words.specs.declared.shapes.Form.{Form}
 use Rattle.controller_words.specs.declared.shapes.Form.TheVariants.{Code, Json, Text as AsText}
@@ -61,6 +62,16 @@ pub record IsGoodOnSets (class : Class) (task : Task) (rules : List PlanRule) : 
   pub begins : initial_states task ≢ []
   pub good : AreGoodAsRun class (system_of task) rules
 
+-- rules can be judged on the sets of a task: it has a goal, and they are over its fluents and actions
+pub record IsTableOver (task : Task) (rules : List PlanRule) : Type 0 where
+  pub goal : IsSome task.goal
+  pub in_task : All (IsRuleOf (fluent_count task) (action_count task)) rules
+
+-- the same of a certificate
+pub record IsCertificateOver (task : Task) (certificate : PlainCertificate) : Type 0 where
+  pub goal : IsSome task.goal
+  pub in_task : AreSetsOf (fluent_count task) certificate.sets
+
 -- a table of a class is found good on sets
 abbrev pub IsTableGoodOnSets : PlanKind → Task → PlainPlan → Type 0
 IsTableGoodOnSets (of_class class) task (table written rules) = IsGoodOnSets class task rules
@@ -85,12 +96,6 @@ pub record IsJudged (kind : PlanKind) (task : Task) (goal : Option Ctl) (plan : 
   pub told : IsToldInFull plan
   pub contexts : NamesLastContext plan
   pub found : IsFoundGood kind task goal plan
-
--- want of memory, or a table for so many nodes that may be too small to judge the plan
-abbrev pub IsJudgeRefusal : PlanKind → ℕ → Task → PlainPlan → Refusal → Type 0
-IsJudgeRefusal kind nodes task plan refusal =
-    (refusal ≡ no_memory)
-    ⊎ (IsTightForPlan kind nodes task plan × (refusal ≡ full nodes))
 
 -- want of memory, or a limit that is passed, for its cause
 abbrev pub IsControlRefusal : ControlWords → DomainTree → ProblemTree → Refusal → Type 0

@@ -38,6 +38,7 @@ mod search_controllers;
 mod searches;
 mod served;
 mod set_judge;
+mod set_outcomes;
 mod sought;
 mod staged;
 mod state_plans;

@@ -1,13 +1,11 @@
 //! Controllers made of rules that a search found, each judged before it is shown. What they are judged by
 //! is a task with a goal.
 
-ghost use Rattle.command_base.specs.Answers.{no_memory};
 ghost use Rattle.command_base.specs.Values.{kind_of, refusal_of, shown_of};
 ghost use Rattle.command_base.specs.Words.{Bytes};
 ghost use Rattle.controller_plan.specs.Judged.{
   CanBeJudged,
   IsJudged,
-  IsJudgeRefusal,
   IsJudgedShown,
   IsMadeRefusal,
   IsAffirmedAs,
@@ -266,7 +264,7 @@ fn shown_if_good(
     ensures refused { IfErr result (λ refusal.
         IsMadeRefusal (kind_of wanted.now.kind) wanted.now.grounded.now (refusal_of refusal)) }
 {
-    if !is_judged_good(alloc, wanted, plan)? {
+    if !is_good(alloc, wanted, plan)? {
         return Ok(None);
     }
     let shown = shown_text(alloc, wanted, plan, steps)?;
@@ -274,7 +272,7 @@ fn shown_if_good(
 }
 
 /// Whether a plan is judged to be a controller. It isn't where there is no room to judge it.
-fn is_judged_good(alloc: Global, wanted: &Wanted<'_>, plan: &Plan) -> Result<bool, Refusal>
+fn is_good(alloc: Global, wanted: &Wanted<'_>, plan: &Plan) -> Result<bool, AllocError>
     requires { CanBeJudged (kind_of wanted.now.kind) wanted.now.nodes wanted.now.grounded.now }
     ensures judged { IfOk result (λ is. IsTrue is → IsJudged (kind_of wanted.now.kind)
         wanted.now.grounded.now.task wanted.now.grounded.now.ctl (plain_of plan.now)) }
@@ -283,28 +281,6 @@ fn is_judged_good(alloc: Global, wanted: &Wanted<'_>, plan: &Plan) -> Result<boo
         (action_count wanted.now.grounded.now.task) plan.now) }
     ensures guarded { IfOk result (λ is. IsTrue is → IsGuardedOver wanted.now.shape.guarded
         wanted.now.grounded.now.task (plain_of plan.now)) }
-    ensures refused { IfErr result (λ refusal. refusal_of refusal ≡ no_memory) }
-{
-    match is_good(alloc, wanted, plan) {
-        Ok(is) => Ok(is),
-        Err(Refusal::NoMemory) => Err(Refusal::NoMemory),
-        Err(_) => Ok(false),
-    }
-}
-
-/// Whether a plan is judged to be a controller.
-fn is_good(alloc: Global, wanted: &Wanted<'_>, plan: &Plan) -> Result<bool, Refusal>
-    requires { CanBeJudged (kind_of wanted.now.kind) wanted.now.nodes wanted.now.grounded.now }
-    ensures judged { IfOk result (λ is. IsTrue is → IsJudged (kind_of wanted.now.kind)
-        wanted.now.grounded.now.task wanted.now.grounded.now.ctl (plain_of plan.now)) }
-    ensures in_task { IfOk result (λ is. IsTrue is
-        → IsPlanOf (fluent_count wanted.now.grounded.now.task)
-        (action_count wanted.now.grounded.now.task) plan.now) }
-    ensures guarded { IfOk result (λ is. IsTrue is → IsGuardedOver wanted.now.shape.guarded
-        wanted.now.grounded.now.task (plain_of plan.now)) }
-    ensures refused { IfErr result (λ refusal. IsJudgeRefusal (kind_of wanted.now.kind)
-        wanted.now.nodes wanted.now.grounded.now.task (plain_of plan.now)
-        (refusal_of refusal)) }
 {
     if !is_guarded_if(wanted.shape.guarded, &wanted.grounded.task, plan) {
         return Ok(false);
