@@ -1,6 +1,6 @@
 -- Cubes by halves: what a literal adds to a cube, and what two halves of some cubes mean together.
 use Rattle.std.proofs.Common.{◌≡◌, ℕ, ◌+◌, ◌<◌, ◌/◌, ◌==◌, Bool, true, false, not, ◌&&◌, ◌||◌, List, [], ◌∷◌, ◌++◌, Vec, map, length, take, drop, take-append-drop, get_or, Result, Ok, Err, IsErrOf, refl, sym, ap, subst, ◌∙◌, arith}
-use Rattle.std.specs.List.{list_all, list_any}
+use Rattle.std.specs.List.{list_any}
 use Rattle.std.specs.declared.alloc.Global.{Global}
 use Rattle.std.proofs.lemmas.Bool.{eq-eqb, true≢false}
 use Rattle.std.proofs.lemmas.List.{drop-map, map-append, take-map}
@@ -25,8 +25,8 @@ use Rattle.plan_rules.specs.Plans.{IsCubeOf}
 use Rattle.board_steps.proofs.MakeLemmas.{at_any}
 use Rattle.slot_board.specs.Board.{At, Moved, Start, slot_at}
 use Rattle.slot_board.proofs.BoardSlots.{at_same}
-use Rattle.refute_cert.specs.Sets.{cube_set, literal_set, some_cube, states_in}
-use Rattle.refute_cert.specs.Sizes.{HasSet, HasUnion, SetFits}
+use Rattle.refute_cert.specs.Sets.{cube_set, literal_set, some_cube}
+use Rattle.refute_cert.specs.Sizes.{HasSet, HasUnion}
 
 same_true : (b : Bool) → b ≡ same_value b true
 same_true true = refl

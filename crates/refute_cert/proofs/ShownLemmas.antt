@@ -1,5 +1,5 @@
 -- What is on the board where a set adds nothing to the union.
-use Rattle.std.proofs.Common.{◌≡◌, ◌↔◌, IsTrue, Bool, true, false, length, take_all, refl, sym, ap, subst, ◌∙◌, arith}
+use Rattle.std.proofs.Common.{◌≡◌, length, take_all, sym, subst, ◌∙◌, arith}
 use Rattle.dd_nodes.specs.Subfunctions.{Function}
 use Rattle.dd_ops.specs.Operations.{minus_of}
 use Rattle.dd_sets.specs.declared.slots.SetId.{SetId}
@@ -7,7 +7,7 @@ use Rattle.dd_sets.proofs.OperationSizes.{difference_rough}
 use Rattle.encode_task.specs.Slots.{Encoded}
 use Rattle.task_core.specs.Tasks.{fluent_count}
 use Rattle.plan_certs.specs.Certificates.{CubeSet}
-use Rattle.slot_board.specs.Board.{Fits, IsSmall, Moved, Start, set_at}
+use Rattle.slot_board.specs.Board.{Fits, IsSmall, Moved, Start}
 use Rattle.refute_cert.specs.Sets.{states_in}
 use Rattle.refute_cert.specs.Sizes.{HasLeft, HasSet, HasUnion, IsBoard, SetFits}
 use Rattle.std.proofs.Common.{List, inr}

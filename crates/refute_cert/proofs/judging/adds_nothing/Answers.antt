@@ -1,4 +1,3 @@
-use Rattle.std.proofs.Common.{◌≡◌}
 use Rattle.std.proofs.lemmas.Bool.{false≢true}
 use Rattle.board_steps.proofs.StepLemmas.{ends_with}
 use Rattle.refute_cert.proofs.judging.adds_nothing.Goals as goal

@@ -1,4 +1,4 @@
-use Rattle.std.proofs.Common.{◌≡◌, ◌∙◌, arith, length, refl, subst, sym, take_all, true≢false}
+use Rattle.std.proofs.Common.{◌≡◌, arith, length}
 use Rattle.std.proofs.lemmas.Result.{err_from_is_err_and}
 use Rattle.plan_certs.specs.Named.{set_of}
 use Rattle.slot_board.proofs.BoardSlots.{same_actions, went}

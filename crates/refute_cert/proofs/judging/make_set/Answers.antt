@@ -1,4 +1,4 @@
-use Rattle.std.proofs.Common.{◌≡◌, ◌∙◌, Err, Ok, ap, arith, inl, length, refl, subst, sym}
+use Rattle.std.proofs.Common.{◌≡◌, Ok, arith, inl, length, refl, subst, sym}
 use Rattle.dd_sets.specs.Frames.{OwnsAnswer}
 use Rattle.dd_sets.specs.declared.errors.SetErr.TheVariants.{Full, Memory}
 use Rattle.plan_certs.specs.Named.{IsSetOf, set_of}

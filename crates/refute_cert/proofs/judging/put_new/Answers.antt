@@ -1,4 +1,4 @@
-use Rattle.std.proofs.Common.{◌≡◌, ◌∙◌, ap, arith, length, sym}
+use Rattle.std.proofs.Common.{◌≡◌, ◌∙◌, ap, arith, length}
 use Rattle.dd_ops.specs.Operations.{minus_of}
 use Rattle.slot_board.specs.Board.{set_at}
 use Rattle.slot_board.proofs.BoardSlots.{left_with}
