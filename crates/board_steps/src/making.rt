@@ -29,7 +29,7 @@ fn end(enc: &mut Enc, slot: SetId)
 }
 
 /// Ends the slot at a place, and puts there the one that was answered. A refusal is passed on.
-fn put(
+pub fn put(
     enc: &mut Enc,
     board: &mut Board,
     place: usize,

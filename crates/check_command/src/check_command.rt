@@ -153,14 +153,7 @@ fn judge_plan(
             },
         ));
     }
-    judge(
-        alloc,
-        asked.kind,
-        asked.problem,
-        problem,
-        grounded,
-        &read.plan,
-    )
+    judge(alloc, asked, problem, grounded, &read.plan)
 }
 
 /// Whether the plan is of the kind.
@@ -174,35 +167,34 @@ fn is_plan_of_kind(kind: PlanKind, plan: &Plan) -> bool
     }
 }
 
-/// The verdict on a plan of the kind, for the problem in the file of this name.
-pub fn judge(
+/// The verdict on a plan of the kind.
+fn judge(
     alloc: Global,
-    kind: PlanKind,
-    name: &str,
+    asked: &CheckWords,
     problem: &Problem,
     grounded: &Grounded,
     plan: &Plan,
 ) -> Result<Shown, Refusal>
-    requires goal { HasGoalIn (kind_of kind) grounded.now.task grounded.now.ctl }
+    requires goal { HasGoalIn (kind_of asked.now.kind) grounded.now.task grounded.now.ctl }
     requires goal_names { IfSome grounded.now.ctl
         (λ goal. NamesBelow (fluent_count grounded.now.task) (ctl_value goal)) }
     requires in_task { IsPlanOf (fluent_count grounded.now.task) (action_count grounded.now.task)
         plan.now }
-    requires of_kind { is_of_kind (kind_of kind) (plain_of plan.now) ≡ true }
+    requires of_kind { is_of_kind (kind_of asked.now.kind) (plain_of plan.now) ≡ true }
     ensures { (answer_of result ≡ refused no_memory)
         ⊎ ExploreThen (HasTooManyInitial grounded.now.task most_followed)
         (system_of grounded.now.task) (plain_of plan.now)
-        (InitialThen (empty_init name.now (problem_value problem.now))
+        (InitialThen (empty_init asked.now.problem.now (problem_value problem.now))
         (initial_states grounded.now.task)
-        (ShowsVerdict (IsTaskVerdict (kind_of kind) grounded.now.task grounded.now.ctl
+        (ShowsVerdict (IsTaskVerdict (kind_of asked.now.kind) grounded.now.task grounded.now.ctl
         (plain_of plan.now)))) (answer_of result) }
 {
     match explore(alloc, &grounded.task, plan) {
         Ok(graph) => {
             if graph.len() == 0 {
-                return Err(no_initial(alloc, name, problem)?);
+                return Err(no_initial(alloc, asked.problem, problem)?);
             }
-            let verdict = verdict_on(alloc, kind, grounded, &graph)?;
+            let verdict = verdict_on(alloc, asked.kind, grounded, &graph)?;
             Ok(show_verdict(alloc, &verdict)?)
         }
         Err(GraphErr::Initial) => Err(Refusal::OverLimit(Limit::Initial)),

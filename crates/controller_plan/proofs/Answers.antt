@@ -58,7 +58,7 @@ pub of_plan : (asked : ControlWords) (d : DomainTree) (p : ProblemTree) (a : Ans
     → (a ≡ refused no_memory) ⊎ (MayBeTooFew asked.plan d p × (a ≡ refused (full asked.plan.options.nodes))) ⊎ ControlThen asked d p a
 of_plan asked d p a none (inl memory) = inl memory
 of_plan asked d p a none (inr (inl few)) = inr (inl few)
-of_plan asked d p a none (inr (inr then)) = inr (inr (inr (inr (inr (inr (then, none))))))
+of_plan asked d p a none (inr (inr then)) = inr (inr (inr (inr (inr (then, none)))))
 
 pub denied_affirms_nothing : (text : Bytes) → AffirmsNothing (denied text)
 denied_affirms_nothing text other is = cc is
@@ -70,8 +70,7 @@ refused_affirms_nothing refusal other is = cc is
 pub limited : (asked : ControlWords) (d : DomainTree) (p : ProblemTree) (r : Refusal) → IsControlRefusal asked d p r
     → (refused r ≡ refused no_memory) ⊎ (MayBeTooFew asked.plan d p × (refused r ≡ refused (full asked.plan.options.nodes))) ⊎ ControlThen asked d p (refused r)
 limited asked d p r (inl memory) = inl (ap refused memory)
-limited asked d p r (inr (inl (name, passed, is))) = inr (inr (inr (inl (name, passed, ap refused is))))
-limited asked d p r (inr (inr (no_room, is))) = inr (inr (inr (inr (inl (no_room, ap refused is)))))
+limited asked d p r (inr (name, passed, is)) = inr (inr (inr (inl (name, passed, ap refused is))))
 
 -- an answer is one that a search found, or why none is shown
 pub controlled : (asked : ControlWords) (d : DomainTree) (p : ProblemTree) (r : Result Shown CodeRefusal) → IfOk r (λ shown. ControlThen asked d p (shown_of shown))
@@ -89,7 +88,7 @@ controller_then asked d p (Err refusal) is = tt
 
 pub refuted_then : (asked : ControlWords) (d : DomainTree) (p : ProblemTree) (r : Result (Option Shown) CodeRefusal) → IfOk r (λ found. IfSome found (λ shown. IsRefuted asked d p (shown_of shown)))
     → IfOk r (λ found. IfSome found (λ shown. ControlThen asked d p (shown_of shown)))
-refuted_then asked d p (Ok (Some shown)) is = inr (inr (inr (inl is)))
+refuted_then asked d p (Ok (Some shown)) is = inr (inr (inl is))
 refuted_then asked d p (Ok None) is = tt
 refuted_then asked d p (Err refusal) is = tt
 

@@ -160,10 +160,10 @@ module _ (asked : FairWords) (d : DomainTree) (p : ProblemTree) (goal : ContextG
 
   shown_fairly : FairGoalsAreTrue → (a : Answer) → IsFairlyShown asked.shape t goal a → IsFairShown asked d p wanted a
   shown_fairly law a shown =
-      let text = text_shown with_contexts asked.shape d p (with_goal t shown.made) a of shown.shown in
+      let text = text_shown asked.shape d p (with_goal t shown.made) shown.shown.plan a of shown.shown.text in
       record {
         plan = shown.shown.plan;
-        steps = shown.shown.steps;
+        steps = shown.shown.text.steps;
         text = record {
           controller = judged_fairly law shown.made shown.translated shown.shown.plan shown.shown.judged;
           spelled = text.spelled;
@@ -180,7 +180,7 @@ module _ (asked : FairWords) (d : DomainTree) (p : ProblemTree) (goal : ContextG
     plan = long.long.plan;
     steps = long.long.steps;
     controller = judged_fairly law long.made long.translated long.long.plan long.long.judged;
-    long = text_long with_contexts d p (with_goal t long.made) of long.long;
+    long = text_long d p (with_goal t long.made) long.long.plan long.long.steps of long.long.long;
   }
 
   had : CanBeHad (system_of t) (sets_of_goal goal) → CanBeHad (system d p) wanted

@@ -2,9 +2,10 @@ pub mod Answers
 pub mod FairAnswers
 pub mod FairGoalParts
 pub mod FairRunLaws
+pub mod FoundPlans
 pub mod Limits
 pub mod NoPlans
-pub mod RuleRooms
 pub mod RunLaws
+pub mod ServedParts
 pub mod Tables
 pub mod Yes

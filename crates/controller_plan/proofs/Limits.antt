@@ -9,7 +9,7 @@ use Rattle.task_core.specs.Names.{Name}
 use Rattle.task_core.specs.Systems.{System}
 use Rattle.task_core.specs.Tasks.{action_names as names_of_actions, fluent_names as names_of_fluents, system_of}
 use Rattle.task_core.specs.declared.tasks.Task.{Task}
-use Rattle.command_base.specs.Answers.{Refusal, affirmed, full, over_limit}
+use Rattle.command_base.specs.Answers.{Refusal, affirmed, over_limit}
 use Rattle.command_base.specs.Following.{most_followed}
 use Rattle.command_base.specs.Grounded.{IsTaskOf}
 use Rattle.plan_command.specs.PlanCommand.{PlanThen}
@@ -18,16 +18,8 @@ use Rattle.command_base.specs.Words.{Bytes, with_contexts}
 use Rattle.check_command.proofs.CheckAnswers.{too_many}
 use Rattle.command_base.proofs.TaskNames.{same_actions, same_fluents}
 use Rattle.controller_plan.specs.Controllers.{IsTooMuchToList, ReachesTooMany}
-use Rattle.controller_plan.specs.Judged.{HasNoGraph, IsControlRefusal, IsReachRefusal}
-use Rattle.controller_plan.specs.SetRoom.{IsTightForPlan}
+use Rattle.controller_plan.specs.Judged.{HasNoGraph, IsControlRefusal, IsTooLarge}
 use Rattle.controller_words.specs.Words.{ControlWords}
-
--- too many initial states, or configurations, of a plan with contexts
-pub reach_refusal : (asked : ControlWords) (d : DomainTree) (p : ProblemTree) (task : Task) (TooMany : Type 0) (r : Refusal) → IsTaskOf d p task → asked.plan.kind ≡ with_contexts
-    → (TooMany → ReachesTooMany asked d p) → IsReachRefusal task TooMany r → IsControlRefusal asked d p r
-reach_refusal asked d p task TooMany r of kind why (inl memory) = inl memory
-reach_refusal asked d p task TooMany r of kind why (inr (inl (many, is))) = inr (inl (codes "initial", inl (refl, kind, too_many d p task of.task_is many), is))
-reach_refusal asked d p task TooMany r of kind why (inr (inr (more, is))) = inr (inl (codes "configurations", inr (inl (refl, inl (kind, why more))), is))
 
 -- what has no graph is too much to be listed
 pub too_much : (d : DomainTree) (p : ProblemTree) (task : Task) (plan : PlainPlan) → IsTaskOf d p task → HasNoGraph task plan → IsTooMuchToList d p plan
@@ -48,24 +40,16 @@ plan_reaches asked d p task text plan of found spelled more = record {
 
 -- its text is too long
 pub long_plan : (asked : ControlWords) (d : DomainTree) (p : ProblemTree) (text : Bytes) (r : Refusal) → PlanThen asked.plan d p (affirmed text) → file_limit < length text → r ≡ over_limit (codes "file") → IsControlRefusal asked d p r
-long_plan asked d p text r found long is = inr (inl (codes "file", inr (inr (refl, inr (text, found, long))), is))
+long_plan asked d p text r found long is = inr (codes "file", inr (inr (refl, (text, found, long))), is)
 
--- a plan is found, and no controller was made of it
-pub not_made : (asked : ControlWords) (d : DomainTree) (p : ProblemTree) (text : Bytes) (r : Refusal) → PlanThen asked.plan d p (affirmed text) → r ≡ over_limit (codes "configurations") → IsControlRefusal asked d p r
-not_made asked d p text r found is = inr (inl (codes "configurations", inr (inl (refl, inr (text, found))), is))
+-- what is too large has no graph
+pub no_graph : (task : Task) (plan : PlainPlan) (name : Bytes) → IsTooLarge task plan name → HasNoGraph task plan
+no_graph task plan name (inl (many, is)) = inl many
+no_graph task plan name (inr (more, is)) = inr more
 
--- a plan of which the judge finds no room
-pub no_room : (asked : ControlWords) (d : DomainTree) (p : ProblemTree) (task : Task) (text : Bytes) (plan : PlainPlan) (r : Refusal) → IsTaskOf d p task → PlanThen asked.plan d p (affirmed text)
-    → SpellsPlain (names_of_fluents task) (names_of_actions task) text plan → IsTightForPlan asked.plan.kind asked.plan.options.nodes task plan → r ≡ full asked.plan.options.nodes
-    → IsControlRefusal asked d p r
-no_room asked d p task text plan r of found spelled tight is = inr (inr (
-  record {
-    text = text;
-    found = found;
-    plan = plan;
-    spelled = subst (λ (ns : List Name). SpellsPlain (fluent_names d p) ns text plan) (same_actions d p task of.task_is)
-        (subst (λ (ns : List Name). SpellsPlain ns (names_of_actions task) text plan) (same_fluents d p task of.task_is) spelled);
-    tight = (task, of, tight);
-  },
-  is,
-))
+-- the limit that the plan passes that `plan` finds, where it has contexts
+pub large_plan : (asked : ControlWords) (d : DomainTree) (p : ProblemTree) (task : Task) (text : Bytes) (plan : PlainPlan) (name : Bytes) (r : Refusal) → IsTaskOf d p task → asked.plan.kind ≡ with_contexts
+    → PlanThen asked.plan d p (affirmed text) → SpellsPlain (names_of_fluents task) (names_of_actions task) text plan → IsTooLarge task plan name → r ≡ over_limit name → IsControlRefusal asked d p r
+large_plan asked d p task text plan name r of kind found spelled (inl (many, is)) refusal = inr (name, inl (is, kind, too_many d p task of.task_is many), refusal)
+large_plan asked d p task text plan name r of kind found spelled (inr (more, is)) refusal =
+    inr (name, inr (inl (is, kind, plan_reaches asked d p task text plan of found spelled more)), refusal)

@@ -93,9 +93,8 @@ controller_for : (asked : ControlWords) (d : DomainTree) (p : ProblemTree) (a : 
     → ControlThen asked d p a → IsControllerShown asked d p a
 controller_for asked d p a text is shown (inl controller) = controller
 controller_for asked d p a text is shown (inr (inl (name, is_name, refused_is))) = absurd (not_refused _ a refused_is shown)
-controller_for asked d p a text is shown (inr (inr (inl (no_room, refused_is)))) = absurd (not_refused _ a refused_is shown)
-controller_for asked d p a text is shown (inr (inr (inr (inl refuted)))) = absurd (denied_affirms_nothing refuted.text text (sym refuted.shown ∙ is))
-controller_for asked d p a text is shown (inr (inr (inr (inr (plan, none))))) = absurd (none text is)
+controller_for asked d p a text is shown (inr (inr (inl refuted))) = absurd (denied_affirms_nothing refuted.text text (sym refuted.shown ∙ is))
+controller_for asked d p a text is shown (inr (inr (inr (plan, none)))) = absurd (none text is)
 
 -- what is told where there is no plan
 pub record MissingFor (asked : ControlWords) (d : DomainTree) (p : ProblemTree) (a : Answer) : Type 0 where
@@ -142,9 +141,8 @@ missing_for : (asked : ControlWords) (d : DomainTree) (p : ProblemTree) (a : Ans
     → ControlThen asked d p a → MissingFor asked d p a
 missing_for asked d p a may shown none (inl controller) = absurd (none _ controller.shown)
 missing_for asked d p a may shown none (inr (inl (name, is_name, is))) = absurd (not_refused _ a is shown)
-missing_for asked d p a may shown none (inr (inr (inl (no_room, is)))) = absurd (not_refused _ a is shown)
-missing_for asked d p a may shown none (inr (inr (inr (inl refuted)))) = record { text = refuted.text; shown = refuted.shown; none = refuted.none; told = refuted.told }
-missing_for asked d p a may shown none (inr (inr (inr (inr (plan, nothing))))) =
+missing_for asked d p a may shown none (inr (inr (inl refuted))) = record { text = refuted.text; shown = refuted.shown; none = refuted.none; told = refuted.told }
+missing_for asked d p a may shown none (inr (inr (inr (plan, nothing)))) =
     plan_missing asked d p a may none (result_missing asked.plan.kind asked.plan.certified asked.plan.problem d p a shown plan)
 
 module _ {S : Type 0} (held : S → Bytes → Held) (faults : S → ℕ) (fetched : S → Bytes → S → Type 0) (run : ControlRun S) (has : HasControlled held faults fetched run) where

@@ -1,5 +1,5 @@
 -- What is judged to be good is a controller.
-use Rattle.std.proofs.Common.{◌≡◌, ◌↔◌, ◌<◌, ◌≤◌, ◌∙◌, ap, ℕ, Bool, false, true, List, length, refl, subst, sym, Option, None, Some, inl, inr}
+use Rattle.std.proofs.Common.{◌≡◌, ◌↔◌, ◌<◌, ◌≤◌, ◌∙◌, ap, ℕ, Bool, false, true, List, length, refl, subst, sym, arith, Option, None, Some, inl, inr}
 use Rattle.std.specs.Prelude.{codes, Err, IfErr, IfOk, IfSome, IsTrue, Ok, Result, Vec}
 use Rattle.std.specs.declared.alloc.Global.{Global}
 use Rattle.controller_rules.specs.AsRun.{HasNoDeadRule, HasNoHiddenRule, HasOneMove, NamesLastContext}
@@ -24,7 +24,7 @@ use Rattle.plan_rules.specs.Rules.{PlainPlan, PlanRule, automaton, plain_of, tab
 use Rattle.task_core.specs.Names.{Name}
 use Rattle.task_core.specs.Systems.{IsSystem, System}
 use Rattle.task_core.specs.Tasks.{action_names as names_of_actions, fluent_names as names_of_fluents}
-use Rattle.command_base.specs.Answers.{Answer, Refusal, affirmed}
+use Rattle.command_base.specs.Answers.{Answer, Refusal, affirmed, no_memory}
 use Rattle.command_base.specs.Grounded.{IsGroundedOf, IsTaskOf}
 use Rattle.command_base.specs.Grounding.{has_goal_for}
 use Rattle.check_command.specs.Judged.{HasGoalIn, IsTaskVerdict}
@@ -38,9 +38,9 @@ use Rattle.command_base.specs.Words.{Bytes, PlanKind, of_class, with_contexts}
 use Rattle.check_command.proofs.CheckAnswers.{goal_in, verdict_for}
 use Rattle.check_command.proofs.YesMeets.{YesSolves, yes_is_met}
 use Rattle.command_base.proofs.TaskNames.{same_actions, same_fluents}
-use Rattle.controller_plan.specs.Controllers.{HasLongText, IsController, IsControllerShown, IsGuardedFor, IsProgramOf, IsShownAs, run_meaning, text_for}
-use Rattle.controller_plan.specs.Judged.{CanBeJudged, HasLongJudged, HasNoGraph, IsControlRefusal, IsFoundGood, IsGoodAlong, IsJudged, IsJudgedShown, IsMadeRefusal, IsRoomRefusal, IsTableGoodOnSets, IsAffirmedAs, IsGuardedOver, IsShownOver, text_over}
-use Rattle.controller_plan.proofs.Limits.{no_room, too_much}
+use Rattle.controller_plan.specs.Controllers.{IsController, IsControllerShown, IsGuardedFor, IsProgramOf, IsShownAs, run_meaning, text_for}
+use Rattle.controller_plan.specs.Judged.{CanBeJudged, HasLongJudged, HasNoGraph, IsControlRefusal, IsFoundGood, IsGoodAlong, HasTextTooLong, IsJudged, IsJudgedShown, IsMadeRefusal, IsTableGoodOnSets, IsAffirmedAs, IsGuardedOver, IsShownOver, IsTextRefusal, IsTextShown, text_over}
+use Rattle.controller_plan.proofs.Limits.{too_much}
 use Rattle.controller_plan.specs.Sought.{IsFoundFor, IsReady, IsRefusedFor, IsShownFor, JudgedPlansControl, wanted_for}
 use Rattle.controller_words.specs.Values.{control_words_of}
 use Rattle.controller_words.specs.Words.{ControlWords}
@@ -69,7 +69,7 @@ verdict_meets true_goals law kind d p g plan (Yes bound) of verdict says =
 verdict_meets true_goals law kind d p g plan (No reason) of verdict never = absurd never
 
 -- what meets the problem as it is read does so as it is run, where it has one move
-runs : (kind : PlanKind) (d : DomainTree) (p : ProblemTree) (plan : PlainPlan) → PlanMeets kind d p plan → HasOneMove (system d p) plan
+pub runs : (kind : PlanKind) (d : DomainTree) (p : ProblemTree) (plan : PlainPlan) → PlanMeets kind d p plan → HasOneMove (system d p) plan
     → Meets kind d p (run_meaning (system d p) plan)
 runs (of_class class) d p (table written rules) (meaning, (follow, is), met) one =
     let here = subst (Meets (of_class class) d p) is met in
@@ -160,26 +160,26 @@ pub record ShownText (shape : Shape) (d : DomainTree) (p : ProblemTree) (plan : 
   pub shown_as : IsShownAs shape.form d p plan steps bytes
   pub shown : a ≡ affirmed bytes
 
-pub text_shown : (kind : PlanKind) (shape : Shape) (d : DomainTree) (p : ProblemTree) (g : Grounded) (a : Answer) → IsTaskOf d p g.task → (shown : IsJudgedShown kind shape g a)
-    → ShownText shape d p shown.plan shown.steps a
-text_shown kind shape d p g a of shown =
+pub text_shown : (shape : Shape) (d : DomainTree) (p : ProblemTree) (g : Grounded) (plan : PlainPlan) (a : Answer) → IsTaskOf d p g.task → (shown : IsTextShown shape g plan a)
+    → ShownText shape d p plan shown.steps a
+text_shown shape d p g plan a of shown =
     let P : List Name → List Name → Type 0 = λ (xs ys : List Name).
-    (length (controller_text xs ys shown.plan shown.steps) ≤ file_limit) × SpellsPlain xs ys (controller_text xs ys shown.plan shown.steps) shown.plan in
+    (length (controller_text xs ys plan shown.steps) ≤ file_limit) × SpellsPlain xs ys (controller_text xs ys plan shown.steps) plan in
     let all : P (fluent_names d p) (action_names d p) = subst (λ (ys : List Name). P (fluent_names d p) ys) (same_actions d p g.task of.task_is)
     (subst (λ (xs : List Name). P xs (names_of_actions g.task)) (same_fluents d p g.task of.task_is) (shown.short, shown.spelled)) in
     record {
       spelled = all.1;
       short = all.0;
-      guarded = guarded_for shape.guarded d p g.task shown.plan of shown.guarded;
+      guarded = guarded_for shape.guarded d p g.task plan of shown.guarded;
       bytes = shown.shown.bytes;
-      shown_as = by_form shape.form d p g.task shown.plan shown.steps shown.shown.bytes of shown.shown.shown_as;
+      shown_as = by_form shape.form d p g.task plan shown.steps shown.shown.bytes of shown.shown.shown_as;
       shown = shown.shown.shown;
     }
 
-pub text_long : (kind : PlanKind) (d : DomainTree) (p : ProblemTree) (g : Grounded) → IsTaskOf d p g.task → (judged : HasLongJudged kind g) → file_limit < length (text_for d p judged.plan judged.steps)
-text_long kind d p g of judged =
-    subst (λ (ys : List Name). file_limit < length (controller_text (fluent_names d p) ys judged.plan judged.steps)) (same_actions d p g.task of.task_is)
-    (subst (λ (xs : List Name). file_limit < length (controller_text xs (names_of_actions g.task) judged.plan judged.steps)) (same_fluents d p g.task of.task_is) judged.long)
+pub text_long : (d : DomainTree) (p : ProblemTree) (g : Grounded) (plan : PlainPlan) (steps : List ℕ) → IsTaskOf d p g.task → HasTextTooLong g plan steps → file_limit < length (text_for d p plan steps)
+text_long d p g plan steps of long =
+    subst (λ (ys : List Name). file_limit < length (controller_text (fluent_names d p) ys plan steps)) (same_actions d p g.task of.task_is)
+    (subst (λ (xs : List Name). file_limit < length (controller_text xs (names_of_actions g.task) plan steps)) (same_fluents d p g.task of.task_is) long)
 
 -- what is shown in a form
 pub text_affirmed : (form : Form) (t : Task) (plan : PlainPlan) (bytes : Bytes) (a : Answer) → form ≡ AsText → a ≡ affirmed bytes → IsAffirmedAs form t plan bytes a
@@ -193,22 +193,15 @@ pub ok_holds : {E Fact : Type 0} (r : Result Bool E) → Fact → IfOk r (λ is.
 ok_holds (Ok is) fact = λ true_is. fact
 ok_holds (Err refusal) fact = tt
 
-pub made_room : (kind : PlanKind) (nodes : ℕ) (g : Grounded) (plan : PlainPlan) (r : Result (Option Shown) CodeRefusal) → IfErr r (λ refusal. IsMadeRefusal kind g (refusal_of refusal))
-    → IfErr r (λ refusal. IsRoomRefusal kind nodes g plan (refusal_of refusal))
-made_room kind nodes g plan (Ok found) is = tt
-made_room kind nodes g plan (Err refusal) is = inl is
-
--- what is shown of a plan that was judged
-pub is_shown : (kind : PlanKind) (shape : Shape) (g : Grounded) (plan : PlainPlan) (steps : List ℕ) (found : Option (Vec ℕ Global)) (bytes : Vec ℕ Global) (a : Answer)
-    → IsJudged kind g.task g.ctl plan → IsGuardedOver shape.guarded g.task plan → found ≡ Some bytes → IsTextWithin file_limit (text_over g.task plan steps) found
+-- what is shown of a plan whose text is no longer than it may be
+pub is_shown : (shape : Shape) (g : Grounded) (plan : PlainPlan) (steps : List ℕ) (found : Option (Vec ℕ Global)) (bytes : Vec ℕ Global) (a : Answer)
+    → IsGuardedOver shape.guarded g.task plan → found ≡ Some bytes → IsTextWithin file_limit (text_over g.task plan steps) found
     → SpellsPlain (names_of_fluents g.task) (names_of_actions g.task) (text_over g.task plan steps) plan
-    → IsAffirmedAs shape.form g.task plan bytes.items a → IsJudgedShown kind shape g a
-is_shown kind shape g plan steps found bytes a judged guarded is within spells shown =
+    → IsAffirmedAs shape.form g.task plan bytes.items a → IsTextShown shape g plan a
+is_shown shape g plan steps found bytes a guarded is within spells shown =
     let text = text_is file_limit (text_over g.task plan steps) found bytes is within in
     record {
-      plan = plan;
       steps = steps;
-      judged = judged;
       spelled = spells;
       short = text.1;
       guarded = guarded;
@@ -216,57 +209,44 @@ is_shown kind shape g plan steps found bytes a judged guarded is within spells s
     }
 
 -- and where its text is too long, that is so
-pub is_long : (kind : PlanKind) (g : Grounded) (plan : PlainPlan) (steps : List ℕ) (found : Option (Vec ℕ Global))
-    → IsJudged kind g.task g.ctl plan → found ≡ None → IsTextWithin file_limit (text_over g.task plan steps) found → HasLongJudged kind g
-is_long kind g plan steps found judged is within =
-    record { plan = plan; steps = steps; judged = judged; long = subst (IsTextWithin file_limit (text_over g.task plan steps)) is within }
+pub is_long : (g : Grounded) (plan : PlainPlan) (steps : List ℕ) (found : Option (Vec ℕ Global)) → found ≡ None → IsTextWithin file_limit (text_over g.task plan steps) found → HasTextTooLong g plan steps
+is_long g plan steps found is within = subst (IsTextWithin file_limit (text_over g.task plan steps)) is within
+
+-- why the text of a plan that was judged isn't shown
+pub text_refusal : (kind : PlanKind) (g : Grounded) (plan : PlainPlan) (steps : List ℕ) (r : Refusal) → IsJudged kind g.task g.ctl plan → IsTextRefusal g plan steps r → IsMadeRefusal kind g r
+text_refusal kind g plan steps r judged (inl memory) = inl memory
+text_refusal kind g plan steps r judged (inr (long, is)) = inr (record { plan = plan; steps = steps; judged = judged; long = long }, is)
+
+-- a text that is short enough is refused for want of memory alone
+pub short_refusal : (g : Grounded) (plan : PlainPlan) (steps : List ℕ) (r : Refusal) → length (text_over g.task plan steps) ≤ file_limit → IsTextRefusal g plan steps r → r ≡ no_memory
+short_refusal g plan steps r short (inl memory) = memory
+short_refusal g plan steps r short (inr (long, is)) = absurd (omega (arith, short, long))
 
 -- a plan that was judged for the task of a problem is a controller for the problem
-module _ (control : JudgedPlansControl) (asked : ControlWords) (d : DomainTree) (p : ProblemTree) (g : Grounded) (of : IsGroundedOf d p g) where
-  shown_controller : (a : Answer) → IsJudgedShown asked.plan.kind asked.shape g a → IsControllerShown asked d p a
-  shown_controller a shown =
-      let text = text_shown asked.plan.kind asked.shape d p g a of.of_task shown in
+module _ (asked : ControlWords) (d : DomainTree) (p : ProblemTree) (g : Grounded) (of : IsGroundedOf d p g) where
+  -- what is shown of a controller
+  pub text_controller : (plan : PlainPlan) (a : Answer) → IsController asked.plan.kind d p plan → IsTextShown asked.shape g plan a → IsControllerShown asked d p a
+  text_controller plan a controller shown =
+      let text = text_shown asked.shape d p g plan a of.of_task shown in
       record {
-        plan = shown.plan;
+        plan = plan;
         steps = shown.steps;
-        text = record {
-          controller = control asked.plan.kind d p g shown.plan of shown.judged;
-          spelled = text.spelled;
-          short = text.short;
-        };
+        text = record { controller = controller; spelled = text.spelled; short = text.short };
         guarded = text.guarded;
         bytes = text.bytes;
         shown_as = text.shown_as;
         shown = text.shown;
       }
 
-  long_controller : HasLongJudged asked.plan.kind g → HasLongText asked.plan.kind d p
-  long_controller judged = record {
-    plan = judged.plan;
-    steps = judged.steps;
-    controller = control asked.plan.kind d p g judged.plan of judged.judged;
-    long = text_long asked.plan.kind d p g of.of_task judged;
-  }
+  module _ (control : JudgedPlansControl) where
+    shown_controller : (a : Answer) → IsJudgedShown asked.plan.kind asked.shape g a → IsControllerShown asked d p a
+    shown_controller a shown = text_controller shown.plan a (control asked.plan.kind d p g shown.plan of shown.judged) shown.text
 
-  made_refusal : (r : Refusal) → IsMadeRefusal asked.plan.kind g r → IsControlRefusal asked d p r
-  made_refusal r (inl memory) = inl memory
-  made_refusal r (inr (long, is)) = inr (inl (codes "file", inr (inr (refl, inl (long_controller long))), is))
-
-  made_shown : (r : Result (Option Shown) CodeRefusal) → IfOk r (λ found. IfSome found (λ shown. IsJudgedShown asked.plan.kind asked.shape g (shown_of shown)))
-      → IfOk r (λ found. IfSome found (λ shown. IsControllerShown asked d p (shown_of shown)))
-  made_shown (Ok (Some shown)) is = shown_controller (shown_of shown) is
-  made_shown (Ok None) is = tt
-  made_shown (Err refusal) is = tt
-
-  made_refused : (r : Result (Option Shown) CodeRefusal) → IfErr r (λ refusal. IsMadeRefusal asked.plan.kind g (refusal_of refusal)) → IfErr r (λ refusal. IsControlRefusal asked d p (refusal_of refusal))
-  made_refused (Ok found) is = tt
-  made_refused (Err refusal) is = made_refusal (refusal_of refusal) is
-
-  -- the plan that `plan` finds, of which a text may be too long, or the judge may find no room
-  found_refusal : (text : Bytes) (plan : PlainPlan) (r : Refusal) → PlanThen asked.plan d p (affirmed text)
-      → SpellsPlain (names_of_fluents g.task) (names_of_actions g.task) text plan → IsRoomRefusal asked.plan.kind asked.plan.options.nodes g plan r → IsControlRefusal asked d p r
-  found_refusal text plan r found spelled (inl why) = made_refusal r why
-  found_refusal text plan r found spelled (inr (tight, is)) = no_room asked d p g.task text plan r of.of_task found spelled tight is
+    made_shown : (r : Result (Option Shown) CodeRefusal) → IfOk r (λ found. IfSome found (λ shown. IsJudgedShown asked.plan.kind asked.shape g (shown_of shown)))
+        → IfOk r (λ found. IfSome found (λ shown. IsControllerShown asked d p (shown_of shown)))
+    made_shown (Ok (Some shown)) is = shown_controller (shown_of shown) is
+    made_shown (Ok None) is = tt
+    made_shown (Err refusal) is = tt
 
 -- the same of what is looked for
 module _ (control : JudgedPlansControl) (s : Sought) (ready : IsReady s) (w : Wanted) (is : w ≡ wanted_for s) where
@@ -290,15 +270,5 @@ module _ (control : JudgedPlansControl) (s : Sought) (ready : IsReady s) (w : Wa
   pub shown_for : (r : Result (Option Shown) CodeRefusal) → IfOk r (λ found. IfSome found (λ shown. IsJudgedShown (kind_of w.kind) w.shape w.grounded.now (shown_of shown)))
       → IfOk r (λ found. IfSome found (IsShownFor s))
   shown_for r shown =
-      made_shown control words domain problem s.grounded.now ready.grounded r
+      made_shown words domain problem s.grounded.now ready.grounded control r
       (subst (λ (x : Wanted). IfOk r (λ found. IfSome found (λ shown. IsJudgedShown (kind_of x.kind) x.shape x.grounded.now (shown_of shown)))) is shown)
-
-  pub refused_for : (r : Result (Option Shown) CodeRefusal) → IfErr r (λ refusal. IsMadeRefusal (kind_of w.kind) w.grounded.now (refusal_of refusal)) → IfErr r (IsRefusedFor s)
-  refused_for r refused =
-      made_refused control words domain problem s.grounded.now ready.grounded r
-      (subst (λ (x : Wanted). IfErr r (λ refusal. IsMadeRefusal (kind_of x.kind) x.grounded.now (refusal_of refusal))) is refused)
-
-  pub found_for : (f : Found) (r : CodeRefusal) → IsFoundFor s f → IsRoomRefusal (kind_of w.kind) w.nodes w.grounded.now (plain_of f.plan.now) (refusal_of r) → IsRefusedFor s r
-  found_for f r found room =
-      found_refusal control words domain problem s.grounded.now ready.grounded f.text.now (plain_of f.plan.now) (refusal_of r) found.by_plan found.spelled
-      (subst (λ (x : Wanted). IsRoomRefusal (kind_of x.kind) x.nodes x.grounded.now (plain_of f.plan.now) (refusal_of r)) is room)

@@ -34,7 +34,6 @@ use Rattle.command_base.specs.PddlTexts.{ReadBoth}
 use Rattle.plan_command.specs.PlanCommand.{HasNoPlan, IsWrittenFor, MayRunOut, PlanThen, no_plan_text}
 use Rattle.command_base.specs.Reading.{file_limit}
 use Rattle.command_base.specs.Words.{Bytes, PlanKind, of_class, with_contexts}
-use Rattle.controller_plan.specs.SetRoom.{IsTightForPlan}
 use Rattle.controller_words.specs.Words.{ControlWords}
 use Rattle.controller_words.specs.declared.shapes.Form.{Form}
 use Rattle.controller_words.specs.declared.shapes.Form.TheVariants.{Code, Json, Text as AsText}
@@ -118,13 +117,6 @@ pub record IsControllerShown (asked : ControlWords) (domain : DomainTree) (probl
   pub shown_as : IsShownAs asked.shape.form domain problem plan steps bytes
   pub shown : answer ≡ affirmed bytes
 
--- a controller was found, and its text is longer than a plan's file may be
-pub record HasLongText (kind : PlanKind) (domain : DomainTree) (problem : ProblemTree) : Type 0 where
-  pub plan : PlainPlan
-  pub steps : List ℕ
-  pub controller : IsController kind domain problem plan
-  pub long : file_limit < length (text_for domain problem plan steps)
-
 -- the plan that `plan` finds reaches more configurations than are followed
 pub record ReachesTooMany (asked : ControlWords) (domain : DomainTree)
     (problem : ProblemTree) : Type 0 where
@@ -134,41 +126,22 @@ pub record ReachesTooMany (asked : ControlWords) (domain : DomainTree)
   pub spelled : SpellsPlain (fluent_names domain problem) (action_names domain problem) text plan
   pub more : ReachesMoreThan (system domain problem) plan most_followed
 
--- `plan` finds a plan
-abbrev pub FindsPlan : ControlWords → DomainTree → ProblemTree → Type 0
-FindsPlan asked domain problem =
-    (text : Bytes) × PlanThen asked.plan domain problem (affirmed text)
-
 -- the text of the plan that `plan` finds is longer than a plan's file may be
 abbrev pub FindsLongPlan : ControlWords → DomainTree → ProblemTree → Type 0
 FindsLongPlan asked domain problem =
     (text : Bytes) × PlanThen asked.plan domain problem (affirmed text)
     × (file_limit < length text)
 
--- the names of the limits that a controller may pass, each with its cause: of a plan with contexts,
--- that there are too many initial states, or that the one that `plan` finds reaches more than is
--- followed; that `plan` finds a plan and yet no controller was judged to be good; or that a controller
--- was found, or only the plan of `plan`, whose text is longer than a plan's file may be
+-- the names of the limits that may be passed, each with its cause, which is one of the plan that `plan`
+-- finds: of a plan with contexts, that there are too many initial states, or that it reaches more than is
+-- followed; or that its text is longer than a plan's file may be
 abbrev pub IsLimitPassed : ControlWords → DomainTree → ProblemTree → Bytes → Type 0
 IsLimitPassed asked domain problem name =
     ((name ≡ codes "initial")
     × (asked.plan.kind ≡ with_contexts) × HasTooManyStates domain problem)
     ⊎ ((name ≡ codes "configurations")
-    × (((asked.plan.kind ≡ with_contexts) × ReachesTooMany asked domain problem)
-    ⊎ FindsPlan asked domain problem))
-    ⊎ ((name ≡ codes "file")
-    × (HasLongText asked.plan.kind domain problem ⊎ FindsLongPlan asked domain problem))
-
--- the table that `plan` finds reaches too much to be listed, so it was judged on sets of states, and the
--- nodes that are asked for may be too few for that
-pub record HasNoRoomToJudge (asked : ControlWords) (domain : DomainTree) (problem : ProblemTree)
-    : Type 0 where
-  pub text : Bytes
-  pub found : PlanThen asked.plan domain problem (affirmed text)
-  pub plan : PlainPlan
-  pub spelled : SpellsPlain (fluent_names domain problem) (action_names domain problem) text plan
-  pub tight : (task : Task) × IsTaskOf domain problem task
-      × IsTightForPlan asked.plan.kind asked.plan.options.nodes task plan
+    × (asked.plan.kind ≡ with_contexts) × ReachesTooMany asked domain problem)
+    ⊎ ((name ≡ codes "file") × FindsLongPlan asked domain problem)
 
 -- what is shown where there is no plan of a class, and the certificate of that is wanted: that, and then
 -- the text of a certificate of the class, which is accepted and which the text spells
@@ -203,15 +176,13 @@ abbrev pub AffirmsNothing : Answer → Type 0
 AffirmsNothing answer = (text : Bytes) → answer ≡ affirmed text → ⊥
 
 -- what follows once both are read and within the limits: a controller is shown, or a limit is
--- passed, or the table of nodes is full while the table that `plan` finds is judged, or a certificate
--- says that there is no plan, or the answer is that of `plan`, where it is no plan
+-- passed, or a certificate says that there is no plan, or the answer is that of `plan`, where it is no
+-- plan
 abbrev pub ControlThen : ControlWords → DomainTree → ProblemTree → Answer → Type 0
 ControlThen asked domain problem answer =
     IsControllerShown asked domain problem answer
     ⊎ ((name : Bytes) × IsLimitPassed asked domain problem name
     × (answer ≡ refused (over_limit name)))
-    ⊎ (HasNoRoomToJudge asked domain problem
-    × (answer ≡ refused (full asked.plan.options.nodes)))
     ⊎ IsRefuted asked domain problem answer
     ⊎ (PlanThen asked.plan domain problem answer × AffirmsNothing answer)
 

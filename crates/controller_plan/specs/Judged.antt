@@ -1,6 +1,6 @@
 -- Private: that a plan was judged, over its task.
 use Rattle.std.specs.Prelude.{◌≡◌, ◌≢◌, ◌++◌, ◌⊎◌, ◌<◌, ◌≤◌, ℕ, Bool, false, true, List, []}
-use Rattle.std.specs.Prelude.{Option, IfSome, IsTrue, codes, length}
+use Rattle.std.specs.Prelude.{All, Option, IfSome, IsSome, IsTrue, codes, length}
 use Rattle.controller_rules.specs.AsRun.{HasNoDeadRule, HasOneMove, NamesLastContext}
 use Rattle.controller_rules.specs.Guards.{AreGuarded}
 use Rattle.controller_rules.specs.Texts.{controller_text}
@@ -12,20 +12,22 @@ use Rattle.first_match.specs.FirstMatch.{AreGoodAsRun}
 use Rattle.ground_task.specs.declared.grounding.Grounded.{Grounded}
 use Rattle.pddl_ast.specs.Trees.{DomainTree, ProblemTree}
 use Rattle.plan_certs.specs.Certificates.{PlainCertificate}
+use Rattle.plan_certs.specs.Named.{AreSetsOf}
 use Rattle.plan_certs.specs.Readings.{SpellsPlain as SpellsCertificate}
 use Rattle.plan_certs.specs.Texts.{certificate_text}
 use Rattle.plan_check.specs.Verdicts.{SaysYes}
 use Rattle.plan_check.specs.declared.verdicts.Verdict.{Verdict}
 use Rattle.plan_document.specs.Documents.{document_text}
 use Rattle.plan_document.specs.Faithful.{IsToldInFull}
+use Rattle.plan_rules.specs.Plans.{IsRuleOf}
 use Rattle.plan_rules.specs.Readings.{SpellsPlain}
 use Rattle.plan_rules.specs.Rules.{PlainPlan, PlanRule, automaton, table}
 use Rattle.task_core.specs.Names.{Name}
-use Rattle.task_core.specs.Tasks.{action_names, fluent_count, fluent_names, initial_states}
+use Rattle.task_core.specs.Tasks.{action_count, action_names, fluent_count, fluent_names, initial_states}
 use Rattle.task_core.specs.Tasks.{system_of}
 use Rattle.task_core.specs.declared.classes.Class.{Class}
 use Rattle.task_core.specs.declared.tasks.Task.{Task}
-use Rattle.command_base.specs.Answers.{Answer, Refusal, affirmed, full, no_memory, over_limit}
+use Rattle.command_base.specs.Answers.{Answer, Refusal, affirmed, no_memory, over_limit}
 use Rattle.command_base.specs.Following.{most_followed}
 use Rattle.check_command.specs.Judged.{HasGoalIn, IsTaskVerdict}
 use Rattle.plan_command.specs.PlanCommand.{IsWrittenFor, no_plan_text}
@@ -33,8 +35,7 @@ use Rattle.command_base.specs.Values.{bytes_of}
 use Rattle.command_base.specs.declared.answers.Text.{Text}
 use Rattle.command_base.specs.Reading.{file_limit}
 use Rattle.command_base.specs.Words.{Bytes, IsNodeLimit, PlanKind, of_class, with_contexts}
-use Rattle.controller_plan.specs.Controllers.{HasNoRoomToJudge, IsLimitPassed, IsProgramOf}
-use Rattle.controller_plan.specs.SetRoom.{IsTightForPlan}
+use Rattle.controller_plan.specs.Controllers.{IsLimitPassed, IsProgramOf}
 use Rattle.controller_words.specs.Words.{ControlWords}
 use Rattle.controller_words.specs.declared.shapes.Form.{Form}
 use Rattle.controller_words.specs.declared.shapes.Form.TheVariants.{Code, Json, Text as AsText}
@@ -61,6 +62,16 @@ pub record IsGoodOnSets (class : Class) (task : Task) (rules : List PlanRule) : 
   pub begins : initial_states task ≢ []
   pub good : AreGoodAsRun class (system_of task) rules
 
+-- rules can be judged on the sets of a task: it has a goal, and they are over its fluents and actions
+pub record IsTableOver (task : Task) (rules : List PlanRule) : Type 0 where
+  pub goal : IsSome task.goal
+  pub in_task : All (IsRuleOf (fluent_count task) (action_count task)) rules
+
+-- the same of a certificate
+pub record IsCertificateOver (task : Task) (certificate : PlainCertificate) : Type 0 where
+  pub goal : IsSome task.goal
+  pub in_task : AreSetsOf (fluent_count task) certificate.sets
+
 -- a table of a class is found good on sets
 abbrev pub IsTableGoodOnSets : PlanKind → Task → PlainPlan → Type 0
 IsTableGoodOnSets (of_class class) task (table written rules) = IsGoodOnSets class task rules
@@ -86,18 +97,11 @@ pub record IsJudged (kind : PlanKind) (task : Task) (goal : Option Ctl) (plan : 
   pub contexts : NamesLastContext plan
   pub found : IsFoundGood kind task goal plan
 
--- want of memory, or a table for so many nodes that may be too small to judge the plan
-abbrev pub IsJudgeRefusal : PlanKind → ℕ → Task → PlainPlan → Refusal → Type 0
-IsJudgeRefusal kind nodes task plan refusal =
-    (refusal ≡ no_memory)
-    ⊎ (IsTightForPlan kind nodes task plan × (refusal ≡ full nodes))
-
--- want of memory, or a limit that is passed, for its cause, or a full table
+-- want of memory, or a limit that is passed, for its cause
 abbrev pub IsControlRefusal : ControlWords → DomainTree → ProblemTree → Refusal → Type 0
 IsControlRefusal asked domain problem refusal =
     (refusal ≡ no_memory)
     ⊎ ((name : Bytes) × IsLimitPassed asked domain problem name × (refusal ≡ over_limit name))
-    ⊎ (HasNoRoomToJudge asked domain problem × (refusal ≡ full asked.plan.options.nodes))
 
 -- what is shown of a plan with this text: the text, the document, or a program
 abbrev pub IsShownOver : Form → Task → PlainPlan → Bytes → Bytes → Type 0
@@ -129,24 +133,39 @@ pub record CanBeJudged (kind : PlanKind) (nodes : ℕ) (grounded : Grounded) : T
 abbrev pub text_over : Task → PlainPlan → List ℕ → Bytes
 text_over task plan steps = controller_text (fluent_names task) (action_names task) plan steps
 
--- a plan is shown that was judged, and whose text spells it and is no longer than a plan's file may be
-pub record IsJudgedShown (kind : PlanKind) (shape : Shape) (grounded : Grounded) (answer : Answer)
+-- a plan is shown, and its text spells it and is no longer than a plan's file may be
+pub record IsTextShown (shape : Shape) (grounded : Grounded) (plan : PlainPlan) (answer : Answer)
     : Type 0 where
-  pub plan : PlainPlan
   pub steps : List ℕ
-  pub judged : IsJudged kind grounded.task grounded.ctl plan
   pub spelled : SpellsPlain (fluent_names grounded.task) (action_names grounded.task)
       (text_over grounded.task plan steps) plan
   pub short : length (text_over grounded.task plan steps) ≤ file_limit
   pub guarded : IsGuardedOver shape.guarded grounded.task plan
   pub shown : IsAffirmedAs shape.form grounded.task plan (text_over grounded.task plan steps) answer
 
+-- the text of a plan is longer
+abbrev pub HasTextTooLong : Grounded → PlainPlan → List ℕ → Type 0
+HasTextTooLong grounded plan steps = file_limit < length (text_over grounded.task plan steps)
+
+-- a plan is shown that was judged
+pub record IsJudgedShown (kind : PlanKind) (shape : Shape) (grounded : Grounded) (answer : Answer)
+    : Type 0 where
+  pub plan : PlainPlan
+  pub judged : IsJudged kind grounded.task grounded.ctl plan
+  pub text : IsTextShown shape grounded plan answer
+
 -- a plan was judged whose text is longer
 pub record HasLongJudged (kind : PlanKind) (grounded : Grounded) : Type 0 where
   pub plan : PlainPlan
   pub steps : List ℕ
   pub judged : IsJudged kind grounded.task grounded.ctl plan
-  pub long : file_limit < length (text_over grounded.task plan steps)
+  pub long : HasTextTooLong grounded plan steps
+
+-- why the text of a plan isn't shown: want of memory, or its length
+abbrev pub IsTextRefusal : Grounded → PlainPlan → List ℕ → Refusal → Type 0
+IsTextRefusal grounded plan steps refusal =
+    (refusal ≡ no_memory)
+    ⊎ (HasTextTooLong grounded plan steps × (refusal ≡ over_limit (codes "file")))
 
 -- why no plan is shown that a search made: want of memory, or a text that is too long
 abbrev pub IsMadeRefusal : PlanKind → Grounded → Refusal → Type 0
@@ -154,19 +173,12 @@ IsMadeRefusal kind grounded refusal =
     (refusal ≡ no_memory)
     ⊎ (HasLongJudged kind grounded × (refusal ≡ over_limit (codes "file")))
 
--- the same where want of room to judge it is told, too
-abbrev pub IsRoomRefusal : PlanKind → ℕ → Grounded → PlainPlan → Refusal → Type 0
-IsRoomRefusal kind nodes grounded plan refusal =
-    IsMadeRefusal kind grounded refusal
-    ⊎ (IsTightForPlan kind nodes grounded.task plan × (refusal ≡ full nodes))
-
--- a limit that the plan in hand passes: there are too many initial states, or it reaches too many
--- configurations
-abbrev pub IsReachRefusal : Task → Type 0 → Refusal → Type 0
-IsReachRefusal task TooMany refusal =
-    (refusal ≡ no_memory)
-    ⊎ (HasTooManyInitial task most_followed × (refusal ≡ over_limit (codes "initial")))
-    ⊎ (TooMany × (refusal ≡ over_limit (codes "configurations")))
+-- the plan in hand is too much to be listed, which is the limit of this name: there are too many initial
+-- states, or it reaches too many configurations
+abbrev pub IsTooLarge : Task → PlainPlan → Bytes → Type 0
+IsTooLarge task plan name =
+    (HasTooManyInitial task most_followed × (name ≡ codes "initial"))
+    ⊎ (ReachesMoreThan (system_of task) plan most_followed × (name ≡ codes "configurations"))
 
 -- that there is no plan is told, with the text of a certificate, which spells it, or without
 abbrev pub IsNoPlanTold : Bool → List Name → PlainCertificate → Text → Type 0

@@ -6,5 +6,4 @@ pub mod Followed
 pub mod Judged
 pub mod Laws
 pub mod Runs
-pub mod SetRoom
 pub mod Sought

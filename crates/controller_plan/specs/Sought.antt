@@ -1,5 +1,5 @@
 -- Private: what a controller is looked for, the plan that `plan` finds for it, and what is answered.
-use Rattle.std.specs.Prelude.{◌≡◌, ◌⊎◌, true}
+use Rattle.std.specs.Prelude.{◌≡◌, ◌≤◌, ◌⊎◌, [], length, true}
 use Rattle.pddl_ast.specs.Trees.{DomainTree, ProblemTree}
 use Rattle.pddl_ast.specs.Values.{domain_value, problem_value}
 use Rattle.plan_rules.specs.Plans.{IsPlanOf}
@@ -14,8 +14,11 @@ use Rattle.command_base.specs.Words.{Bytes, IsNodeLimit, PlanKind}
 use Rattle.command_base.specs.declared.answers.Refusal.{Refusal}
 use Rattle.command_base.specs.declared.answers.Shown.{Shown}
 use Rattle.plan_command.specs.PlanCommand.{MayBeTooFew, PlanThen}
+use Rattle.controller_rules.specs.Guards.{AreGuarded}
+use Rattle.plan_rules.specs.declared.rules.Plan.{Plan}
 use Rattle.controller_plan.specs.Controllers.{ControlThen, IsController, IsControllerShown, IsRefuted}
-use Rattle.controller_plan.specs.Judged.{IsControlRefusal, IsJudged}
+use Rattle.command_base.specs.Reading.{file_limit}
+use Rattle.controller_plan.specs.Judged.{IsControlRefusal, IsJudged, text_over}
 use Rattle.controller_words.specs.Values.{control_words_of}
 use Rattle.controller_words.specs.Words.{ControlWords}
 use Rattle.controller_plan.specs.declared.made.Wanted.{Wanted}
@@ -43,13 +46,24 @@ abbrev pub IsTextFound : Sought → Bytes → Type 0
 IsTextFound sought text =
     HoldsFor sought (λ asked domain problem. PlanThen asked.plan domain problem (affirmed text))
 
--- `plan` finds this plan, whose text spells it
+-- `plan` finds this plan, whose text spells it and is no longer than a plan's file may be
 pub record IsFoundFor (sought : Sought) (found : Found) : Type 0 where
   pub by_plan : IsTextFound sought found.text.now
+  pub short : length found.text.now ≤ file_limit
   pub spelled : SpellsPlain (fluent_names sought.grounded.now.task)
       (action_names sought.grounded.now.task) found.text.now (plain_of found.plan.now)
   pub in_task : IsPlanOf (fluent_count sought.grounded.now.task)
       (action_count sought.grounded.now.task) found.plan.now
+
+-- a plan is a controller for what is looked for, its rules ask for the preconditions of their actions, and
+-- its text is no longer than a plan's file may be
+pub record IsControllerFor (sought : Sought) (plan : Plan) : Type 0 where
+  pub in_task : IsPlanOf (fluent_count sought.grounded.now.task)
+      (action_count sought.grounded.now.task) plan
+  pub controller : HoldsFor sought (λ asked domain problem. IsController asked.plan.kind domain
+      problem (plain_of plan))
+  pub guarded : AreGuarded sought.grounded.now.task (plain_of plan)
+  pub short : length (text_over sought.grounded.now.task (plain_of plan) []) ≤ file_limit
 
 -- an answer to the words: want of memory, too few nodes for `plan`, or what follows
 abbrev pub IsAnswerIn : (ControlWords → DomainTree → ProblemTree → Answer → Type 0) → ControlWords

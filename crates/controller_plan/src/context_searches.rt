@@ -15,16 +15,17 @@ ghost use Rattle.task_core.specs.Tasks.{action_count, fluent_count};
 
 use crate::followed::{Followed, TakerSets};
 use crate::searches::{Stop, begun, follow_plan};
+use crate::set_outcomes::{SetOutcome, followed_in_tries, outcome_of_try};
 use ctl_syntax::{ContextGoal, Ctl, UntilChain, as_context_goal};
 use dd_sets::SetErr;
-use encode_task::{Enc, encode};
+use encode_task::Enc;
 use ground_task::Grounded;
 use patrol_plan::{FoundAuto, plan_patrol, rule_place, rule_sets, until_takers};
 use plan_rules::Plan;
 use slot_board::Board;
 use std::alloc::Global;
 use task_core::{ActionId, Cond, Task};
-use task_sets::encode_ordered;
+use task_sets::{SetSearch, search_in_tries};
 
 /// The most stages of an until-chain.
 const MOST_STAGES: usize = 32;
@@ -77,8 +78,7 @@ fn follow_goal(alloc: Global, nodes: u32, task: &Task, goal: &Ctl) -> Result<Opt
 }
 
 /// What the plan with contexts for an until-chain or a patrol goal reaches, if it has few stages or
-/// visits and there is one: over variables in an order that is chosen for the task, and where there
-/// is no room or no memory for that, once more from nothing, over the fluents in their own order.
+/// visits and there is one.
 fn follow_parts(
     alloc: Global,
     nodes: u32,
@@ -92,9 +92,49 @@ fn follow_parts(
     if !is_short(goal) {
         return Ok(None);
     }
-    match follow_in_order(alloc, nodes, task, goal) {
-        Err(Stop::Full | Stop::Memory) => follow_plainly(alloc, nodes, task, goal),
-        answer => answer,
+    follow_in_tries(alloc, task, &GoalSets { goal, nodes })
+}
+
+/// What the plan for a goal reaches that is found over sets of states, if there is one.
+fn follow_in_tries(
+    alloc: Global,
+    task: &Task,
+    wanted: &GoalSets<'_>,
+) -> Result<Option<Followed>, Stop>
+    requires room { IsNodeLimit wanted.now.nodes }
+    requires goal { IsGoalOver (fluent_count task.now) wanted.now.goal.now }
+{
+    followed_in_tries(search_in_tries(alloc, task, wanted))
+}
+
+/// The search over sets for the plan for a goal, which is then followed, with so many nodes.
+#[derive(Clone, Copy)]
+struct GoalSets<'a> {
+    goal: &'a ContextGoal,
+    nodes: u32,
+}
+
+impl SetSearch for GoalSets<'_> {
+    ghost use Rattle.plan_command.specs.GoalConditions.{IsGoalOver};
+    ghost use Rattle.std.specs.Prelude.{⊤};
+    ghost use Rattle.task_core.specs.Tasks.{fluent_count};
+
+    type Found = SetOutcome;
+
+    ghost nodes = { λ self. self.nodes };
+
+    ghost fits = { λ self task. IsGoalOver (fluent_count task) self.goal.now };
+
+    ghost finds = { λ self task found. ⊤ };
+
+    ghost lacks_room = { λ self task before after. ⊤ };
+
+    fn nodes(&self) -> u32 {
+        self.nodes
+    }
+
+    fn find(&self, alloc: Global, task: &Task, enc: &mut Enc) -> Result<SetOutcome, SetErr> {
+        outcome_of_try(follow_over_sets(alloc, task, enc, self.goal))
     }
 }
 
@@ -109,35 +149,7 @@ pub(crate) fn is_short(goal: &ContextGoal) -> bool
     }
 }
 
-/// The first try: over variables in an order that is chosen for the task.
-fn follow_in_order(
-    alloc: Global,
-    nodes: u32,
-    task: &Task,
-    goal: &ContextGoal,
-) -> Result<Option<Followed>, Stop>
-    requires room { IsNodeLimit nodes }
-    requires goal { IsGoalOver (fluent_count task.now) goal.now }
-{
-    let mut enc = encode_ordered(alloc, task, nodes)?;
-    follow_over_sets(alloc, task, &mut enc, goal)
-}
-
-/// The second try: over the fluents in their own order.
-fn follow_plainly(
-    alloc: Global,
-    nodes: u32,
-    task: &Task,
-    goal: &ContextGoal,
-) -> Result<Option<Followed>, Stop>
-    requires room { IsNodeLimit nodes }
-    requires goal { IsGoalOver (fluent_count task.now) goal.now }
-{
-    let mut enc = encode(alloc, task, nodes)?;
-    follow_over_sets(alloc, task, &mut enc, goal)
-}
-
-/// The same over the task's sets.
+/// What the plan for a goal reaches, if there is one, over the task's sets.
 fn follow_over_sets(
     alloc: Global,
     task: &Task,

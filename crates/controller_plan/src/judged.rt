@@ -4,12 +4,10 @@ ghost use Rattle.controller_plan.specs.Judged.{
   HasNoGraph,
   IsFoundGood,
   IsGoodAlong,
-  IsJudgeRefusal,
   IsJudged,
   IsTableGoodOnSets,
   IsYesFor,
 };
-ghost use Rattle.command_base.specs.Answers.{no_memory};
 ghost use Rattle.command_base.specs.Words.{IsNodeLimit};
 ghost use Rattle.ctl_syntax.specs.Values.{NamesBelow, ctl_value};
 ghost use Rattle.exec_graph.specs.Graphs.{IsGraphOf};
@@ -17,7 +15,7 @@ ghost use Rattle.exec_graph.specs.Values.{plain_graph};
 ghost use Rattle.check_command.specs.Judged.{HasGoalIn, IsTaskVerdict};
 ghost use Rattle.plan_command.specs.PlanCommand.{IsWrittenFor};
 ghost use Rattle.command_base.specs.PlanFiles.{is_of_kind};
-ghost use Rattle.command_base.specs.Values.{kind_of, refusal_of};
+ghost use Rattle.command_base.specs.Values.{kind_of};
 ghost use Rattle.command_base.specs.Words.{with_contexts};
 ghost use Rattle.plan_check.specs.Verdicts.{SaysYes};
 ghost use Rattle.plan_rules.specs.Plans.{IsPlanOf};
@@ -25,7 +23,6 @@ ghost use Rattle.plan_rules.specs.Rules.{ContextRule, PlainPlan, automaton, plai
 ghost use Rattle.std.specs.Prelude.{
   ◌≡◌,
   ◌↔◌,
-  IfErr,
   IfNone,
   IfOk,
   IfSome,
@@ -38,10 +35,9 @@ ghost use Rattle.std.specs.Prelude.{
 ghost use Rattle.task_core.specs.Tasks.{action_count, fluent_count, system_of};
 
 use crate::set_judge::are_good_rules;
-use command_base::{PlanKind, Refusal};
+use command_base::PlanKind;
 use controller_rules::{is_plan_of, names_last_context, rules_serve};
 use ctl_syntax::Ctl;
-use dd_sets::SetErr;
 use exec_graph::{Graph, GraphErr, explore};
 use ground_task::Grounded;
 use plan_check::{Verdict, judge_class, judge_ctl};
@@ -50,15 +46,15 @@ use plan_rules::{Class, Plan};
 use std::alloc::{AllocError, Global};
 
 /// Whether a plan is a controller for a task and its goals. It isn't where there is no initial state. A
-/// plan that reaches more than may be followed is judged on sets of states, in a table for so many
-/// nodes.
+/// plan that reaches more than may be followed is judged on sets of states, as far as so many nodes are
+/// enough for that.
 pub(crate) fn is_controller(
     alloc: Global,
     kind: PlanKind,
     nodes: u32,
     grounded: &Grounded,
     plan: &Plan,
-) -> Result<bool, Refusal>
+) -> Result<bool, AllocError>
     requires room { IsNodeLimit nodes }
     requires goal { HasGoalIn (kind_of kind) grounded.now.task grounded.now.ctl }
     requires goal_names { IfSome grounded.now.ctl
@@ -67,8 +63,6 @@ pub(crate) fn is_controller(
         → IsJudged (kind_of kind) grounded.now.task grounded.now.ctl (plain_of plan.now)) }
     ensures in_task { IfOk result (λ is. IsTrue is
         → IsPlanOf (fluent_count grounded.now.task) (action_count grounded.now.task) plan.now) }
-    ensures refused { IfErr result (λ refusal. IsJudgeRefusal (kind_of kind) nodes
-        grounded.now.task (plain_of plan.now) (refusal_of refusal)) }
 {
     let task = &grounded.task;
     if !is_plan_of(task.fluents.len(), task.actions.len(), plan) {
@@ -87,7 +81,7 @@ fn is_found_good(
     nodes: u32,
     grounded: &Grounded,
     plan: &Plan,
-) -> Result<bool, Refusal>
+) -> Result<bool, AllocError>
     requires room { IsNodeLimit nodes }
     requires goal { HasGoalIn (kind_of kind) grounded.now.task grounded.now.ctl }
     requires goal_names { IfSome grounded.now.ctl
@@ -95,10 +89,8 @@ fn is_found_good(
     requires in_task { IsPlanOf (fluent_count grounded.now.task) (action_count grounded.now.task)
         plan.now }
     requires of_kind { is_of_kind (kind_of kind) (plain_of plan.now) ≡ true }
-    ensures yes { IfOk result (λ is. IsTrue is
+    ensures { IfOk result (λ is. IsTrue is
         → IsFoundGood (kind_of kind) grounded.now.task grounded.now.ctl (plain_of plan.now)) }
-    ensures refused { IfErr result (λ refusal. IsJudgeRefusal (kind_of kind) nodes
-        grounded.now.task (plain_of plan.now) (refusal_of refusal)) }
 {
     match is_good_along(alloc, kind, grounded, plan)? {
         Some(is) => Ok(is),
@@ -113,7 +105,7 @@ fn is_good_along(
     kind: PlanKind,
     grounded: &Grounded,
     plan: &Plan,
-) -> Result<Option<bool>, Refusal>
+) -> Result<Option<bool>, AllocError>
     requires goal { HasGoalIn (kind_of kind) grounded.now.task grounded.now.ctl }
     requires goal_names { IfSome grounded.now.ctl
         (λ goal. NamesBelow (fluent_count grounded.now.task) (ctl_value goal)) }
@@ -124,7 +116,6 @@ fn is_good_along(
         → IsGoodAlong (kind_of kind) grounded.now.task grounded.now.ctl (plain_of plan.now))) }
     ensures none { IfOk result (λ found. IfNone found
         (HasNoGraph grounded.now.task (plain_of plan.now))) }
-    ensures refused { IfErr result (λ refusal. refusal_of refusal ≡ no_memory) }
 {
     match explore(alloc, &grounded.task, plan) {
         Ok(graph) => {
@@ -136,7 +127,7 @@ fn is_good_along(
         }
         Err(GraphErr::Initial) => Ok(None),
         Err(GraphErr::TooLarge) => Ok(None),
-        Err(GraphErr::Memory) => Err(Refusal::NoMemory),
+        Err(GraphErr::Memory) => Err(AllocError),
     }
 }
 
@@ -147,23 +138,17 @@ fn is_good_on_sets(
     nodes: u32,
     grounded: &Grounded,
     plan: &Plan,
-) -> Result<bool, Refusal>
+) -> Result<bool, AllocError>
     requires room { IsNodeLimit nodes }
     requires goal { HasGoalIn (kind_of kind) grounded.now.task grounded.now.ctl }
     requires in_task { IsPlanOf (fluent_count grounded.now.task) (action_count grounded.now.task)
         plan.now }
-    ensures yes { IfOk result (λ is. IsTrue is
+    ensures { IfOk result (λ is. IsTrue is
         → IsTableGoodOnSets (kind_of kind) grounded.now.task (plain_of plan.now)) }
-    ensures refused { IfErr result (λ refusal. IsJudgeRefusal (kind_of kind) nodes
-        grounded.now.task (plain_of plan.now) (refusal_of refusal)) }
 {
     match (kind, plan) {
         (PlanKind::Class(class), Plan::Table(table)) => {
-            match are_good_rules(alloc, nodes, &grounded.task, class, &table.rules) {
-                Ok(are) => Ok(are),
-                Err(SetErr::Full) => Err(Refusal::Full(nodes)),
-                Err(SetErr::Memory) => Err(Refusal::NoMemory),
-            }
+            are_good_rules(alloc, nodes, &grounded.task, class, &table.rules)
         }
         _ => Ok(false),
     }

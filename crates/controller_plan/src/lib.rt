@@ -5,8 +5,10 @@
 //! initial states (`followed`, `searches`, `context_searches`), and makes rules of what it does there
 //! (`rules`, `plans`). None of that is trusted: the plan is judged by the proved checker, and what isn't
 //! found to be a controller isn't shown (`made`, `judged`, and `controller_rules` for what its rules are
-//! to be beside). All other answers are those of the command `plan`: that there is no plan, and each refusal,
-//! below which `answer_help` says more.
+//! to be beside). Where none of it is, the plan of `plan_command` is shown with those of its rules that
+//! serve (`plan_controllers`): that it is a controller is proved (`apart_rules`). All other answers are
+//! those of the command `plan`: that there is no plan, and each refusal, below which `answer_help` says
+//! more.
 //!
 //! A controller for a goal with stages whose actions may be tried again (`fair`) is found by `fair_plan`,
 //! and judged by the goal that `fair_theory` puts in the place of the problem's.
@@ -15,6 +17,7 @@
 //! `FairControllers` the answer, `Runs` a run with its cause, and `Laws` what follows of each run.
 #![tactic(auto)]
 
+mod allowances;
 mod commands;
 mod context_searches;
 mod fair;
@@ -35,6 +38,7 @@ mod search_controllers;
 mod searches;
 mod served;
 mod set_judge;
+mod set_outcomes;
 mod sought;
 mod staged;
 mod state_plans;

@@ -1,18 +1,17 @@
 //! Controllers made of rules that a search found, each judged before it is shown. What they are judged by
 //! is a task with a goal.
 
-ghost use Rattle.command_base.specs.Answers.{no_memory};
 ghost use Rattle.command_base.specs.Values.{kind_of, refusal_of, shown_of};
 ghost use Rattle.command_base.specs.Words.{Bytes};
 ghost use Rattle.controller_plan.specs.Judged.{
   CanBeJudged,
   IsJudged,
-  IsJudgeRefusal,
   IsJudgedShown,
   IsMadeRefusal,
-  IsRoomRefusal,
   IsAffirmedAs,
   IsGuardedOver,
+  IsTextRefusal,
+  IsTextShown,
 };
 ghost use Rattle.plan_document.specs.Faithful.{IsToldInFull};
 ghost use Rattle.plan_rules.specs.Plans.{IsPlanOf};
@@ -265,15 +264,15 @@ fn shown_if_good(
     ensures refused { IfErr result (λ refusal.
         IsMadeRefusal (kind_of wanted.now.kind) wanted.now.grounded.now (refusal_of refusal)) }
 {
-    if !is_judged_good(alloc, wanted, plan)? {
+    if !is_good(alloc, wanted, plan)? {
         return Ok(None);
     }
-    let shown = shown_judged(alloc, wanted, plan, steps)?;
+    let shown = shown_text(alloc, wanted, plan, steps)?;
     Ok(Some(shown))
 }
 
 /// Whether a plan is judged to be a controller. It isn't where there is no room to judge it.
-fn is_judged_good(alloc: Global, wanted: &Wanted<'_>, plan: &Plan) -> Result<bool, Refusal>
+fn is_good(alloc: Global, wanted: &Wanted<'_>, plan: &Plan) -> Result<bool, AllocError>
     requires { CanBeJudged (kind_of wanted.now.kind) wanted.now.nodes wanted.now.grounded.now }
     ensures judged { IfOk result (λ is. IsTrue is → IsJudged (kind_of wanted.now.kind)
         wanted.now.grounded.now.task wanted.now.grounded.now.ctl (plain_of plan.now)) }
@@ -282,81 +281,6 @@ fn is_judged_good(alloc: Global, wanted: &Wanted<'_>, plan: &Plan) -> Result<boo
         (action_count wanted.now.grounded.now.task) plan.now) }
     ensures guarded { IfOk result (λ is. IsTrue is → IsGuardedOver wanted.now.shape.guarded
         wanted.now.grounded.now.task (plain_of plan.now)) }
-    ensures refused { IfErr result (λ refusal. refusal_of refusal ≡ no_memory) }
-{
-    match is_good(alloc, wanted, plan) {
-        Ok(is) => Ok(is),
-        Err(Refusal::NoMemory) => Err(Refusal::NoMemory),
-        Err(_) => Ok(false),
-    }
-}
-
-/// A plan as a controller, if it is one, or makes one with the preconditions of its actions in its rules,
-/// where they are to be there.
-pub(crate) fn shown_plan(
-    alloc: Global,
-    wanted: &Wanted<'_>,
-    plan: &Plan,
-) -> Result<Option<Shown>, Refusal>
-    requires { CanBeJudged (kind_of wanted.now.kind) wanted.now.nodes wanted.now.grounded.now }
-    ensures shown { IfOk result (λ found. IfSome found (λ shown.
-        IsJudgedShown (kind_of wanted.now.kind) wanted.now.shape wanted.now.grounded.now
-        (shown_of shown))) }
-    ensures refused { IfErr result (λ refusal. IsRoomRefusal (kind_of wanted.now.kind)
-        wanted.now.nodes wanted.now.grounded.now (plain_of plan.now) (refusal_of refusal)) }
-{
-    if wanted.shape.guarded {
-        shown_with_guards(alloc, wanted, plan)
-    } else {
-        shown_as_it_is(alloc, wanted, plan)
-    }
-}
-
-/// A plan with the preconditions of its actions in its rules as a controller, if that is one.
-fn shown_with_guards(
-    alloc: Global,
-    wanted: &Wanted<'_>,
-    plan: &Plan,
-) -> Result<Option<Shown>, Refusal>
-    requires { CanBeJudged (kind_of wanted.now.kind) wanted.now.nodes wanted.now.grounded.now }
-    ensures shown { IfOk result (λ found. IfSome found (λ shown.
-        IsJudgedShown (kind_of wanted.now.kind) wanted.now.shape wanted.now.grounded.now
-        (shown_of shown))) }
-    ensures refused { IfErr result (λ refusal. IsRoomRefusal (kind_of wanted.now.kind)
-        wanted.now.nodes wanted.now.grounded.now (plain_of plan.now) (refusal_of refusal)) }
-{
-    shown_guarded(alloc, wanted, plan, &[])
-}
-
-/// A plan as a controller, if it is one.
-fn shown_as_it_is(alloc: Global, wanted: &Wanted<'_>, plan: &Plan) -> Result<Option<Shown>, Refusal>
-    requires { CanBeJudged (kind_of wanted.now.kind) wanted.now.nodes wanted.now.grounded.now }
-    ensures shown { IfOk result (λ found. IfSome found (λ shown.
-        IsJudgedShown (kind_of wanted.now.kind) wanted.now.shape wanted.now.grounded.now
-        (shown_of shown))) }
-    ensures refused { IfErr result (λ refusal. IsRoomRefusal (kind_of wanted.now.kind)
-        wanted.now.nodes wanted.now.grounded.now (plain_of plan.now) (refusal_of refusal)) }
-{
-    if !is_good(alloc, wanted, plan)? {
-        return Ok(None);
-    }
-    let shown = shown_judged(alloc, wanted, plan, &[])?;
-    Ok(Some(shown))
-}
-
-/// Whether a plan is judged to be a controller.
-fn is_good(alloc: Global, wanted: &Wanted<'_>, plan: &Plan) -> Result<bool, Refusal>
-    requires { CanBeJudged (kind_of wanted.now.kind) wanted.now.nodes wanted.now.grounded.now }
-    ensures judged { IfOk result (λ is. IsTrue is → IsJudged (kind_of wanted.now.kind)
-        wanted.now.grounded.now.task wanted.now.grounded.now.ctl (plain_of plan.now)) }
-    ensures in_task { IfOk result (λ is. IsTrue is
-        → IsPlanOf (fluent_count wanted.now.grounded.now.task)
-        (action_count wanted.now.grounded.now.task) plan.now) }
-    ensures guarded { IfOk result (λ is. IsTrue is → IsGuardedOver wanted.now.shape.guarded
-        wanted.now.grounded.now.task (plain_of plan.now)) }
-    ensures refused { IfErr result (λ refusal. IsJudgeRefusal (kind_of wanted.now.kind)
-        wanted.now.nodes wanted.now.grounded.now.task (plain_of plan.now)
-        (refusal_of refusal)) }
 {
     if !is_guarded_if(wanted.shape.guarded, &wanted.grounded.task, plan) {
         return Ok(false);
@@ -375,23 +299,22 @@ fn is_guarded_if(wanted: bool, task: &Task, plan: &Plan) -> bool
     }
 }
 
-/// A plan that was judged to be a controller, as it is shown, unless its text is too long.
-fn shown_judged(
+/// A plan that is a controller, as it is shown, unless its text is too long.
+pub(crate) fn shown_text(
     alloc: Global,
     wanted: &Wanted<'_>,
     plan: &Plan,
     steps: &[u32],
 ) -> Result<Shown, Refusal>
-    requires judged { IsJudged (kind_of wanted.now.kind) wanted.now.grounded.now.task
-        wanted.now.grounded.now.ctl (plain_of plan.now) }
+    requires told { IsToldInFull (plain_of plan.now) }
     requires in_task { IsPlanOf (fluent_count wanted.now.grounded.now.task)
         (action_count wanted.now.grounded.now.task) plan.now }
     requires guarded { IsGuardedOver wanted.now.shape.guarded wanted.now.grounded.now.task
         (plain_of plan.now) }
-    ensures shown { IfOk result (λ shown. IsJudgedShown (kind_of wanted.now.kind) wanted.now.shape
-        wanted.now.grounded.now (shown_of shown)) }
-    ensures refused { IfErr result (λ refusal.
-        IsMadeRefusal (kind_of wanted.now.kind) wanted.now.grounded.now (refusal_of refusal)) }
+    ensures shown { IfOk result (λ shown. IsTextShown wanted.now.shape wanted.now.grounded.now
+        (plain_of plan.now) (shown_of shown)) }
+    ensures refused { IfErr result (λ refusal. IsTextRefusal wanted.now.grounded.now
+        (plain_of plan.now) steps.now (refusal_of refusal)) }
 {
     let task = &wanted.grounded.task;
     match write_controller(alloc, plan, steps, task, MAX_BYTES)? {

@@ -1,30 +1,37 @@
 //! The controller for the plan that `plan` finds, where no search made one.
 
-ghost use Rattle.command_base.specs.Answers.{affirmed};
-ghost use Rattle.command_base.specs.Values.{answer_of, bytes_of, kind_of};
-ghost use Rattle.command_base.specs.Words.{with_contexts};
+ghost use Rattle.command_base.specs.Answers.{affirmed, no_memory};
+ghost use Rattle.command_base.specs.Reading.{file_limit};
+ghost use Rattle.command_base.specs.Values.{answer_of, bytes_of, limit_of, refusal_of};
 ghost use Rattle.controller_plan.specs.Controllers.{AffirmsNothing};
+ghost use Rattle.controller_plan.specs.Judged.{IsTooLarge};
 ghost use Rattle.controller_plan.specs.Sought.{
   FollowsFor,
   IsAnswerFor,
+  IsControllerFor,
   IsFoundFor,
   IsReady,
   IsRefusedFor,
   IsShownFor,
   IsTextFound,
 };
-ghost use Rattle.std.specs.Prelude.{◌≡◌, IfErr, IfOk, IfSome};
+ghost use Rattle.exec_graph.specs.Graphs.{IsGraphOf};
+ghost use Rattle.exec_graph.specs.Values.{plain_graph};
+ghost use Rattle.plan_rules.specs.Rules.{plain_of};
+ghost use Rattle.std.specs.Prelude.{◌≡◌, ◌<◌, IfErr, IfOk, IfSome, length};
+ghost use Rattle.task_core.specs.Tasks.{fluent_count, system_of};
 
-use crate::made::shown_plan;
-use crate::reach::{check_reached, plan_in};
+use crate::made::shown_text;
+use crate::reach::plan_in;
 use crate::search_controllers::{followed_controller, shown_sought, table_controller};
 use crate::searches::{Effort, follow_found};
-use crate::sought::{Found, Sought, judged_plans_control};
+use crate::sought::{Found, Sought};
 use command_base::{Limit, PlanKind, Refusal, Shown, Text};
+use controller_rules::serving_part;
+use exec_graph::{Graph, GraphErr, explore};
 use guided_plan::shorter_rules;
 use plan_command::plan_grounded;
 use plan_rules::Plan;
-use sexpr_text::MAX_BYTES;
 use std::alloc::Global;
 
 /// The answer of `plan` where no controller was shown; if it is a plan, what is made of that.
@@ -58,69 +65,12 @@ fn found_text(found: Result<Shown, Refusal>) -> Result<Text, Result<Shown, Refus
     }
 }
 
-/// The controller for the plan that `plan` finds, or what much work finds, or the limit that keeps it from
-/// being made.
+/// The controller for the plan that `plan` finds; or where its text is longer than a plan's file may be,
+/// what much work finds, or that limit.
 fn controller_of_text(alloc: Global, sought: &Sought<'_>, text: &[u8]) -> Result<Shown, Refusal>
     requires ready { IsReady sought.now }
     requires found { IsTextFound sought.now text.now }
     ensures shown { IfOk result (FollowsFor sought.now) }
-    ensures refused { IfErr result (IsRefusedFor sought.now) }
-{
-    match made_of_text(alloc, sought, text) {
-        Ok(Some(shown)) => Ok(shown),
-        Ok(None) => {
-            let limit = limit_for(sought, text);
-            at_last(alloc, sought, limit)
-        }
-        Err(refusal) => {
-            if is_full(&refusal) {
-                at_last(alloc, sought, refusal)
-            } else {
-                Err(refusal)
-            }
-        }
-    }
-}
-
-/// Whether a refusal is that the table of nodes is full.
-fn is_full(refusal: &Refusal) -> bool {
-    match refusal {
-        Refusal::Full(_) => true,
-        _ => false,
-    }
-}
-
-/// What much work finds, where no controller was made of the plan that `plan` finds; else the refusal for
-/// that.
-fn at_last(alloc: Global, sought: &Sought<'_>, last: Refusal) -> Result<Shown, Refusal>
-    requires ready { IsReady sought.now }
-    requires last { IsRefusedFor sought.now last }
-    ensures shown { IfOk result (FollowsFor sought.now) }
-    ensures refused { IfErr result (IsRefusedFor sought.now) }
-{
-    match shown_sought(alloc, sought, Effort::Much)? {
-        Some(shown) => Ok(shown),
-        None => Err(last),
-    }
-}
-
-/// The limit that keeps a controller from being made of the plan that `plan` finds.
-fn limit_for(sought: &Sought<'_>, text: &[u8]) -> Refusal
-    requires found { IsTextFound sought.now text.now }
-    ensures { IsRefusedFor sought.now result }
-{
-    if text.len() > MAX_BYTES {
-        Refusal::OverLimit(Limit::File)
-    } else {
-        Refusal::OverLimit(Limit::Configurations)
-    }
-}
-
-/// The controller for the plan that a text of `plan` spells, if one can be made of it.
-fn made_of_text(alloc: Global, sought: &Sought<'_>, text: &[u8]) -> Result<Option<Shown>, Refusal>
-    requires ready { IsReady sought.now }
-    requires found { IsTextFound sought.now text.now }
-    ensures shown { IfOk result (λ found. IfSome found (IsShownFor sought.now)) }
     ensures refused { IfErr result (IsRefusedFor sought.now) }
 {
     match plan_in(alloc, &sought.grounded.task, text)? {
@@ -129,14 +79,46 @@ fn made_of_text(alloc: Global, sought: &Sought<'_>, text: &[u8]) -> Result<Optio
                 text,
                 plan: &read.plan,
             };
-            made_of_plan(alloc, sought, &found)
+            controller_of_plan(alloc, sought, &found)
         }
-        None => Ok(None),
+        None => at_last(alloc, sought, text),
     }
 }
 
-/// The controller for a plan that `plan` finds, if one can be made of it. One with contexts is to reach
-/// no more than may be followed.
+/// What much work finds, where the text of the plan that `plan` finds is too long; or that limit.
+fn at_last(alloc: Global, sought: &Sought<'_>, text: &[u8]) -> Result<Shown, Refusal>
+    requires ready { IsReady sought.now }
+    requires found { IsTextFound sought.now text.now }
+    requires long { file_limit < length text.now }
+    ensures shown { IfOk result (FollowsFor sought.now) }
+    ensures refused { IfErr result (IsRefusedFor sought.now) }
+{
+    match shown_sought(alloc, sought, Effort::Much)? {
+        Some(shown) => Ok(shown),
+        None => Err(Refusal::OverLimit(Limit::File)),
+    }
+}
+
+/// The controller for a plan that `plan` finds: for what it does where it reaches, or where that is too
+/// much to be followed, with its rules made shorter; or else with its own rules.
+fn controller_of_plan(
+    alloc: Global,
+    sought: &Sought<'_>,
+    found: &Found<'_>,
+) -> Result<Shown, Refusal>
+    requires ready { IsReady sought.now }
+    requires found { IsFoundFor sought.now found.now }
+    ensures shown { IfOk result (IsShownFor sought.now) }
+    ensures refused { IfErr result (IsRefusedFor sought.now) }
+{
+    match made_of_plan(alloc, sought, found)? {
+        Some(shown) => Ok(shown),
+        None => shown_as_found(alloc, sought, found),
+    }
+}
+
+/// The controller for what a plan that `plan` finds does where it reaches; or where that is too much to be
+/// followed, with its rules made shorter. `None` where that makes none.
 fn made_of_plan(
     alloc: Global,
     sought: &Sought<'_>,
@@ -145,52 +127,12 @@ fn made_of_plan(
     requires ready { IsReady sought.now }
     requires found { IsFoundFor sought.now found.now }
     ensures shown { IfOk result (λ found. IfSome found (IsShownFor sought.now)) }
-    ensures refused { IfErr result (IsRefusedFor sought.now) }
-{
-    match sought.asked.plan.kind {
-        PlanKind::Class(_) => made_of_good_plan(alloc, sought, found),
-        PlanKind::Contexts => {
-            check_found(alloc, sought, found)?;
-            made_of_good_plan(alloc, sought, found)
-        }
-    }
-}
-
-/// The controller for what a plan that `plan` finds does where it reaches; or where that is too much to be
-/// followed, with the rules of the plan.
-fn made_of_good_plan(
-    alloc: Global,
-    sought: &Sought<'_>,
-    found: &Found<'_>,
-) -> Result<Option<Shown>, Refusal>
-    requires ready { IsReady sought.now }
-    requires found { IsFoundFor sought.now found.now }
-    ensures shown { IfOk result (λ found. IfSome found (IsShownFor sought.now)) }
-    ensures refused { IfErr result (IsRefusedFor sought.now) }
+    ensures refused { IfErr result (λ refusal. refusal_of refusal ≡ no_memory) }
 {
     match follow_found(alloc, &sought.grounded.task, found.plan)? {
         Some(followed) => followed_controller(alloc, sought, &followed),
-        None => unlisted_controller(alloc, sought, found),
+        None => shorter_controller(alloc, sought, found.plan),
     }
-}
-
-/// The controller for a plan that reaches too much to be followed: with its rules made shorter, or with
-/// its own.
-fn unlisted_controller(
-    alloc: Global,
-    sought: &Sought<'_>,
-    found: &Found<'_>,
-) -> Result<Option<Shown>, Refusal>
-    requires ready { IsReady sought.now }
-    requires found { IsFoundFor sought.now found.now }
-    ensures shown { IfOk result (λ found. IfSome found (IsShownFor sought.now)) }
-    ensures refused { IfErr result (IsRefusedFor sought.now) }
-{
-    let shorter = shorter_controller(alloc, sought, found.plan)?;
-    if shorter.is_some() {
-        return Ok(shorter);
-    }
-    shown_as_found(alloc, sought, found)
 }
 
 /// The controller with the rules of a table made shorter, if they make one.
@@ -201,7 +143,7 @@ fn shorter_controller(
 ) -> Result<Option<Shown>, Refusal>
     requires { IsReady sought.now }
     ensures shown { IfOk result (λ found. IfSome found (IsShownFor sought.now)) }
-    ensures refused { IfErr result (IsRefusedFor sought.now) }
+    ensures refused { IfErr result (λ refusal. refusal_of refusal ≡ no_memory) }
 {
     match plan {
         Plan::Table(table) => {
@@ -212,33 +154,74 @@ fn shorter_controller(
     }
 }
 
-/// The plan that `plan` finds as a controller, if it is one.
-fn shown_as_found(
-    alloc: Global,
-    sought: &Sought<'_>,
-    found: &Found<'_>,
-) -> Result<Option<Shown>, Refusal>
+/// The controller with the rules that a plan that `plan` finds has: with those of them that serve, or
+/// where what it reaches is too much to be listed, with all. It isn't judged: that it is a controller is
+/// proved of every plan that `plan` finds.
+fn shown_as_found(alloc: Global, sought: &Sought<'_>, found: &Found<'_>) -> Result<Shown, Refusal>
     requires ready { IsReady sought.now }
     requires found { IsFoundFor sought.now found.now }
-    ensures shown { IfOk result (λ found. IfSome found (IsShownFor sought.now)) }
+    ensures shown { IfOk result (IsShownFor sought.now) }
     ensures refused { IfErr result (IsRefusedFor sought.now) }
 {
-    judged_plans_control();
-    match shown_plan(alloc, &sought.wanted(), found.plan) {
-        Ok(shown) => Ok(shown),
-        Err(refusal) => Err(refusal),
+    match explore(alloc, &sought.grounded.task, found.plan) {
+        Ok(graph) => shown_serving(alloc, sought, found, &graph),
+        Err(GraphErr::Initial) => shown_unlisted(alloc, sought, found, Limit::Initial),
+        Err(GraphErr::TooLarge) => shown_unlisted(alloc, sought, found, Limit::Configurations),
+        Err(GraphErr::Memory) => Err(Refusal::NoMemory),
     }
 }
 
-/// Refuses where a plan with contexts that `plan` finds reaches more than may be followed.
-fn check_found(alloc: Global, sought: &Sought<'_>, found: &Found<'_>) -> Result<(), Refusal>
+/// The controller with those rules of a plan that `plan` finds that serve in its graph.
+fn shown_serving(
+    alloc: Global,
+    sought: &Sought<'_>,
+    found: &Found<'_>,
+    graph: &Graph,
+) -> Result<Shown, Refusal>
     requires ready { IsReady sought.now }
     requires found { IsFoundFor sought.now found.now }
-    requires contexts { kind_of sought.now.asked.now.plan.kind ≡ with_contexts }
-    ensures { IfErr result (IsRefusedFor sought.now) }
+    requires graph { let task = sought.now.grounded.now.task in
+        IsGraphOf (system_of task) (plain_of found.now.plan.now)
+        (plain_graph (fluent_count task) graph.now) }
+    ensures shown { IfOk result (IsShownFor sought.now) }
+    ensures refused { IfErr result (IsRefusedFor sought.now) }
 {
-    match check_reached(alloc, &sought.grounded.task, found.plan) {
-        Ok(()) => Ok(()),
+    match serving_part(alloc, &sought.grounded.task, found.plan, graph)? {
+        Some(part) => shown_proved(alloc, sought, &part),
+        None => unreachable!(),
+    }
+}
+
+/// The controller with all rules of a plan that `plan` finds, where what it reaches is too much to be
+/// listed; of a plan with contexts the limit that it passes.
+fn shown_unlisted(
+    alloc: Global,
+    sought: &Sought<'_>,
+    found: &Found<'_>,
+    limit: Limit,
+) -> Result<Shown, Refusal>
+    requires ready { IsReady sought.now }
+    requires found { IsFoundFor sought.now found.now }
+    requires large { IsTooLarge sought.now.grounded.now.task (plain_of found.now.plan.now)
+        (limit_of limit) }
+    ensures shown { IfOk result (IsShownFor sought.now) }
+    ensures refused { IfErr result (IsRefusedFor sought.now) }
+{
+    match sought.asked.plan.kind {
+        PlanKind::Class(_) => shown_proved(alloc, sought, found.plan),
+        PlanKind::Contexts => Err(Refusal::OverLimit(limit)),
+    }
+}
+
+/// A plan that is proved to be a controller, as it is shown.
+fn shown_proved(alloc: Global, sought: &Sought<'_>, plan: &Plan) -> Result<Shown, Refusal>
+    requires ready { IsReady sought.now }
+    requires control { IsControllerFor sought.now plan.now }
+    ensures shown { IfOk result (IsShownFor sought.now) }
+    ensures refused { IfErr result (IsRefusedFor sought.now) }
+{
+    match shown_text(alloc, &sought.wanted(), plan, &[]) {
+        Ok(shown) => Ok(shown),
         Err(refusal) => Err(refusal),
     }
 }

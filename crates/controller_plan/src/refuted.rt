@@ -4,7 +4,7 @@ ghost use Rattle.command_base.specs.Values.{bytes_of};
 ghost use Rattle.command_base.specs.Words.{IsNodeLimit};
 ghost use Rattle.encode_task.specs.Made.{MadeOf};
 ghost use Rattle.plan_certs.specs.Certificates.{IsAccepted};
-ghost use Rattle.controller_plan.specs.Judged.{IsNoPlanTold};
+ghost use Rattle.controller_plan.specs.Judged.{IsCertificateOver, IsNoPlanTold};
 ghost use Rattle.plan_certs.specs.Named.{
   AreSetsOf,
   IsCertificateOf,
@@ -23,12 +23,12 @@ ghost use Rattle.task_core.specs.Tasks.{fluent_count, fluent_names, system_of};
 
 use command_base::Text;
 use dd_sets::SetErr;
-use encode_task::{Enc, encode};
+use encode_task::Enc;
 use plan_certs::{Certificate, StateSet, write_cert};
 use refute_cert::{Judged, refute};
 use std::alloc::{AllocError, Global};
 use task_core::{Class, Lit, Task};
-use task_sets::encode_ordered;
+use task_sets::{SetSearch, search_in_tries};
 
 /// The certificate of a class with these sets, of cubes.
 pub(crate) fn certificate_of(
@@ -48,9 +48,42 @@ pub(crate) fn certificate_of(
     })
 }
 
-/// Whether a certificate is accepted, in a table for so many nodes: over variables in an order that is
-/// chosen for the task, and where that fails, once more from nothing, over the fluents in their own
-/// order. It isn't where these fail.
+/// The verdict on a certificate, with so many nodes.
+#[derive(Clone, Copy)]
+struct CertificateJudge<'a> {
+    nodes: u32,
+    certificate: &'a Certificate,
+}
+
+impl SetSearch for CertificateJudge<'_> {
+    ghost use Rattle.controller_plan.specs.Judged.{IsCertificateOver};
+    ghost use Rattle.plan_certs.specs.Certificates.{IsAccepted};
+    ghost use Rattle.plan_certs.specs.Named.{plain_certificate};
+    ghost use Rattle.std.specs.Prelude.{IsTrue, ⊤};
+    ghost use Rattle.task_core.specs.Tasks.{system_of};
+
+    /// Whether it is accepted.
+    type Found = bool;
+
+    ghost nodes = { λ self. self.nodes };
+
+    ghost fits = { λ self task. IsCertificateOver task (plain_certificate self.certificate.now) };
+
+    ghost finds = { λ self task is. IsTrue is
+        → IsAccepted (system_of task) (plain_certificate self.certificate.now) };
+
+    ghost lacks_room = { λ self task before after. ⊤ };
+
+    fn nodes(&self) -> u32 {
+        self.nodes
+    }
+
+    fn find(&self, alloc: Global, task: &Task, enc: &mut Enc) -> Result<bool, SetErr> {
+        is_accepted_over(alloc, task, enc, self.certificate)
+    }
+}
+
+/// Whether a certificate is accepted, as far as so many nodes are enough to find it out.
 pub(crate) fn is_accepted(alloc: Global, nodes: u32, task: &Task, certificate: &Certificate) -> bool
     requires room { IsNodeLimit nodes }
     requires goal { IsSome task.now.goal }
@@ -58,50 +91,31 @@ pub(crate) fn is_accepted(alloc: Global, nodes: u32, task: &Task, certificate: &
     ensures { IsTrue result
         → IsAccepted (system_of task.now) (plain_certificate certificate.now) }
 {
-    match is_accepted_in_order(alloc, nodes, task, certificate) {
+    let wanted = CertificateJudge { nodes, certificate };
+    match judged_certificate(alloc, task, &wanted) {
         Ok(is) => is,
-        Err(_) => match is_accepted_plainly(alloc, nodes, task, certificate) {
-            Ok(is) => is,
-            Err(_) => false,
-        },
+        Err(_) => false,
     }
 }
 
-/// The first try: over variables in an order that is chosen for the task.
-fn is_accepted_in_order(
+/// Whether a certificate is accepted. It isn't where there is no initial state.
+fn judged_certificate(
     alloc: Global,
-    nodes: u32,
     task: &Task,
-    certificate: &Certificate,
+    wanted: &CertificateJudge<'_>,
 ) -> Result<bool, SetErr>
-    requires room { IsNodeLimit nodes }
-    requires goal { IsSome task.now.goal }
-    requires in_task { AreSetsOf (fluent_count task.now) (plain_certificate certificate.now).sets }
+    requires room { IsNodeLimit wanted.now.nodes }
+    requires of_task { IsCertificateOver task.now (plain_certificate wanted.now.certificate.now) }
     ensures { IfOk result (λ is. IsTrue is
-        → IsAccepted (system_of task.now) (plain_certificate certificate.now)) }
+        → IsAccepted (system_of task.now) (plain_certificate wanted.now.certificate.now)) }
 {
-    let mut enc = encode_ordered(alloc, task, nodes)?;
-    is_accepted_over(alloc, task, &mut enc, certificate)
+    match search_in_tries(alloc, task, wanted)? {
+        Some(is) => Ok(is),
+        None => Ok(false),
+    }
 }
 
-/// The second try: over the fluents in their own order.
-fn is_accepted_plainly(
-    alloc: Global,
-    nodes: u32,
-    task: &Task,
-    certificate: &Certificate,
-) -> Result<bool, SetErr>
-    requires room { IsNodeLimit nodes }
-    requires goal { IsSome task.now.goal }
-    requires in_task { AreSetsOf (fluent_count task.now) (plain_certificate certificate.now).sets }
-    ensures { IfOk result (λ is. IsTrue is
-        → IsAccepted (system_of task.now) (plain_certificate certificate.now)) }
-{
-    let mut enc = encode(alloc, task, nodes)?;
-    is_accepted_over(alloc, task, &mut enc, certificate)
-}
-
-/// The same over the task's sets.
+/// Whether a certificate is accepted, over the task's sets.
 fn is_accepted_over(
     alloc: Global,
     task: &Task,
@@ -109,8 +123,7 @@ fn is_accepted_over(
     certificate: &Certificate,
 ) -> Result<bool, SetErr>
     requires made { MadeOf task.now enc.old }
-    requires goal { IsSome task.now.goal }
-    requires in_task { AreSetsOf (fluent_count task.now) (plain_certificate certificate.now).sets }
+    requires of_task { IsCertificateOver task.now (plain_certificate certificate.now) }
     ensures { IfOk result (λ is. IsTrue is
         → IsAccepted (system_of task.now) (plain_certificate certificate.now)) }
 {

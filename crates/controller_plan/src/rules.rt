@@ -128,40 +128,38 @@ fn in_order_served(
     followed: &Followed,
     rules: &[ShortRule],
 ) -> Result<Vec<ShortRule>, AllocError> {
-    let mut left = copy_of(alloc, rules)?;
+    let mut is_served = vec![in alloc; false; rules.len()]?;
     let mut served = Vec::new(alloc);
     for (number, place) in followed.places.iter().enumerate() {
-        if maker.may_look(left.len()) && !has_counting(&served, place) {
+        if maker.may_look(rules.len(), served.len()) && !maker.has_counting(&served, place) {
             maker.looks = maker.looks.saturating_add(rules.len() as u64);
-            if let Some(found) = first_counting(&left, place) {
-                let rule = left.remove(found);
-                served.push(rule.first_after(steps_at(followed, number)))?;
+            if let Some(found) = first_counting(rules, place) {
+                mark(&mut is_served, found);
+                served.push(rules[found].first_after(steps_at(followed, number)))?;
             }
         }
     }
-    for rule in &left {
-        served.push(*rule)?;
+    for (number, rule) in rules.iter().enumerate() {
+        if !is_marked(&is_served, number) {
+            served.push(*rule)?;
+        }
     }
     Ok(served)
 }
 
-/// The same rules.
-fn copy_of(alloc: Global, rules: &[ShortRule]) -> Result<Vec<ShortRule>, AllocError> {
-    let mut copy = Vec::new(alloc);
-    for rule in rules {
-        copy.push(*rule)?;
+/// Marks a number.
+fn mark(marks: &mut [bool], number: usize) {
+    if let Some(mark) = marks.get_mut(number) {
+        *mark = true;
     }
-    Ok(copy)
 }
 
-/// Whether some rule counts in a configuration.
-fn has_counting(rules: &[ShortRule], place: &Place) -> bool {
-    for rule in rules {
-        if rule.counts_in(place) {
-            return true;
-        }
+/// Whether a number is marked.
+fn is_marked(marks: &[bool], number: usize) -> bool {
+    match marks.get(number) {
+        Some(mark) => *mark,
+        None => false,
     }
-    false
 }
 
 /// The number of the first rule that counts in a configuration.
@@ -260,13 +258,19 @@ impl Maker {
         }
     }
 
-    /// Whether so many rules may be looked through once more. Full rules stand in their order from the
-    /// beginning.
-    fn may_look(&self, rules: usize) -> bool {
+    /// Whether so many rules, of which so many serve already, may be looked through once more. Full rules
+    /// stand in their order from the beginning.
+    fn may_look(&self, rules: usize, served: usize) -> bool {
         match self.length {
-            Length::Short => rules > 0 && self.looks < MOST_LOOKS,
+            Length::Short => served < rules && self.looks < MOST_LOOKS,
             Length::Full => false,
         }
+    }
+
+    /// Whether one of some rules counts in a configuration.
+    fn has_counting(&mut self, rules: &[ShortRule], place: &Place) -> bool {
+        self.looks = self.looks.saturating_add(rules.len() as u64);
+        first_counting(rules, place).is_some()
     }
 
     /// How the next rule is made.

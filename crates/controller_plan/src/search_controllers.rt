@@ -6,7 +6,6 @@ ghost use Rattle.command_base.specs.Words.{of_class};
 ghost use Rattle.controller_plan.specs.Sought.{
   FollowsFor,
   IsReady,
-  IsRefusedFor,
   IsRefutedFor,
   IsShownFor,
 };
@@ -31,7 +30,7 @@ pub(crate) fn shown_sought(
 ) -> Result<Option<Shown>, Refusal>
     requires { IsReady sought.now }
     ensures shown { IfOk result (λ found. IfSome found (FollowsFor sought.now)) }
-    ensures refused { IfErr result (IsRefusedFor sought.now) }
+    ensures refused { IfErr result (λ refusal. refusal_of refusal ≡ no_memory) }
 {
     match seek(alloc, &sought.asked.plan, sought.grounded, effort)? {
         Searched::Followed(followed) => followed_controller(alloc, sought, &followed),
@@ -41,7 +40,8 @@ pub(crate) fn shown_sought(
     }
 }
 
-/// The controller for what a plan does where it reaches, if rules for that make one.
+/// The controller for what a plan does where it reaches, if rules for that make one whose text isn't too
+/// long.
 pub(crate) fn followed_controller(
     alloc: Global,
     sought: &Sought<'_>,
@@ -49,13 +49,18 @@ pub(crate) fn followed_controller(
 ) -> Result<Option<Shown>, Refusal>
     requires { IsReady sought.now }
     ensures shown { IfOk result (λ found. IfSome found (IsShownFor sought.now)) }
-    ensures refused { IfErr result (IsRefusedFor sought.now) }
+    ensures refused { IfErr result (λ refusal. refusal_of refusal ≡ no_memory) }
 {
     judged_plans_control();
-    shown_controller(alloc, &sought.wanted(), followed)
+    match shown_controller(alloc, &sought.wanted(), followed) {
+        Ok(found) => Ok(found),
+        Err(Refusal::NoMemory) => Err(Refusal::NoMemory),
+        Err(_) => Ok(None),
+    }
 }
 
-/// The controller with the rules of a table, of which the first that matches counts, if they make one.
+/// The controller with the rules of a table, of which the first that matches counts, if they make one whose
+/// text isn't too long.
 pub(crate) fn table_controller(
     alloc: Global,
     sought: &Sought<'_>,
@@ -63,10 +68,14 @@ pub(crate) fn table_controller(
 ) -> Result<Option<Shown>, Refusal>
     requires { IsReady sought.now }
     ensures shown { IfOk result (λ found. IfSome found (IsShownFor sought.now)) }
-    ensures refused { IfErr result (IsRefusedFor sought.now) }
+    ensures refused { IfErr result (λ refusal. refusal_of refusal ≡ no_memory) }
 {
     judged_plans_control();
-    shown_table(alloc, &sought.wanted(), rules)
+    match shown_table(alloc, &sought.wanted(), rules) {
+        Ok(found) => Ok(found),
+        Err(Refusal::NoMemory) => Err(Refusal::NoMemory),
+        Err(_) => Ok(None),
+    }
 }
 
 /// That there is no plan, where these sets of cubes are a certificate of that for the class.

@@ -9,14 +9,16 @@ ghost use Rattle.plan_theory.specs.Classes.{IsFoundByLayers};
 ghost use Rattle.std.specs.Prelude.{◌≡◌, ◌≤◌, IfOk, IfSome, IsSome, OnOk};
 ghost use Rattle.task_core.specs.Tasks.{action_count, fluent_count};
 
+use crate::allowances::allowance_for;
 use crate::context_searches::follow_contexts;
 use crate::followed::{Followed, TakerSets};
+use crate::set_outcomes::{SetOutcome, followed_in_tries, outcome_of_try};
 use crate::staged::{follow_forward, follow_nearest};
 use crate::state_plans::StatePlan;
 use command_base::{PlanKind, PlanWords};
 use cyclic_plan::{cyclic_takers, takers_of};
 use dd_sets::SetErr;
-use encode_task::{Enc, encode};
+use encode_task::Enc;
 use exec_graph::MAX_CONFIGURATIONS;
 use ground_task::Grounded;
 use guided_plan::{Allowance, GuidedAnswer, plan_guided};
@@ -26,7 +28,7 @@ use reach_plan::{Takers, find_takers};
 use reached_plan::plan_reached;
 use std::alloc::{AllocError, AllocFailed, Global};
 use task_core::{ActionId, InitErr, Lit, Task, init_states};
-use task_sets::encode_ordered;
+use task_sets::{SetSearch, search_in_tries};
 
 /// How many states are gone through before anything else is tried.
 const FEW_STATES: usize = 4_096;
@@ -233,14 +235,16 @@ fn follow_thoroughly(
     }
 }
 
-/// Looks for a plan of a class by a heuristic search which may do so much.
+/// Looks for a plan of a class by a heuristic search which may do so much, or less where conditions are
+/// large.
 fn seek_guided(
     alloc: Global,
     class: Class,
     task: &Task,
     allowance: &Allowance,
 ) -> Result<Searched, AllocError> {
-    match plan_guided(alloc, task, class, allowance)? {
+    let allowance = allowance_for(task, allowance);
+    match plan_guided(alloc, task, class, &allowance)? {
         GuidedAnswer::States(plan) => {
             outcome_of(follow_states(alloc, task, &StatePlan::Guided(plan)))
         }
@@ -257,9 +261,7 @@ fn follow_states(alloc: Global, task: &Task, plan: &StatePlan) -> Result<Option<
     Ok(Some(followed))
 }
 
-/// What the plan of a class reaches that is found over sets of states, if there is one: over
-/// variables in an order that is chosen for the task, and where there is no room or no memory for
-/// that, once more from nothing, over the fluents in their own order.
+/// What the plan of a class reaches that is found over sets of states, if there is one.
 fn follow_encoded(
     alloc: Global,
     class: Class,
@@ -271,41 +273,39 @@ fn follow_encoded(
     if task.goal.is_none() {
         return Ok(None);
     }
-    match follow_in_order(alloc, class, nodes, task) {
-        Err(Stop::Full | Stop::Memory) => follow_plainly(alloc, class, nodes, task),
-        answer => answer,
+    followed_in_tries(search_in_tries(alloc, task, &ClassSets { class, nodes }))
+}
+
+/// The search over sets for the plan of a class, which is then followed, with so many nodes.
+#[derive(Clone, Copy)]
+struct ClassSets {
+    class: Class,
+    nodes: u32,
+}
+
+impl SetSearch for ClassSets {
+    ghost use Rattle.std.specs.Prelude.{IsSome, ⊤};
+
+    type Found = SetOutcome;
+
+    ghost nodes = { λ self. self.nodes };
+
+    ghost fits = { λ self task. IsSome task.goal };
+
+    ghost finds = { λ self task found. ⊤ };
+
+    ghost lacks_room = { λ self task before after. ⊤ };
+
+    fn nodes(&self) -> u32 {
+        self.nodes
+    }
+
+    fn find(&self, alloc: Global, task: &Task, enc: &mut Enc) -> Result<SetOutcome, SetErr> {
+        outcome_of_try(follow_sets(alloc, self.class, task, enc))
     }
 }
 
-/// The first try: over variables in an order that is chosen for the task.
-fn follow_in_order(
-    alloc: Global,
-    class: Class,
-    nodes: u32,
-    task: &Task,
-) -> Result<Option<Followed>, Stop>
-    requires room { IsNodeLimit nodes }
-    requires goal { IsSome task.now.goal }
-{
-    let mut enc = encode_ordered(alloc, task, nodes)?;
-    follow_sets(alloc, class, task, &mut enc)
-}
-
-/// The second try: over the fluents in their own order.
-fn follow_plainly(
-    alloc: Global,
-    class: Class,
-    nodes: u32,
-    task: &Task,
-) -> Result<Option<Followed>, Stop>
-    requires room { IsNodeLimit nodes }
-    requires goal { IsSome task.now.goal }
-{
-    let mut enc = encode(alloc, task, nodes)?;
-    follow_sets(alloc, class, task, &mut enc)
-}
-
-/// The same over the task's sets.
+/// What the plan of a class reaches, if there is one, over the task's sets.
 fn follow_sets(
     alloc: Global,
     class: Class,

@@ -1,57 +1,66 @@
 //! Judging the rules of a table on sets of states, with no list of what they reach.
 
 ghost use Rattle.command_base.specs.Words.{IsNodeLimit};
-ghost use Rattle.controller_plan.specs.Judged.{IsGoodOnSets};
-ghost use Rattle.controller_plan.specs.SetRoom.{IsTightForRules};
-ghost use Rattle.dd_sets.specs.Rooms.{NoRoom};
+ghost use Rattle.controller_plan.specs.Judged.{IsGoodOnSets, IsTableOver};
 ghost use Rattle.encode_task.specs.Made.{MadeOf};
-ghost use Rattle.judge_sets.specs.WorkingSets.{BoundsTableSets};
+ghost use Rattle.first_match.specs.FirstMatch.{AreGoodAsRun};
 ghost use Rattle.plan_rules.specs.Plans.{IsRuleOf};
 ghost use Rattle.plan_rules.specs.Rules.{rule_of};
-ghost use Rattle.std.specs.Prelude.{◌+◌, All, IfOk, IsErrOf, IsSome, IsTrue, map, ℕ};
-ghost use Rattle.task_core.specs.Tasks.{action_count, fluent_count};
+ghost use Rattle.std.specs.Prelude.{All, IfOk, IsSome, IsTrue, map};
+ghost use Rattle.task_core.specs.Tasks.{action_count, fluent_count, system_of};
 
-use dd_sets::{SetErr, no_room_is_small};
-use encode_task::{Enc, encode, kept_sets_bound_nodes};
+use dd_sets::SetErr;
+use encode_task::Enc;
 use judge_sets::{TableVerdict, judge_table};
 use plan_rules::{Class, Rule};
-use std::alloc::Global;
+use std::alloc::{AllocError, Global};
 use task_core::Task;
-use task_sets::{encode_ordered, has_no_initial};
+use task_sets::{SetSearch, search_in_tries};
 
-/// Whether rules are good, in a table for so many nodes: over variables in an order that is chosen for
-/// the task, and where that fails, once more from nothing, over the fluents in their own order. A refusal
-/// is that of the second.
+/// The verdict on the rules of a table for a class, with so many nodes.
+#[derive(Clone, Copy)]
+struct RulesJudge<'a> {
+    nodes: u32,
+    class: Class,
+    rules: &'a [Rule],
+}
+
+impl SetSearch for RulesJudge<'_> {
+    ghost use Rattle.controller_plan.specs.Judged.{IsTableOver};
+    ghost use Rattle.first_match.specs.FirstMatch.{AreGoodAsRun};
+    ghost use Rattle.plan_rules.specs.Rules.{rule_of};
+    ghost use Rattle.std.specs.Prelude.{IsTrue, map, ⊤};
+    ghost use Rattle.task_core.specs.Tasks.{system_of};
+
+    /// Whether they are good.
+    type Found = bool;
+
+    ghost nodes = { λ self. self.nodes };
+
+    ghost fits = { λ self task. IsTableOver task (map rule_of self.rules.now) };
+
+    ghost finds = { λ self task are. IsTrue are
+        → AreGoodAsRun self.class (system_of task) (map rule_of self.rules.now) };
+
+    ghost lacks_room = { λ self task before after. ⊤ };
+
+    fn nodes(&self) -> u32 {
+        self.nodes
+    }
+
+    fn find(&self, alloc: Global, task: &Task, enc: &mut Enc) -> Result<bool, SetErr> {
+        are_good_over(alloc, task, enc, self.class, self.rules)
+    }
+}
+
+/// Whether rules are good, as far as so many nodes are enough to find it out.
 pub(crate) fn are_good_rules(
     alloc: Global,
     nodes: u32,
     task: &Task,
     class: Class,
     rules: &[Rule],
-) -> Result<bool, SetErr>
-    requires room { IsNodeLimit nodes }
-    requires goal { IsSome task.now.goal }
-    requires in_task { All (IsRuleOf (fluent_count task.now) (action_count task.now))
-        (map rule_of rules.now) }
-    ensures good { IfOk result (λ are. IsTrue are
-        → IsGoodOnSets class task.now (map rule_of rules.now)) }
-    ensures full { IsErrOf result SetErr.Full
-        → IsTightForRules nodes task.now (map rule_of rules.now) }
-{
-    match are_good_in_order(alloc, nodes, task, class, rules) {
-        Ok(are) => Ok(are),
-        Err(_) => are_good_plainly(alloc, nodes, task, class, rules),
-    }
-}
-
-/// The first try: over variables in an order that is chosen for the task.
-fn are_good_in_order(
-    alloc: Global,
-    nodes: u32,
-    task: &Task,
-    class: Class,
-    rules: &[Rule],
-) -> Result<bool, SetErr>
+) -> Result<bool, AllocError>
     requires room { IsNodeLimit nodes }
     requires goal { IsSome task.now.goal }
     requires in_task { All (IsRuleOf (fluent_count task.now) (action_count task.now))
@@ -59,35 +68,32 @@ fn are_good_in_order(
     ensures { IfOk result (λ are. IsTrue are
         → IsGoodOnSets class task.now (map rule_of rules.now)) }
 {
-    let mut enc = encode_ordered(alloc, task, nodes)?;
-    are_good_over(alloc, task, &mut enc, class, rules)
+    let wanted = RulesJudge {
+        nodes,
+        class,
+        rules,
+    };
+    match judged_rules(alloc, task, &wanted) {
+        Ok(are) => Ok(are),
+        Err(SetErr::Full) => Ok(false),
+        Err(SetErr::Memory) => Err(AllocError),
+    }
 }
 
-/// The second try: over the fluents in their own order.
-fn are_good_plainly(
-    alloc: Global,
-    nodes: u32,
-    task: &Task,
-    class: Class,
-    rules: &[Rule],
-) -> Result<bool, SetErr>
-    requires room { IsNodeLimit nodes }
-    requires goal { IsSome task.now.goal }
-    requires in_task { All (IsRuleOf (fluent_count task.now) (action_count task.now))
-        (map rule_of rules.now) }
-    ensures good { IfOk result (λ are. IsTrue are
-        → IsGoodOnSets class task.now (map rule_of rules.now)) }
-    ensures full { IsErrOf result SetErr.Full
-        → IsTightForRules nodes task.now (map rule_of rules.now) }
+/// Whether rules are good. They aren't where there is no initial state.
+fn judged_rules(alloc: Global, task: &Task, wanted: &RulesJudge<'_>) -> Result<bool, SetErr>
+    requires room { IsNodeLimit wanted.now.nodes }
+    requires of_task { IsTableOver task.now (map rule_of wanted.now.rules.now) }
+    ensures { IfOk result (λ are. IsTrue are
+        → IsGoodOnSets wanted.now.class task.now (map rule_of wanted.now.rules.now)) }
 {
-    // These do nothing: that few nodes are too few for sets of their sizes rests on what they promise.
-    no_room_is_small();
-    kept_sets_bound_nodes();
-    let mut enc = encode(alloc, task, nodes)?;
-    are_good_over(alloc, task, &mut enc, class, rules)
+    match search_in_tries(alloc, task, wanted)? {
+        Some(are) => Ok(are),
+        None => Ok(false),
+    }
 }
 
-/// The same over the task's sets.
+/// Whether rules are good, over the task's sets.
 fn are_good_over(
     alloc: Global,
     task: &Task,
@@ -96,22 +102,12 @@ fn are_good_over(
     rules: &[Rule],
 ) -> Result<bool, SetErr>
     requires made { MadeOf task.now enc.old }
-    requires goal { IsSome task.now.goal }
-    requires in_task { All (IsRuleOf (fluent_count task.now) (action_count task.now))
-        (map rule_of rules.now) }
-    ensures good { IfOk result (λ are. IsTrue are
-        → IsGoodOnSets class task.now (map rule_of rules.now)) }
-    ensures full { IsErrOf result SetErr.Full → (width : ℕ)
-        → BoundsTableSets width task.now (map rule_of rules.now)
-        → NoRoom width (action_count task.now + 15) 4 enc.old.sets enc.new.sets }
+    requires of_task { IsTableOver task.now (map rule_of rules.now) }
+    ensures { IfOk result (λ are. IsTrue are
+        → AreGoodAsRun class (system_of task.now) (map rule_of rules.now)) }
 {
-    if has_no_initial(task, enc) {
-        return Ok(false);
-    }
-    match judge_table(alloc, task, enc, class, rules) {
-        Ok(verdict) => Ok(is_good(&verdict)),
-        Err(error) => Err(error),
-    }
+    let verdict = judge_table(alloc, task, enc, class, rules)?;
+    Ok(is_good(&verdict))
 }
 
 /// Whether a verdict says all that is wanted.

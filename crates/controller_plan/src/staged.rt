@@ -7,6 +7,7 @@ ghost use Rattle.plan_rules.specs.Rules.{context_rules_of};
 ghost use Rattle.std.specs.Prelude.{IfSome};
 ghost use Rattle.task_core.specs.Tasks.{action_count, fluent_count};
 
+use crate::allowances::staged_allowance_for;
 use crate::context_searches::is_short;
 use crate::followed::Followed;
 use crate::searches::{Stop, follow_plan};
@@ -35,7 +36,8 @@ pub(crate) fn follow_nearest(alloc: Global, grounded: &Grounded) -> Result<Optio
     match short_goal(alloc, grounded)? {
         Some(goal) if is_patrol(&goal) => {
             let task = &grounded.task;
-            let found = plan_listed(alloc, task, &goal, Way::Strong, &FEW)?;
+            let few = staged_allowance_for(task, &FEW);
+            let found = plan_listed(alloc, task, &goal, Way::Strong, &few)?;
             follow_if_found(alloc, task, found)
         }
         _ => Ok(None),
@@ -47,7 +49,8 @@ pub(crate) fn follow_forward(alloc: Global, grounded: &Grounded) -> Result<Optio
     match short_goal(alloc, grounded)? {
         Some(goal) => {
             let task = &grounded.task;
-            let found = plan_forward(alloc, task, &goal, Way::Strong, &MANY)?;
+            let many = staged_allowance_for(task, &MANY);
+            let found = plan_forward(alloc, task, &goal, Way::Strong, &many)?;
             follow_if_found(alloc, task, found)
         }
         None => Ok(None),
@@ -62,7 +65,8 @@ pub(crate) fn fair_nearest(
     goal: &ContextGoal,
 ) -> Result<Option<AutoPlan>, AllocError> {
     if is_patrol(goal) {
-        plan_listed(alloc, task, goal, Way::Fair, &FEW)
+        let few = staged_allowance_for(task, &FEW);
+        plan_listed(alloc, task, goal, Way::Fair, &few)
     } else {
         Ok(None)
     }
@@ -75,7 +79,8 @@ pub(crate) fn fair_forward(
     task: &Task,
     goal: &ContextGoal,
 ) -> Result<Option<AutoPlan>, AllocError> {
-    plan_forward(alloc, task, goal, Way::Fair, &MANY)
+    let many = staged_allowance_for(task, &MANY);
+    plan_forward(alloc, task, goal, Way::Fair, &many)
 }
 
 /// The goal, if it is an until-chain or a patrol goal with few stages or visits.

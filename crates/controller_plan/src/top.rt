@@ -24,7 +24,8 @@ use std::alloc::Global;
 /// - 1: there is no plan of the kind; with `--cert` a certificate of that stands below;
 /// - 4: a limit is passed, one of those of `plan`, or: the text would be longer than 1,048,576 bytes;
 ///   of a plan with contexts, there are more than 262,144 initial states, or more than 262,144
-///   configurations are reached; or no controller was judged to be good;
+///   configurations are reached. Where `plan` finds a plan, one of these limits is the only reason why
+///   no controller is shown, but for want of memory;
 /// - 2, 3, 5, 6, 7, 8: as for `plan`.
 pub fn control<S: Shelf, O: Sink, E: Sink>(
     alloc: Global,

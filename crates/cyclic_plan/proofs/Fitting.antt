@@ -4,6 +4,7 @@ use Rattle.std.specs.List.{list_all, list_any, range_with_len}
 use Rattle.std.proofs.Math.Path.{fun_ext}
 use Rattle.std.proofs.lemmas.List.FromFn.{get_or-map-range_with_len, length-map-range_with_len}
 use Rattle.std.proofs.lemmas.List.Folds.{list_any-append}
+use Rattle.list_laws.proofs.Booleans.{or_false, and_true}
 use Rattle.dd_nodes.specs.NodeList.{Values}
 use Rattle.dd_nodes.specs.Subfunctions.{DependsOnly, Function}
 use Rattle.dd_ops.specs.Operations.{and_of, minus_of, or_of}
@@ -85,14 +86,6 @@ led_hits task set a =
     fun_ext (λ values.
     ap (λ (outcomes : List Outcome). exec_set task a values && list_any (λ o. space_set task (after_value o values) && set (after_value o values)) outcomes)
     (sym (take_all (length (outcomes_at task a)) (outcomes_at task a) (omega arith))))
-
-or_false : (b : Bool) → (b || false) ≡ b
-or_false true = refl
-or_false false = refl
-
-and_true : (b : Bool) → (b && true) ≡ b
-and_true true = refl
-and_true false = refl
 
 either_way : (b : Bool) → (not b || b) ≡ (not b || true)
 either_way true = refl

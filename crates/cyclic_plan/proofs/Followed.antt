@@ -3,6 +3,7 @@ use Rattle.std.proofs.Common.{◌≡◌, ◌≢◌, ◌⊎◌, inl, inr, ℕ, ze
 use Rattle.std.specs.Prelude.{slice_index_or, slice_set}
 use Rattle.std.proofs.lemmas.Bool.{and_parts, cases_eq, cases_lt, false≢true, or_left, or_right}
 use Rattle.std.proofs.lemmas.List.{append-nil, append_assoc, length-set, get_or-set_same, get_or-set_other}
+use Rattle.list_laws.proofs.Booleans.{or_same}
 use Rattle.dd_nodes.specs.Subfunctions.{Function}
 use Rattle.dd_ops.specs.Operations.{or_of}
 use Rattle.dd_sets.specs.declared.errors.SetErr.{SetErr}
@@ -38,11 +39,6 @@ noted_then start now slots P Q (Err e) never done at then = (at, λ full. absurd
 pub memory_passed : {S T : Type 0} (start : Start) (now : Encoded) (slots : List SetId) (Q : Type 0) (inner : Result S SetErr) (outer : Result T SetErr) (e : SetErr) → inner ≡ Err e → (x : SetErr) × (outer ≡ Err x) × (x ≡ e) → IfErr inner (λ e. e ≡ Memory) → At start now slots → Left start now slots Q outer
 memory_passed start now slots Q inner outer e was p never at =
     subst (Left start now slots Q) (sym p.1) (at, λ full. absurd (let m : e ≡ Memory = subst (λ r. IfErr r (λ e. e ≡ Memory)) was never in let no : Memory ≡ Full = sym m ∙ sym p.2 ∙ full in cc))
-
-or_same : (x y : Bool) → (y ≡ true → x ≡ true) → x ≡ (x || y)
-or_same true y up = refl
-or_same false true up = up refl
-or_same false false up = refl
 
 and_never : (x y : Bool) → (y ≡ true → x ≡ true) → false ≡ (y && not x)
 and_never true true up = refl

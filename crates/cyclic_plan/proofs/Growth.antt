@@ -1,12 +1,11 @@
 -- One step more from the goal: what is near, and what is taken.
 use Rattle.std.proofs.Common.{◌≡◌, ◌≢◌, ℕ, zero, suc, ◌+◌, ◌-◌, ◌<◌, ◌≤◌, ◌^◌, ◌==◌, Bool, true, false, cond, not, ◌&&◌, ◌||◌, List, [], ◌∷◌, ◌++◌, map, length, None, Some, refl, sym, ap, subst, ◌∙◌, ⊎_elim, arith, nat_lt}
-use Rattle.std.specs.Option.{option_and_then, option_or}
+use Rattle.std.specs.Option.{option_and_then}
 use Rattle.std.specs.List.{Contains, find, list_any, range_with_len}
 use Rattle.std.proofs.Math.Path.{fun_ext}
 use Rattle.std.proofs.lemmas.Bool.{cases_eq, cases_lt, cond-false, cond-true, eq-eqb, false_from_ne_true, false≢true, lt-ltb, ltb-true, ne_eqb, or_left, true≢false}
-use Rattle.std.proofs.lemmas.List.{append-nil, append_assoc}
 use Rattle.std.proofs.lemmas.Option.{same_Some}
-use Rattle.std.proofs.lemmas.List.Folds.{list_any-append, find-append}
+use Rattle.std.proofs.lemmas.List.Folds.{list_any-append}
 use Rattle.std.proofs.lemmas.List.FromFn.{get_or-map-range_with_len, length-map-range_with_len}
 use Rattle.dd_nodes.specs.Subfunctions.{DependsOnly, Function}
 use Rattle.dd_sets.specs.declared.slots.SetId.{SetId}
@@ -20,7 +19,7 @@ use Rattle.plan_theory.specs.Classes.{IsStable}
 use Rattle.plan_theory.specs.Layers.{action_numbers, layer, may_lead}
 use Rattle.plan_theory.specs.LayerPlans.{action_of_rank, chosen_action, is_action, takers}
 use Rattle.plan_theory.proofs.ClassLayers.{chosen_kept, chosen_zero, layer-stable, rank_within-None, step_choice}
-use Rattle.list_laws.proofs.Ranges.{find-first, range-more}
+use Rattle.list_laws.proofs.Ranges.{find-first, range-more, find-before}
 use Rattle.plan_theory.proofs.LeastBounds.{stands_still}
 use Rattle.list_laws.proofs.Elements.{find-None, find-Some, find-found, Contains-range_with_len-below}
 use Rattle.plan_theory.proofs.WeakPrinted.{is_action-Some, is_action-from}
@@ -116,20 +115,6 @@ taken_more true sys near taken n a v =
     (cases_eq a n)
 
 -- the least-numbered action that passes a test is b
-split : (k m : ℕ) → range_with_len 0 (k + m) ≡ range_with_len 0 k ++ range_with_len k m
-split k zero = ap (range_with_len 0) (let e : k + 0 ≡ k = omega arith in e) ∙ sym (append-nil (range_with_len 0 k))
-split k (suc m) =
-    let e : k + suc m ≡ (k + 1) + m = omega arith in
-    ap (range_with_len 0) e ∙ (split (k + 1) m
-    ∙ (ap (λ xs. xs ++ range_with_len (k + 1) m) (range-more k) ∙ append_assoc (range_with_len 0 k) (k ∷ []) (range_with_len (k + 1) m)))
-
-found_before : (p : ℕ → Bool) (b n a : ℕ) → b < n → find p (range_with_len 0 b) ≡ Some a → find p (range_with_len 0 n) ≡ Some a
-found_before p b n a below h =
-    let m = n - b in
-    let e : n ≡ b + m = omega arith in
-    ap (λ k. find p (range_with_len 0 k)) e ∙ ap (find p) (split b m)
-    ∙ find-append p (range_with_len 0 b) (range_with_len b m) ∙ ap (λ o. option_or o (find p (range_with_len b m))) h
-
 pub first_is : (p : ℕ → Bool) (n b : ℕ) → b < n → (p b && not (list_any p (range_with_len 0 b))) ≡ is_action b (find p (range_with_len 0 n))
 first_is p n b below = go (p b) (list_any p (range_with_len 0 b)) refl refl
   where
@@ -141,7 +126,7 @@ first_is p n b below = go (p b) (list_any p (range_with_len 0 b)) refl refl
         let w = find-Some p (range_with_len 0 b) f in
         let at = find-found p (range_with_len 0 b) w.0 w.1 in
         let low : w.0 < b = Contains-range_with_len-below b w.0 at.0 in
-        let e : w.0 ≡ b = same_Some w.0 b (sym (found_before p b n w.0 below w.1) ∙ is_action-Some b (find p (range_with_len 0 n)) h) in
+        let e : w.0 ≡ b = same_Some w.0 b (sym (find-before p b n w.0 below w.1) ∙ is_action-Some b (find p (range_with_len 0 n)) h) in
         omega arith
 
     fails : p b ≡ false → is_action b (find p (range_with_len 0 n)) ≡ true → ⊥

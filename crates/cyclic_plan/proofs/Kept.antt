@@ -20,7 +20,7 @@ use Rattle.cyclic_plan.specs.Steps.{AddsNothing, AreAll, AreStepsFrom, near_at, 
 use Rattle.slot_board.specs.declared.steps.Step.{Step}
 use Rattle.slot_board.specs.declared.steps.Step.TheVariants.{Advance, Grow}
 use Rattle.cyclic_plan.proofs.Narrowing.{stays}
-use Rattle.cyclic_plan.proofs.PlanMade.{same_truth}
+use Rattle.list_laws.proofs.Booleans.{same_truth}
 use Rattle.cyclic_plan.proofs.StageSteps.{may_restricted}
 
 module _ (start : Start) (r : ℕ) (none : (a : ℕ) → a < action_count start.task → LosesNone (system_of start.task) r a) where

@@ -24,7 +24,7 @@ use Rattle.slot_board.specs.declared.board.Outcomes.TheVariants as Outcomes
 use Rattle.cyclic_plan.specs.Stages.{Agrees, HasNear, HasRounds, none_taken}
 use Rattle.cyclic_plan.specs.Rounds.{HasDropped, HasMet, LosesNone}
 use Rattle.cyclic_plan.proofs.Growth.{near_as}
-use Rattle.cyclic_plan.proofs.PlanMade.{same_truth}
+use Rattle.list_laws.proofs.Booleans.{same_truth}
 use Rattle.cyclic_plan.proofs.RoundsMade.{left_copied}
 use Rattle.cyclic_plan.proofs.StageSteps.{here, round_still, still, strong_agrees}
 

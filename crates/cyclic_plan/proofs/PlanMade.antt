@@ -5,6 +5,7 @@ use Rattle.std.specs.List.{Contains, flat_map, list_all, list_any, range_with_le
 use Rattle.std.proofs.lemmas.Grind.{flat_map-append}
 use Rattle.std.proofs.lemmas.List.{append-nil}
 use Rattle.std.proofs.lemmas.Bool.{and_from, and_parts}
+use Rattle.list_laws.proofs.Booleans.{same_truth}
 use Rattle.plan_rules.specs.Rules.{PlanRule}
 use Rattle.list_laws.proofs.Ranges.{range-more}
 use Rattle.plan_theory.specs.LayerPlans.{rules_of_action, takers}
@@ -34,12 +35,6 @@ use Rattle.cyclic_plan.specs.Takers.{HasTable}
 use Rattle.plan_theory.specs.PairRounds.{round}
 use Rattle.cyclic_plan.specs.Stages.{Agrees, HasNear, HasRound, Takings, none_taken}
 use Rattle.cyclic_plan.proofs.StageSteps.{here, near_still, still}
-
--- two truth values of which each says the other
-pub same_truth : (x y : Bool) → (x ≡ true → y ≡ true) → (y ≡ true → x ≡ true) → x ≡ y
-same_truth true y there back = sym (there refl)
-same_truth false true there back = back refl
-same_truth false false there back = refl
 
 -- the goal's slot holds the goal states
 goal_is : (task : Task) (cond : Cond) (v : Vector) → length v ≡ fluent_count task → goal_set task cond (value_of v) ≡ list_any (same_vector v) (states_where task cond)

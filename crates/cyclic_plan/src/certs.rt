@@ -78,7 +78,6 @@ fn lose_first(
     alloc: Global,
     enc: &mut Enc,
     board: &mut Board,
-    steps: &mut Vec<Step>,
     goal: SetId,
     actions: u32,
 ) -> Result<(), SetErr>
@@ -90,7 +89,8 @@ fn lose_first(
         (HasLost start enc.new board.new.slots.items 0) result }
 {
     begin(enc, board, goal)?;
-    round(alloc, enc, board, steps, actions)?;
+    let mut steps = Vec::new(alloc);
+    round(alloc, enc, board, &mut steps, actions)?;
     first_lost(enc, board)
 }
 
@@ -124,7 +124,6 @@ fn all_sets(
     alloc: Global,
     enc: &mut Enc,
     board: &mut Board,
-    steps: &mut Vec<Step>,
     actions: u32,
     sets: &mut Vec<StateSet>,
 ) -> Result<(), SetErr>
@@ -135,9 +134,10 @@ fn all_sets(
         → Left start enc.new board.new.slots.items
         (HasAllSets start enc.new board.new.slots.items sets.new.items) result }
 {
+    let mut steps = Vec::new(alloc);
     while !board.is_empty(enc, NEW) {
         add_set(enc, board, sets)?;
-        lose_more(alloc, enc, board, steps, actions)?;
+        lose_more(alloc, enc, board, &mut steps, actions)?;
     }
     Ok(())
 }
@@ -157,10 +157,9 @@ fn find_sets(
     ensures { (start : Start) → HasNothing start enc.old board.old.slots.items
         → CertificateEnds start enc.new board.new.slots.items result }
 {
-    let mut steps = Vec::new(alloc);
-    lose_first(alloc, enc, board, &mut steps, goal, actions)?;
+    lose_first(alloc, enc, board, goal, actions)?;
     let mut sets = Vec::new(alloc);
-    all_sets(alloc, enc, board, &mut steps, actions, &mut sets)?;
+    all_sets(alloc, enc, board, actions, &mut sets)?;
     if board.covers_initial(enc, NEAR)? {
         Ok(None)
     } else {

@@ -1,9 +1,11 @@
 pub mod ActionSizes
 pub mod ChangeLemmas
+pub mod CondWeights
 pub mod CountLemmas
 pub mod EntryLemmas
 pub mod EntrySizes
 mod Examples
+pub mod HalfLemmas
 pub mod ImageLemmas
 pub mod InitialLemmas
 pub mod KeptLemmas

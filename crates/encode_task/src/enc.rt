@@ -328,8 +328,8 @@ impl Enc {
 
     /// The lists of truth values at which a condition holds, in a new slot.
     ///
-    /// While it works at most 204 slots more than at entry are live, where the condition is at most
-    /// 200 deep.
+    /// Where it finds no room, at most 204 slots more than at entry are live while it works at last, if the
+    /// condition is at most 200 deep.
     pub fn set_of(&mut self, cond: &Cond) -> Result<SetId, SetErr>
         requires fluents { ids_below self.old.sets.vars cond.now ≡ true }
         ensures added { IfOk result (λ slot. Adds self.old.sets self.new.sets slot.0

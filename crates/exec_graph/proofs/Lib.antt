@@ -17,3 +17,4 @@ pub mod Skipped
 pub mod WordBits
 pub mod KnownSteps
 pub mod KnownPlaces
+pub mod ShortTasks

@@ -51,6 +51,7 @@ use crate::rules::{ByContext, RuleIndex, by_context, table_index};
 use cube_index::CubeIndex;
 use indexmap::IndexSet;
 use plan_rules::{FIRST_CONTEXT, Plan};
+use short_conditions::short_task;
 use std::alloc::{AllocError, Global};
 use task_core::{InitErr, State, Task, init_states};
 use thiserror::Error;
@@ -101,9 +102,29 @@ pub(crate) struct Draft {
 ///
 /// Each configuration is visited once. The time grows with the number of configurations times that
 /// of the rules that are tried in one: those of a table that match it, which are found 64 at a time,
-/// or those of one context of an automaton. An automaton takes memory for each of its contexts, a
-/// table for each literal of its rules.
+/// or those of one context of an automaton. Conditions are asked in their short forms
+/// (`short_conditions`). An automaton takes memory for each of its contexts, a table for each literal
+/// of its rules.
 pub fn explore(alloc: Global, task: &Task, plan: &Plan) -> Result<Graph, GraphErr>
+    requires { IsPlanOf (fluent_count task.now) (action_count task.now) plan.now }
+    ensures graph { let n = fluent_count task.now in IfOk result (λ graph.
+        IsGraphOf (system_of task.now) (plain_of plan.now) (plain_graph n graph)) }
+    ensures within { IfOk result (IsWithinFluents (fluent_count task.now)) }
+    ensures initial { IsErrOf result GraphErr.Initial → HasTooManyInitial task.now 262144 }
+    ensures few_initial { OnOk result (HasTooManyInitial task.now 262144 → ⊥) }
+    ensures too_large { IsErrOf result GraphErr.TooLarge
+        → ReachesMoreThan (system_of task.now) (plain_of plan.now) 262144 }
+    ensures not_initial { IsErrOf result GraphErr.TooLarge → HasTooManyInitial task.now 262144 → ⊥ }
+    ensures few { OnOk result
+        (ReachesMoreThan (system_of task.now) (plain_of plan.now) 262144 → ⊥) }
+{
+    let short = short_task(alloc, task)?;
+    let graph = explore_task(alloc, &short, plan)?;
+    Ok(graph)
+}
+
+/// The same, by the conditions of the task as they are.
+fn explore_task(alloc: Global, task: &Task, plan: &Plan) -> Result<Graph, GraphErr>
     requires { IsPlanOf (fluent_count task.now) (action_count task.now) plan.now }
     ensures graph { let n = fluent_count task.now in IfOk result (λ graph.
         IsGraphOf (system_of task.now) (plain_of plan.now) (plain_graph n graph)) }

@@ -1,4 +1,5 @@
 pub mod Copies
+pub mod Equal
 pub mod Idle
 pub mod Mistakes
 pub mod NeverTrue

@@ -1,6 +1,7 @@
 -- All that is likely a mistake in the files of a domain and a problem.
 use Rattle.std.specs.Prelude.{◌≡◌, ℕ, List, ◌++◌, codes}
 use Rattle.likely_mistakes.specs.Copies.{copied_outcomes}
+use Rattle.likely_mistakes.specs.Equal.{equal_parameters}
 use Rattle.likely_mistakes.specs.Idle.{idle_effects}
 use Rattle.likely_mistakes.specs.NeverTrue.{unmade_predicates}
 use Rattle.likely_mistakes.specs.NeverUsed.{unused_predicates}
@@ -35,9 +36,9 @@ vocabulary_in files = vocabulary files.domain files.problem files.domain_forms
 -- the mistakes in the file of the domain, kind by kind, those of a kind in the order of the text
 abbrev pub in_domain : VocabularyTree → Forest → Forest → List Mistake
 in_domain words domain_forms problem_forms =
-    (((wrong_types_in_domain words domain_forms ++ unused_predicates domain_forms problem_forms)
+    ((((wrong_types_in_domain words domain_forms ++ unused_predicates domain_forms problem_forms)
     ++ unmade_predicates domain_forms problem_forms) ++ copied_outcomes domain_forms)
-    ++ idle_effects domain_forms
+    ++ idle_effects domain_forms) ++ equal_parameters words domain_forms
 
 abbrev pub mistakes_in_domain : FileTrees → List Mistake
 mistakes_in_domain files = in_domain (vocabulary_in files) files.domain_forms files.problem_forms

@@ -1,7 +1,10 @@
 -- Private: what the code's own types stand for.
 use Rattle.std.specs.Prelude.{List}
+use Rattle.likely_mistakes.specs.Equal.{ActionRows, WordPair}
 use Rattle.likely_mistakes.specs.Mistakes.{FileTrees}
 use Rattle.likely_mistakes.specs.Vocabularies.{VocabularyTree}
+use Rattle.likely_mistakes.specs.declared.alike.Pair.{Pair}
+use Rattle.likely_mistakes.specs.declared.equal.ActionForms.{ActionForms}
 use Rattle.likely_mistakes.specs.declared.finding.Files.{Files}
 use Rattle.likely_mistakes.specs.declared.vocabulary.Vocabulary.{Vocabulary}
 use Rattle.pddl_ast.specs.Values.{domain_value, problem_value}
@@ -23,4 +26,19 @@ trees_value files domain_forms problem_forms = record {
   problem = problem_value files.problem.now;
   domain_forms = forest_of domain_forms;
   problem_forms = forest_of problem_forms;
+}
+
+abbrev pub pair_value : Pair → WordPair
+pair_value pair = record {
+  kept = pair.kept.now;
+  other = pair.other.now;
+  kept_span = pair.kept_span;
+  other_span = pair.other_span;
+}
+
+abbrev pub action_value : ActionForms → ActionRows
+action_value action = record {
+  words = vocabulary_value action.words.now;
+  parameters = forest_of action.parameters.now;
+  condition = forest_of action.condition.now;
 }

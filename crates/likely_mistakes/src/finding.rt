@@ -8,6 +8,7 @@ ghost use Rattle.sexpr_text.specs.Spelling.{Spells};
 ghost use Rattle.std.specs.Prelude.{◌≡◌, ◌≤◌, IfOk, length};
 
 use crate::copies::copied_outcomes;
+use crate::equal::equal_parameters;
 use crate::idle::idle_effects;
 use crate::mistakes::Mistake;
 use crate::never_true::unmade_predicates;
@@ -50,7 +51,7 @@ pub fn find_mistakes(alloc: Global, files: &Files<'_>) -> Result<Mistakes, Alloc
 
 /// The forms that a text spells. Where it has a lexical fault, which the text of a domain or a problem
 /// never has, this fails too.
-fn forms_of(alloc: Global, text: &[u8]) -> Result<Vec<Form>, AllocError>
+pub fn forms_of(alloc: Global, text: &[u8]) -> Result<Vec<Form>, AllocError>
     requires { length text.now ≤ MAX_BYTES }
     ensures { IfOk result (λ forms. Spells text.now forms.items) }
 {
@@ -112,5 +113,6 @@ fn domain_mistakes(
     found.extend_from_slice(&unmade_predicates(words.alloc, domain, problem)?)?;
     found.extend_from_slice(&copied_outcomes(words.alloc, domain)?)?;
     found.extend_from_slice(&idle_effects(words.alloc, domain)?)?;
+    found.extend_from_slice(&equal_parameters(words, domain)?)?;
     Ok(found)
 }

@@ -1,10 +1,13 @@
 //! What in the files of a domain and a problem is likely a mistake, each with its place.
 //!
 //! `mistakes` has the kinds. Each kind is a definition in `specs/` over the forms of the two texts, and
-//! what is found is exactly the list that it is: `WrongTypes`, `NeverUsed`, `Copies`, `Idle`.
+//! what is found is exactly the list that it is: `WrongTypes`, `NeverUsed`, `NeverTrue`, `Copies`,
+//! `Idle`, `Equal`.
 #![tactic(auto)]
 
+mod alike;
 mod copies;
+mod equal;
 mod finding;
 mod idle;
 mod mistakes;
@@ -15,7 +18,7 @@ mod uses;
 mod vocabulary;
 mod wrong_types;
 
-pub use finding::{Files, Mistakes, find_mistakes};
+pub use finding::{Files, Mistakes, find_mistakes, forms_of};
 pub use mistakes::{Mistake, MistakeKind};
-pub use rows::{after_first, section_named, sections_of};
+pub use rows::{after_first, first_parts, section_named, sections_of};
 pub use uses::mentions;

@@ -23,4 +23,6 @@ pub enum MistakeKind {
     Idle,
     /// The predicate is needed, and none of its atoms is ever true.
     NeverTrue,
+    /// The parameters with these spans may be one object, and then another effect undoes this deletion.
+    MayBeEqual(Span, Span),
 }

@@ -19,7 +19,7 @@ pub fn after_first(row: &[Form]) -> &[Form]
 }
 
 /// The parts of the first form, where it is a list.
-pub(crate) fn first_parts(row: &[Form]) -> &[Form]
+pub fn first_parts(row: &[Form]) -> &[Form]
     ensures { forest_of result.now ≡ rows.first_parts (forest_of row.now) }
 {
     match head_of(row) {

@@ -43,7 +43,7 @@ impl Vocabulary<'_> {
     }
 
     /// The type of the variable of this name among those that the row declares.
-    fn declared_type(&self, row: &[Form], name: &Text) -> Option<TypeId>
+    pub(crate) fn declared_type(&self, row: &[Form], name: &Text) -> Option<TypeId>
         ensures { result
             ≡ terms.declared_type (vocabulary_value self.now) (forest_of row.now) name.now }
     {

@@ -4,7 +4,7 @@ use Rattle.std.specs.Prelude.{ℕ, Bool, ◌&&◌, nat_le, Option, List, [], ◌
 use Rattle.std.specs.Option.{option_map_or}
 use Rattle.likely_mistakes.specs.declared.mistakes.Mistake.{Mistake}
 use Rattle.likely_mistakes.specs.declared.mistakes.MistakeKind.{MistakeKind}
-use Rattle.likely_mistakes.specs.declared.mistakes.MistakeKind.TheVariants.{Copied, Idle, NeverTrue, NeverUsed, WrongType}
+use Rattle.likely_mistakes.specs.declared.mistakes.MistakeKind.TheVariants.{Copied, Idle, MayBeEqual, NeverTrue, NeverUsed, WrongType}
 use Rattle.sexpr_text.specs.declared.forms.Place.{Place}
 use Rattle.sexpr_text.specs.declared.forms.Span.{Span}
 
@@ -36,6 +36,7 @@ kind_word NeverUsed = codes "never-used"
 kind_word Copied = codes "copied-outcome"
 kind_word Idle = codes "idle-effect"
 kind_word NeverTrue = codes "never-true"
+kind_word (MayBeEqual kept other) = codes "equal-parameters"
 
 -- what a form takes up of its text
 abbrev pub text_at : List ℕ → Span → List ℕ
@@ -63,18 +64,30 @@ abbrev pub never_true_text : List ℕ → List ℕ
 never_true_text word =
     quoted word (codes "` is never true: `:init` does not name it, and no effect makes it true")
 
+-- the word with this span, as a message names it
+abbrev pub word_at : List ℕ → Span → List ℕ
+word_at text span = utf8_lossy (text_at text span)
+
+-- that two words may be one object
+abbrev pub equal_text : List ℕ → List ℕ → List ℕ
+equal_text kept other =
+    quoted kept (codes "` and `") ++ other
+    ++ codes "` may be the same object: then the effect deletes this atom and adds it again"
+
 -- what is the matter; the word is the one at the place
-abbrev pub message_for : List (List ℕ) → List ℕ → MistakeKind → List ℕ
-message_for types word (WrongType found declared) = wrong_type_text types word found declared
-message_for types word NeverUsed = never_used_text word
-message_for types word Copied = codes "this outcome stands twice in its choice"
-message_for types word Idle =
+abbrev pub message_for : PlainSource → List ℕ → MistakeKind → List ℕ
+message_for source word (WrongType found declared) =
+    wrong_type_text source.types word found declared
+message_for source word NeverUsed = never_used_text word
+message_for source word Copied = codes "this outcome stands twice in its choice"
+message_for source word Idle =
     codes "this effect changes nothing: the precondition already demands it"
-message_for types word NeverTrue = never_true_text word
+message_for source word NeverTrue = never_true_text word
+message_for source word (MayBeEqual kept other) =
+    equal_text (word_at source.text kept) (word_at source.text other)
 
 abbrev pub message : PlainSource → Mistake → List ℕ
-message source mistake =
-    message_for source.types (utf8_lossy (text_at source.text mistake.span)) mistake.kind
+message source mistake = message_for source (word_at source.text mistake.span) mistake.kind
 
 -- what is told of a mistake in a file
 abbrev pub notice_of : PlainSource → Mistake → PlainNotice

@@ -11,6 +11,6 @@ mod notices;
 mod texts;
 
 pub use documents::report_document;
-pub use messages::{Source, add_notices};
+pub use messages::{Source, add_notices, text_at};
 pub use notices::{FileNames, LimitName, Notice, Report};
 pub use texts::report_text;

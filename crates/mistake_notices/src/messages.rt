@@ -1,6 +1,7 @@
 //! What is told of each mistake.
 
 ghost use Rattle.mistake_notices.specs.Notices.{
+  equal_text,
   kind_word as word_of_kind,
   message,
   never_true_text,
@@ -9,6 +10,7 @@ ghost use Rattle.mistake_notices.specs.Notices.{
   quoted,
   text_at as bytes_at,
   type_name as name_of_type,
+  word_at as word_of_span,
   wrong_type_text,
 };
 ghost use Rattle.mistake_notices.specs.Values.{notice_value, source_value};
@@ -69,6 +71,7 @@ fn kind_word(kind: MistakeKind) -> &'static str
         MistakeKind::Copied => "copied-outcome",
         MistakeKind::Idle => "idle-effect",
         MistakeKind::NeverTrue => "never-true",
+        MistakeKind::MayBeEqual(_, _) => "equal-parameters",
     }
 }
 
@@ -77,7 +80,7 @@ fn message_of(alloc: Global, source: &Source<'_>, mistake: &Mistake) -> Result<S
     ensures { IfOk result
         (λ text. string_bytes text ≡ message (source_value source.now) mistake.now) }
 {
-    let word = String::from_utf8_lossy(alloc, text_at(source.text, mistake.span))?;
+    let word = word_at(alloc, source.text, mistake.span)?;
     match mistake.kind {
         MistakeKind::WrongType(found, declared) => {
             wrong_type(alloc, source.types, &word, found, declared)
@@ -89,7 +92,36 @@ fn message_of(alloc: Global, source: &Source<'_>, mistake: &Mistake) -> Result<S
             "this effect changes nothing: the precondition already demands it",
         ),
         MistakeKind::NeverTrue => never_true(alloc, &word),
+        MistakeKind::MayBeEqual(kept, other) => may_be_equal(alloc, source.text, kept, other),
     }
+}
+
+/// The word with this span, as a message names it.
+fn word_at(alloc: Global, text: &[u8], span: Span) -> Result<String, AllocError>
+    ensures { IfOk result (λ word. string_bytes word ≡ word_of_span text.now span) }
+{
+    String::from_utf8_lossy(alloc, text_at(text, span))
+}
+
+/// That two words with these spans may be one object.
+fn may_be_equal(alloc: Global, text: &[u8], kept: Span, other: Span) -> Result<String, AllocError>
+    ensures { IfOk result (λ message. string_bytes message
+        ≡ equal_text (word_of_span text.now kept) (word_of_span text.now other)) }
+{
+    let word = word_at(alloc, text, kept)?;
+    equal_to(alloc, &word, text, other)
+}
+
+/// That a word and the one with this span may be one object.
+fn equal_to(alloc: Global, word: &str, text: &[u8], other: Span) -> Result<String, AllocError>
+    ensures { IfOk result (λ message. string_bytes message
+        ≡ equal_text word.now (word_of_span text.now other)) }
+{
+    let other = word_at(alloc, text, other)?;
+    let mut out = sentence(alloc, word, "` and `")?;
+    out.push_str(&other)?;
+    out.push_str("` may be the same object: then the effect deletes this atom and adds it again")?;
+    Ok(out)
 }
 
 /// That a predicate is never used.
@@ -156,7 +188,7 @@ fn type_name(alloc: Global, types: &[Text], number: TypeId) -> Result<String, Al
 }
 
 /// What a form takes up of its text; nothing where the text ends before.
-fn text_at(text: &[u8], span: Span) -> &[u8]
+pub fn text_at(text: &[u8], span: Span) -> &[u8]
     ensures { result.now ≡ bytes_at text.now span }
 {
     let start = span.start as usize;

@@ -15,7 +15,8 @@ use Rattle.plan_theory.specs.LargestSets.{IsLargestSet}
 use Rattle.plan_theory.specs.Pairs.{Pairs, restricted}
 use Rattle.plan_theory.specs.CyclicPlans.{cyclic_rules}
 use Rattle.plan_theory.specs.PairRounds.{progress}
-use Rattle.cyclic_plan.proofs.PlanMade.{cubes_agree, same_truth}
+use Rattle.cyclic_plan.proofs.PlanMade.{cubes_agree}
+use Rattle.list_laws.proofs.Booleans.{same_truth}
 use Rattle.plan_theory.proofs.Restricted.{more_pairs, outcome_of_pair, pair_outcome}
 
 -- each pair of a state in the one set is in the other

@@ -7,6 +7,7 @@ use Rattle.std.proofs.Math.Path.{fun_ext}
 use Rattle.std.proofs.lemmas.Bool.{cases_eq, cases_lt, cond-false, cond-true, eq-eqb, lt-ltb, ltb-true, ne_eqb, false_from_ne_true}
 use Rattle.std.proofs.lemmas.List.{get_or_past, get_or-set_same, get_or-set_other, length_push, take-append-le}
 use Rattle.std.proofs.lemmas.List.Folds.{list_all-append, list_any-append}
+use Rattle.list_laws.proofs.Booleans.{or_true}
 use Rattle.dd_nodes.specs.Subfunctions.{DependsOnly, Function}
 use Rattle.dd_ops.specs.Operations.{minus_of, or_of}
 use Rattle.dd_sets.specs.LiveSets.{IsLive, nothing, set_of}
@@ -282,10 +283,6 @@ taken_same class task f h a none =
     sym (with_own (taken_by class task f h a) a _ own) ∙ taken_more class task f h a
 
 -- one action more
-or_true : (b : Bool) → (b || true) ≡ true
-or_true true = refl
-or_true false = refl
-
 module _ {k : ℕ} (class : Class) (start : Start) (x now : Encoded) (old new : List SetId) (f : Function) (h : ℕ → Function) (a : ActionId) (before after : List Step) (spent : List Bool) (has : HasGrown class start x old k f h a.0 before spent) (within : a.0 < action_count start.task)
     (joined : HasJoined start now new f (grown class start.task f a.0) (class_preimage class start.task a.0 f) a before after) where
   task : Task

@@ -5,6 +5,7 @@ use Rattle.std.specs.List.{list_all, list_any, range_with_len}
 use Rattle.std.proofs.Math.Path.{fun_ext}
 use Rattle.std.proofs.lemmas.Bool.{cases_lt, cond-false, cond-true, lt-ltb, ltb-true, false_from_ne_true}
 use Rattle.std.proofs.lemmas.List.Folds.{list_any-append}
+use Rattle.list_laws.proofs.Booleans.{or_false}
 use Rattle.dd_nodes.specs.NodeList.{Values}
 use Rattle.dd_nodes.specs.Subfunctions.{Function}
 use Rattle.dd_ops.specs.Operations.{minus_of, or_of}
@@ -52,10 +53,6 @@ preimage_hits class task set a = go class
     go Cyclic = fun_ext (λ values. sym (ap (some values) all))
 
 -- a set with the hits of the first actions
-or_false : (b : Bool) → (b || false) ≡ b
-or_false true = refl
-or_false false = refl
-
 hits_below : (class : Class) (task : Task) (set : Function) (values : Values) (m : ℕ) → list_any (λ a. class_preimage class task a set values) (range_with_len 0 m) ≡ some_below (hits_at (first_of class) task set) m values
 hits_below class task set values zero = refl
 hits_below class task set values (suc m) =

@@ -20,7 +20,7 @@ ghost use Rattle.reach_plan.specs.Certs.{AreCubesLeft, HasRest, HasSolution, IsL
 ghost use Rattle.reach_plan.specs.Searches.{FoundNone};
 ghost use Rattle.reach_plan.specs.WorkingSets.{BoundsReachSets};
 
-use crate::search::search_back;
+use crate::search::{Aim, search_back};
 use dd_sets::SetErr;
 use encode_task::{Enc, made_is_kept};
 use plan_certs::{Certificate, StateSet};
@@ -183,7 +183,8 @@ fn search_and_leave(
         (AreCubesLeft class start enc.new board.new.slots.items) result }
 {
     let mut steps = Vec::new(alloc);
-    if search_back(alloc, enc, board, class, &mut steps, actions)? {
+    let aim = Aim { class, actions };
+    if search_back(alloc, enc, board, aim, &mut steps)? {
         return Ok(None);
     }
     leave_out(enc, board)?;

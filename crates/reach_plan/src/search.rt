@@ -33,6 +33,20 @@ const HITS: usize = 2;
 /// and the next layer with that.
 const GROWN: usize = 3;
 
+/// What a search goes by: the class of the plan, and how many actions the task has.
+#[derive(Clone, Copy)]
+pub(crate) struct Aim {
+    pub(crate) class: Class,
+    pub(crate) actions: u32,
+}
+
+/// An action, and the class as which it has to lead into a layer.
+#[derive(Clone, Copy)]
+struct Leading {
+    class: Class,
+    action: ActionId,
+}
+
 /// What a round of the search came to.
 enum Round {
     /// The layer holds every initial state.
@@ -84,54 +98,60 @@ fn join_hits(
 fn grow_by(
     enc: &mut Enc,
     board: &mut Board,
-    class: Class,
+    leading: Leading,
     steps: &mut Vec<Step>,
     spent: &mut Vec<bool>,
-    a: ActionId,
 ) -> Result<(), SetErr>
     requires ready { (start : Start) × (k : ℕ) × (f : Function) × (h : ℕ → Function)
-        × HasGrown class start enc.old board.old.slots.items k f h a.0 steps.old.items
-        spent.old.items }
+        × HasGrown leading.class start enc.old board.old.slots.items k f h leading.action.0
+        steps.old.items spent.old.items }
     requires places { length board.old.slots.items ≡ 4 }
-    requires action { a.0 < length enc.old.actions }
+    requires action { leading.action.0 < length enc.old.actions }
     requires long { length spent.old.items ≡ length enc.old.actions }
     ensures { (start : Start) (k : ℕ) (f : Function) (h : ℕ → Function)
-        → HasGrown class start enc.old board.old.slots.items k f h a.0 steps.old.items
-        spent.old.items → Left start enc.new board.new.slots.items
-        (HasGrown class start enc.new board.new.slots.items k f h (a.0 + 1) steps.new.items
-        spent.new.items) result }
+        → HasGrown leading.class start enc.old board.old.slots.items k f h leading.action.0
+        steps.old.items spent.old.items → Left start enc.new board.new.slots.items
+        (HasGrown leading.class start enc.new board.new.slots.items k f h (leading.action.0 + 1)
+        steps.new.items spent.new.items) result }
 {
-    if is_spent(spent, a) {
+    if is_spent(spent, leading.action) {
         return Ok(());
     }
-    board.lead(enc, HITS, outcomes_of(class), a, LAYER)?;
-    note_spent(spent, a, has_all(enc, board, HITS, a));
-    join_hits(enc, board, steps, a)
+    board.lead(enc, HITS, outcomes_of(leading.class), leading.action, LAYER)?;
+    note_spent(
+        spent,
+        leading.action,
+        has_all(enc, board, HITS, leading.action),
+    );
+    join_hits(enc, board, steps, leading.action)
 }
 
 /// Makes the next layer: this one, joined with what each action leads into it.
 fn grow(
     enc: &mut Enc,
     board: &mut Board,
-    class: Class,
+    aim: Aim,
     steps: &mut Vec<Step>,
     spent: &mut Vec<bool>,
-    actions: u32,
 ) -> Result<(), SetErr>
     requires ready { (start : Start) × (k : ℕ) × (f : Function) × (h : ℕ → Function)
-        × BeginsRound class start enc.old board.old.slots.items k f h steps.old.items
+        × BeginsRound aim.class start enc.old board.old.slots.items k f h steps.old.items
         spent.old.items }
     requires places { length board.old.slots.items ≡ 4 }
-    requires actions { actions ≡ length enc.old.actions }
+    requires actions { aim.actions ≡ length enc.old.actions }
     ensures { (start : Start) (k : ℕ) (f : Function) (h : ℕ → Function)
-        → BeginsRound class start enc.old board.old.slots.items k f h steps.old.items
+        → BeginsRound aim.class start enc.old board.old.slots.items k f h steps.old.items
         spent.old.items → Left start enc.new board.new.slots.items
-        (HasGrown class start enc.new board.new.slots.items k f h actions steps.new.items
+        (HasGrown aim.class start enc.new board.new.slots.items k f h aim.actions steps.new.items
         spent.new.items) result }
 {
     board.copy_of(enc, NEXT, LAYER)?;
-    for a in 0..actions {
-        grow_by(enc, board, class, steps, spent, ActionId(a))?;
+    for a in 0..aim.actions {
+        let leading = Leading {
+            class: aim.class,
+            action: ActionId(a),
+        };
+        grow_by(enc, board, leading, steps, spent)?;
     }
     Ok(())
 }
@@ -155,18 +175,17 @@ fn advance(enc: &mut Enc, board: &mut Board, steps: &mut Vec<Step>) -> Result<()
 fn one_round(
     enc: &mut Enc,
     board: &mut Board,
-    class: Class,
+    aim: Aim,
     steps: &mut Vec<Step>,
     spent: &mut Vec<bool>,
-    actions: u32,
 ) -> Result<Round, SetErr>
-    requires ready { (start : Start) × (k : ℕ) × HasRound class start enc.old
+    requires ready { (start : Start) × (k : ℕ) × HasRound aim.class start enc.old
         board.old.slots.items k steps.old.items spent.old.items }
     requires places { length board.old.slots.items ≡ 4 }
-    requires actions { actions ≡ length enc.old.actions }
-    ensures { (start : Start) (k : ℕ) → HasRound class start enc.old board.old.slots.items k
+    requires actions { aim.actions ≡ length enc.old.actions }
+    ensures { (start : Start) (k : ℕ) → HasRound aim.class start enc.old board.old.slots.items k
         steps.old.items spent.old.items
-        → Ends start enc.new board.new.slots.items (RoundLeft class start
+        → Ends start enc.new board.new.slots.items (RoundLeft aim.class start
         (set_at enc.old.sets board.old.slots.items 0) enc.new board.new.slots.items k
         steps.new.items spent.new.items) result }
 {
@@ -175,7 +194,7 @@ fn one_round(
     if covered {
         return Ok(Round::Covered);
     }
-    grow(enc, board, class, steps, spent, actions)?;
+    grow(enc, board, aim, steps, spent)?;
     if board.is_same(enc, NEXT, LAYER) {
         return Ok(Round::Stable);
     }
@@ -189,27 +208,26 @@ pub(crate) fn search_back(
     alloc: Global,
     enc: &mut Enc,
     board: &mut Board,
-    class: Class,
+    aim: Aim,
     steps: &mut Vec<Step>,
-    actions: u32,
 ) -> Result<bool, SetErr>
-    requires class { IsFoundByLayers class }
+    requires class { IsFoundByLayers aim.class }
     requires goal { IsSome enc.old.goal }
     requires ready { (start : Start) × HasNothing start enc.old board.old.slots.items
-        × BoundsReachSets start.width class start.task }
+        × BoundsReachSets start.width aim.class start.task }
     requires places { length board.old.slots.items ≡ 4 }
-    requires actions { actions ≡ length enc.old.actions }
+    requires actions { aim.actions ≡ length enc.old.actions }
     requires no_steps { steps.old.items ≡ [] }
     ensures { (start : Start) → HasNothing start enc.old board.old.slots.items
-        → BoundsReachSets start.width class start.task
+        → BoundsReachSets start.width aim.class start.task
         → Ends start enc.new board.new.slots.items
-        (SearchLeft class start enc.new board.new.slots.items steps.new.items) result }
+        (SearchLeft aim.class start enc.new board.new.slots.items steps.new.items) result }
 {
-    let mut spent = none_spent(alloc, actions)?;
+    let mut spent = none_spent(alloc, aim.actions)?;
     let goal = enc.goal().unwrap();
     board.copy(enc, LAYER, goal)?;
     loop {
-        let round = one_round(enc, board, class, steps, &mut spent, actions)?;
+        let round = one_round(enc, board, aim, steps, &mut spent)?;
         match round {
             Round::Covered => return Ok(true),
             Round::Stable => return Ok(false),

@@ -14,7 +14,7 @@ ghost use Rattle.reach_plan.specs.Takers.{AreFound, HoldTakers, IsDecided, slots
 ghost use Rattle.reach_plan.specs.WorkingSets.{BoundsReachSets};
 
 use crate::retrace::retrace;
-use crate::search::search_back;
+use crate::search::{Aim, search_back};
 use dd_sets::SetErr;
 use encode_task::{Enc, made_is_kept};
 use plan_rules::Class;
@@ -54,7 +54,8 @@ fn is_covered(
     ensures same_slots { enc.new ≡ record enc.old { sets = enc.new.sets } }
 {
     let mut board = Board::new(alloc, enc, 4)?;
-    let covered = search_back(alloc, enc, &mut board, class, steps, actions);
+    let aim = Aim { class, actions };
+    let covered = search_back(alloc, enc, &mut board, aim, steps);
     board.close(enc);
     covered
 }

@@ -6,6 +6,7 @@ ghost use Rattle.task_core.specs.Conditions.{ids_below};
 ghost use Rattle.task_core.specs.States.{IsWithin};
 ghost use Rattle.task_core.specs.Tasks.{action_count, fluent_count, outcomes_at};
 
+use crate::weights::tests_in_state;
 use indexmap::IndexSet;
 use std::alloc::{AllocError, AllocFailed, Global};
 use task_core::{
@@ -16,7 +17,8 @@ use task_core::{
 /// The most states that are gone through.
 const MOST_STATES: usize = 262_144;
 
-/// How often it is tested at most whether an action can be executed in a state.
+/// How often it is tested at most whether an action can be executed in a state. Where conditions are large a
+/// test counts as several.
 const MOST_TESTS: usize = 16_777_216;
 
 /// The most outcomes of actions in states that are gone through.
@@ -120,8 +122,8 @@ fn initial_graph(alloc: Global, task: &Task, most: usize) -> Result<StepGraph, S
 
 /// How many states of a task are gone through at most, where no more than `most` are wanted.
 fn most_states(task: &Task, most: usize) -> usize {
-    let actions = task.actions.len().max(1);
-    (MOST_TESTS / actions).clamp(1, MOST_STATES).min(most)
+    let tests = tests_in_state(task).max(1);
+    (MOST_TESTS / tests).clamp(1, MOST_STATES).min(most)
 }
 
 impl StepGraph {

@@ -27,8 +27,8 @@ impl ReachedPlan {
 
 /// A plan of a class for a task, found among the states that can be reached; `None` where none is
 /// found, or the states are too many: more than `most` or than 262,144, or so many that an action is tried in a
-/// state more than 16,777,216 times, or with more than 4,194,304 outcomes of actions in them. It
-/// takes in each state what the plan takes that `reach_plan` or `cyclic_plan` finds. That a task
+/// state more than 16,777,216 times (by `tests_in_state`), or with more than 4,194,304 outcomes of actions in
+/// them. It takes in each state what the plan takes that `reach_plan` or `cyclic_plan` finds. That a task
 /// without a plan has none is not told so.
 pub fn plan_reached(
     alloc: Global,

@@ -1,3 +1,4 @@
+mod KeptLemmas
 mod KnownSets
 mod ProgramLemmas
 mod LookLemmas
@@ -7,6 +8,8 @@ mod LoopLemmas
 mod CubeLoops
 mod VerdictLemmas
 mod UnionLemmas
+mod ShownLemmas
 mod Sizes
 mod FitLemmas
+mod HalfLemmas
 mod CubeNodes

@@ -8,8 +8,9 @@ use Rattle.task_core.specs.declared.classes.Class.{Class}
 use Rattle.plan_certs.specs.Named.{set_of}
 use Rattle.plan_certs.specs.declared.certificates.StateSet.{StateSet}
 use Rattle.slot_board.specs.Board.{Start}
-use Rattle.refute_cert.specs.Sets.{is_left, some_is_left, states_in}
+use Rattle.refute_cert.specs.Sets.{IsKept, is_left, some_is_left, states_in}
 use Rattle.refute_cert.specs.Sizes.{HasUnion, LeaveFits, SetsFit, union_after}
+use Rattle.refute_cert.proofs.KeptLemmas.{next_kept}
 
 -- the sets so far are joined to the union, and those that are left can be
 pub record Joined (start : Start) (class : Class) (now : Encoded) (slots : List SetId) (f : Function) (rest sets : List StateSet) : Type 0 where
@@ -42,6 +43,7 @@ pub record Looked (start : Start) (class : Class) (now : Encoded) (slots : List 
   pub here : Function
   pub union : HasUnion start now slots here
   pub fits : SetsFit start class here (map set_of rest)
+  pub kept : IsKept class start.task here
   pub leads : some_is_left class start.task here (map set_of rest) ≡ some_is_left class start.task f (map set_of sets)
 
 -- the next set has one
@@ -58,6 +60,7 @@ looked_more start class enc now old new f sets rest all x more half none union =
   here = or_of half.here (states_in start.task (set_of x));
   union = union;
   fits = later_fit start class half.here sets rest x more half.fits;
+  kept = next_kept class start.task half.here (set_of x) half.kept none;
   leads = ap (λ b. b || some_is_left class start.task (or_of half.here (states_in start.task (set_of x))) (map set_of rest)) none
       ∙ sym (ap (λ (s : List StateSet). some_is_left class start.task half.here (map set_of s)) more) ∙ half.leads;
 }

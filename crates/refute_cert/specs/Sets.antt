@@ -1,5 +1,5 @@
 -- The sets of a certificate as sets of lists of truth values, and where an action is a way out of one.
-use Rattle.std.specs.Prelude.{ℕ, Bool, false, not, ◌&&◌, ◌||◌, ◌==◌, List, [], ◌∷◌}
+use Rattle.std.specs.Prelude.{◌≡◌, ℕ, ◌<◌, Bool, true, false, not, ◌&&◌, ◌||◌, ◌==◌, List, [], ◌∷◌, length, ⊤}
 use Rattle.std.specs.List.{list_all, list_any, range_with_len}
 use Rattle.dd_nodes.specs.Subfunctions.{Function}
 use Rattle.dd_ops.specs.Operations.{minus_of, or_of}
@@ -9,7 +9,7 @@ use Rattle.std.specs.Option.{option_map_or}
 use Rattle.preimage.specs.Preimages.{strong_preimage, weak_preimage}
 use Rattle.task_core.specs.Cubes.{Cube}
 use Rattle.task_core.specs.Tasks.{action_count, fluent_count}
-use Rattle.task_core.specs.Vectors.{all_vectors, same_value, value_of}
+use Rattle.task_core.specs.Vectors.{Vector, all_vectors, same_value, value_of}
 use Rattle.task_core.specs.declared.classes.Class.{Class}
 use Rattle.task_core.specs.declared.classes.Class.TheVariants.{Weak, Strong, Cyclic}
 use Rattle.task_core.specs.declared.literals.Lit.{Lit}
@@ -19,6 +19,13 @@ use Rattle.plan_certs.specs.Certificates.{CubeSet}
 -- where a cube matches
 abbrev pub cube_set : Cube → Function
 cube_set cube values = list_all (λ lit. same_value (values lit.fluent.0) lit.positive) cube
+
+-- where a literal is true, and where some of some cubes matches
+abbrev pub literal_set : Lit → Function
+literal_set lit values = same_value (values lit.fluent.0) lit.positive
+
+abbrev pub some_cube : CubeSet → Function
+some_cube set values = list_any (λ cube. cube_set cube values) set
 
 -- the states that some cube of a set matches, and those of several sets
 abbrev pub states_in : Task → CubeSet → Function
@@ -68,3 +75,11 @@ abbrev pub some_is_left : Class → Task → Function → List CubeSet → Bool
 some_is_left class task f [] = false
 some_is_left class task f (set ∷ sets) =
     is_left class task f set || some_is_left class task (or_of f (states_in task set)) sets
+
+-- Private: for strong cyclic plans, no action is a way out of the states of some sets, of which none has a
+-- way out. The other classes have one set
+abbrev pub IsKept : Class → Task → Function → Type 0
+IsKept Weak task f = ⊤
+IsKept Strong task f = ⊤
+IsKept Cyclic task f = (a : ℕ) → a < action_count task → (v : Vector) → length v ≡ fluent_count task
+    → f (value_of v) ≡ true → way_out_set Cyclic task f f a (value_of v) ≡ false

@@ -1,22 +1,24 @@
 //! Looks at the sets of a certificate.
 
-ghost use Rattle.std.specs.Prelude.{◌≡◌, ◌↔◌, ℕ, ◌<◌, [], ◌∷◌, IsTrue, false, map, length};
+ghost use Rattle.std.specs.Prelude.{◌≡◌, ◌↔◌, ℕ, ◌<◌, [], ◌∷◌, IsTrue, true, false, map, length};
 ghost use Rattle.std.specs.List.{list_any};
 ghost use Rattle.dd_nodes.specs.Subfunctions.{Function};
-ghost use Rattle.dd_ops.specs.Operations.{or_of};
+ghost use Rattle.dd_ops.specs.Operations.{minus_of, or_of};
 ghost use Rattle.dd_sets.specs.LiveSets.{IsSets, nothing};
 ghost use Rattle.task_core.specs.Tasks.{fluent_count};
 ghost use Rattle.plan_certs.specs.Certificates.{CubeSet};
 ghost use Rattle.plan_certs.specs.Named.{set_of as cubes_in};
 ghost use Rattle.slot_board.specs.Board.{At, Ends, IsSmall, IsWorking, Left, Start, set_at};
-ghost use Rattle.refute_cert.specs.Sets.{contradicts, cube_set, is_left, is_opposite, leaves_by};
+ghost use Rattle.refute_cert.specs.Sets.{IsKept, contradicts, cube_set, is_left, is_opposite};
+ghost use Rattle.refute_cert.specs.Sets.{leaves_by};
 ghost use Rattle.refute_cert.specs.Sets.{meets, some_is_left, states_in, way_out_set};
 ghost use Rattle.refute_cert.specs.Sizes.{CommonFits, CubesFit, HasLeft, HasSet, HasUnion};
 ghost use Rattle.refute_cert.specs.Sizes.{IsBoard, IsLookedAt, LeaveFits, SetFits, SetsFit};
 ghost use Rattle.refute_cert.specs.Sizes.{union_after};
 
+use crate::halves::states_of;
 use crate::programs::{CUBE, LEFT, SET, UNION, common_steps, fix_steps, set_steps, way_out_steps};
-use board_steps::make_all;
+use board_steps::{make_all, put};
 use dd_sets::{SetErr, SetId};
 use encode_task::Enc;
 use plan_certs::StateSet;
@@ -80,8 +82,13 @@ pub(crate) fn clear_union(enc: &mut Enc, board: &mut Board) -> Result<(), SetErr
     board.combine(enc, UNION, Operation::Minus, UNION, UNION)
 }
 
-/// Makes a set.
-fn make_set(alloc: Global, enc: &mut Enc, board: &mut Board, set: &StateSet) -> Result<(), SetErr>
+/// Makes a set by the steps of its cubes, one after another.
+fn make_by_steps(
+    alloc: Global,
+    enc: &mut Enc,
+    board: &mut Board,
+    set: &StateSet,
+) -> Result<(), SetErr>
     requires { (start : Start) × (f : Function)
         × HasUnion start enc.old board.old.slots.items f × SetFits start (cubes_in set.now) }
     ensures { (start : Start) (f : Function)
@@ -91,6 +98,24 @@ fn make_set(alloc: Global, enc: &mut Enc, board: &mut Board, set: &StateSet) -> 
 {
     let steps = set_steps(alloc, enc.space(), set)?;
     make_all(enc, board, &steps)
+}
+
+/// Makes a set. First its cubes are put together by halves: then the time grows with the logarithm of
+/// their number times the nodes of the set, and not with the product. Where that finds no room, they
+/// are put together one after another.
+fn make_set(alloc: Global, enc: &mut Enc, board: &mut Board, set: &StateSet) -> Result<(), SetErr>
+    requires { (start : Start) × (f : Function)
+        × HasUnion start enc.old board.old.slots.items f × SetFits start (cubes_in set.now) }
+    ensures { (start : Start) (f : Function)
+        → HasUnion start enc.old board.old.slots.items f → SetFits start (cubes_in set.now)
+        → Left start enc.new board.new.slots.items (HasSet start enc.new board.new.slots.items f
+        (states_in start.task (cubes_in set.now))) result }
+{
+    match states_of(enc, set) {
+        Ok(states) => put(enc, board, SET, Ok(states)),
+        Err(SetErr::Full) => make_by_steps(alloc, enc, board, set),
+        Err(SetErr::Memory) => Err(SetErr::Memory),
+    }
 }
 
 /// Joins a set to the union.
@@ -295,7 +320,82 @@ fn some_is_way_out(
     Ok(false)
 }
 
-/// Whether some action is a way out of the next set; where none is, the set is joined to the union.
+/// Whether the states of a set are all in the union, where it is asked of plans that are strong cyclic.
+fn adds_nothing(enc: &mut Enc, board: &mut Board, class: Class) -> Result<bool, SetErr>
+    requires { (start : Start) × (f : Function) × (g : Function)
+        × HasSet start enc.old board.old.slots.items f g × IsBoard start
+        × IsSmall start f × IsSmall start g }
+    ensures { (start : Start) (f g : Function)
+        → HasSet start enc.old board.old.slots.items f g → IsBoard start
+        → IsSmall start f → IsSmall start g
+        → Ends start enc.new board.new.slots.items
+        (λ found. HasSet start enc.new board.new.slots.items f g
+        × (found ≡ true → (class ≡ Class.Cyclic) × (minus_of g f ≡ nothing))) result }
+{
+    match class {
+        Class::Weak => Ok(false),
+        Class::Strong => Ok(false),
+        Class::Cyclic => has_nothing_new(enc, board),
+    }
+}
+
+/// Whether the states of a set are all in the union.
+fn has_nothing_new(enc: &mut Enc, board: &mut Board) -> Result<bool, SetErr>
+    requires { (start : Start) × (f : Function) × (g : Function)
+        × HasSet start enc.old board.old.slots.items f g × IsBoard start
+        × IsSmall start f × IsSmall start g }
+    ensures { (start : Start) (f g : Function)
+        → HasSet start enc.old board.old.slots.items f g → IsBoard start
+        → IsSmall start f → IsSmall start g
+        → Ends start enc.new board.new.slots.items
+        (λ found. HasSet start enc.new board.new.slots.items f g
+        × (IsTrue found ↔ (minus_of g f ≡ nothing))) result }
+{
+    put_new(enc, board)?;
+    Ok(board.is_empty(enc, LEFT))
+}
+
+/// Puts at the place of what may be left the states of a set that the union lacks.
+fn put_new(enc: &mut Enc, board: &mut Board) -> Result<(), SetErr>
+    requires { (start : Start) × (f : Function) × (g : Function)
+        × HasSet start enc.old board.old.slots.items f g × IsBoard start
+        × IsSmall start f × IsSmall start g }
+    ensures { (start : Start) (f g : Function)
+        → HasSet start enc.old board.old.slots.items f g → IsBoard start
+        → IsSmall start f → IsSmall start g
+        → Left start enc.new board.new.slots.items
+        (HasLeft start enc.new board.new.slots.items f g (minus_of g f)) result }
+{
+    board.combine(enc, LEFT, Operation::Minus, SET, UNION)
+}
+
+/// Whether some action is a way out of a set; where none is, the set is joined to the union.
+fn look_closer(
+    alloc: Global,
+    enc: &mut Enc,
+    board: &mut Board,
+    asked: Asked,
+    set: &StateSet,
+) -> Result<bool, SetErr>
+    requires ready { (start : Start) × (f : Function)
+        × HasSet start enc.old board.old.slots.items f (states_in start.task (cubes_in set.now))
+        × LeaveFits start asked.class f (cubes_in set.now) }
+    requires actions { asked.actions ≡ length enc.old.actions }
+    ensures { (start : Start) (f : Function)
+        → HasSet start enc.old board.old.slots.items f (states_in start.task (cubes_in set.now))
+        → LeaveFits start asked.class f (cubes_in set.now)
+        → Ends start enc.new board.new.slots.items (IsLookedAt start enc.new
+        board.new.slots.items asked.class f (cubes_in set.now)) result }
+{
+    if some_is_way_out(alloc, enc, board, asked, set)? {
+        return Ok(true);
+    }
+    join_set(enc, board)?;
+    Ok(false)
+}
+
+/// Whether some action is a way out of the next set, where none is of the sets before; where none is, the
+/// set is joined to the union. A set that adds nothing to the union has no way out either.
 fn look_at(
     alloc: Global,
     enc: &mut Enc,
@@ -305,23 +405,22 @@ fn look_at(
 ) -> Result<bool, SetErr>
     requires ready { (start : Start) × (f : Function)
         × HasUnion start enc.old board.old.slots.items f
-        × LeaveFits start asked.class f (cubes_in set.now) }
+        × LeaveFits start asked.class f (cubes_in set.now) × IsKept asked.class start.task f }
     requires actions { asked.actions ≡ length enc.old.actions }
     ensures { (start : Start) (f : Function)
         → HasUnion start enc.old board.old.slots.items f
-        → LeaveFits start asked.class f (cubes_in set.now)
+        → LeaveFits start asked.class f (cubes_in set.now) → IsKept asked.class start.task f
         → Ends start enc.new board.new.slots.items (IsLookedAt start enc.new
         board.new.slots.items asked.class f (cubes_in set.now)) result }
 {
     make_set(alloc, enc, board, set)?;
-    if some_is_way_out(alloc, enc, board, asked, set)? {
-        return Ok(true);
+    if adds_nothing(enc, board, asked.class)? {
+        return Ok(false);
     }
-    join_set(enc, board)?;
-    Ok(false)
+    look_closer(alloc, enc, board, asked, set)
 }
 
-/// Whether some action is a way out of one of the sets.
+/// Whether some action is a way out of one of the sets, where none is of the union.
 pub(crate) fn some_set_is_left(
     alloc: Global,
     enc: &mut Enc,
@@ -331,11 +430,11 @@ pub(crate) fn some_set_is_left(
 ) -> Result<bool, SetErr>
     requires ready { (start : Start) × (f : Function)
         × HasUnion start enc.old board.old.slots.items f
-        × SetsFit start asked.class f (map cubes_in sets.now) }
+        × SetsFit start asked.class f (map cubes_in sets.now) × IsKept asked.class start.task f }
     requires actions { asked.actions ≡ length enc.old.actions }
     ensures { (start : Start) (f : Function)
         → HasUnion start enc.old board.old.slots.items f
-        → SetsFit start asked.class f (map cubes_in sets.now)
+        → SetsFit start asked.class f (map cubes_in sets.now) → IsKept asked.class start.task f
         → Ends start enc.new board.new.slots.items
         (λ found. At start enc.new board.new.slots.items
         × (found ≡ some_is_left asked.class start.task f (map cubes_in sets.now))) result }

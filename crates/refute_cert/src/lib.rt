@@ -6,10 +6,11 @@
 //! the preimages and the slots of a board. What the verdict means is said in `plan_certs`, with the
 //! law that no table is a solution where a certificate is accepted.
 //!
-//! `programs` says which steps on a board make the sets of a certificate, and `judging` looks at these
-//! sets.
+//! `programs` says which steps on a board make the sets of a certificate, `halves` makes a set in fewer
+//! steps where there is room for it, and `judging` looks at these sets.
 #![tactic(auto)]
 
+mod halves;
 mod judging;
 mod programs;
 mod verdict;

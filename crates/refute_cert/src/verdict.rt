@@ -157,11 +157,12 @@ fn judge(
 /// asked.
 ///
 /// It looks at each set and each action once, and makes no fixpoint. On every exit the slots of entry
-/// are live, with their sets, and no others; at most 24 slots more are live in between. `Full` says
-/// that the table holds as many nodes as it may and its limit is tight for the sets of such slots, and
-/// `Memory` that memory ran out. Where the working sets are small, six of these slots at most hold
-/// sets that are not, and these have no more nodes than there are triples of nodes of small sets, or
-/// little more: what may be left is a difference of three.
+/// are live, with their sets, and no others; in between, at most 24 slots more are live, and while a set
+/// is made by halves a few more. `Full` comes only where the set was made without these: it says that the
+/// table holds as many nodes as it may and its limit is tight for the sets of 24 slots, and `Memory` that
+/// memory ran out. Where the working sets are small, six of these slots at most hold sets that are not,
+/// and these have no more nodes than there are triples of nodes of small sets, or little more: what may
+/// be left is a difference of three.
 pub fn refute(
     alloc: Global,
     task: &Task,

@@ -65,7 +65,7 @@ use initial_number::{Numbered, numbered_initial};
 use pddl_ast::{Domain, Problem};
 use plan_io::Shelf;
 use plan_rules::Plan;
-use run_replay::{Monitor, Recorded, RunErr, World, execute, write_trace};
+use run_replay::{Monitor, Recorded, RunErr, Start, World, execute, write_trace};
 use sexpr_text::{FaultKind, InputFault};
 use std::alloc::{AllocError, Global};
 use task_core::{InitErr, State, Task};
@@ -73,12 +73,29 @@ use task_core::{InitErr, State, Task};
 /// How many initial states a record may choose from.
 const MOST_INITIAL: usize = 262_144;
 
+/// What was asked for, of the domain and the problem that two files hold.
+#[derive(Clone, Copy)]
+struct ReplayProblem<'a> {
+    asked: &'a ReplayWords<'a>,
+    domain: &'a Domain,
+    problem: &'a Problem,
+}
+
 /// What was asked for, the problem, and the task that it is grounded to.
 #[derive(Clone, Copy)]
 struct ReplayRequest<'a> {
     asked: &'a ReplayWords<'a>,
     problem: &'a Problem,
     task: &'a Task,
+}
+
+/// The same with the plan that its file holds.
+#[derive(Clone, Copy)]
+struct RunRequest<'a> {
+    asked: &'a ReplayWords<'a>,
+    problem: &'a Problem,
+    task: &'a Task,
+    plan: &'a Plan,
 }
 
 /// The run of the plan under the record, for the domain and the problem, all in files, with what
@@ -104,45 +121,56 @@ pub fn replay_files<S: Shelf>(
     ensures later { S.faults shelf.old ≤ S.faults shelf.new }
 {
     let (domain, problem) = read_both(alloc, shelf, asked.domain, asked.problem)?;
-    replay_problem(alloc, shelf, asked, &domain, &problem, world, monitors)
+    let sought = ReplayProblem {
+        asked,
+        domain: &domain,
+        problem: &problem,
+    };
+    replay_problem(alloc, shelf, &sought, world, monitors)
 }
 
 /// The run for a domain and a problem.
 fn replay_problem<S: Shelf>(
     alloc: Global,
     shelf: &mut S,
-    asked: &ReplayWords,
-    domain: &Domain,
-    problem: &Problem,
+    sought: &ReplayProblem<'_>,
     world: &mut Box<dyn World>,
     monitors: &mut Vec<Box<dyn Monitor>>,
 ) -> Result<Shown, Refusal>
-    requires fits_domain { FitsDomain (domain_value domain.now) }
-    requires fits_problem { FitsProblem (domain_value domain.now) (problem_value problem.now) }
-    requires names { NamesAreWords (domain_value domain.now) (problem_value problem.now) }
+    requires fits_domain { FitsDomain (domain_value sought.now.domain.now) }
+    requires fits_problem { FitsProblem (domain_value sought.now.domain.now)
+        (problem_value sought.now.problem.now) }
+    requires names { NamesAreWords (domain_value sought.now.domain.now)
+        (problem_value sought.now.problem.now) }
     requires untold { All (λ monitor. (shown monitor).counted ≡ 0) monitors.old.items }
     ensures answer { let failed = FailedLast S.fetched S.faults shelf.old shelf.new in
         (answer_of result ≡ refused no_memory)
         ⊎ IsReplay (S.held shelf.old) failed
         (tallies_of (map (λ monitor. shown monitor) monitors.old.items))
-        (replay_words_of asked.now)
-        (domain_value domain.now) (problem_value problem.now) (answer_of result) }
+        (replay_words_of sought.now.asked.now)
+        (domain_value sought.now.domain.now) (problem_value sought.now.problem.now)
+        (answer_of result) }
     ensures fetches { let failed = FailedLast S.fetched S.faults shelf.old shelf.new in
-        let domain = domain_value domain.now in
-        let problem = problem_value problem.now in
+        let domain = domain_value sought.now.domain.now in
+        let problem = problem_value sought.now.problem.now in
         let fluents = names_of_fluents domain problem in
         let actions = names_of_actions domain problem in
         (Stops (GroundThen domain problem (λ answer. ⊥)) (answer_of result)
         × (shelf.new ≡ shelf.old))
         ⊎ ((first_passed domain problem ≡ None)
-        × FetchRecord S.fetched (replay_words_of asked.now)
-        (RefusesPlan (S.held shelf.old) failed fluents actions asked.now.plan.now)
-        (HoldsSomePlan (S.held shelf.old) fluents actions asked.now.plan.now)
+        × FetchRecord S.fetched (replay_words_of sought.now.asked.now)
+        (RefusesPlan (S.held shelf.old) failed fluents actions sought.now.asked.now.plan.now)
+        (HoldsSomePlan (S.held shelf.old) fluents actions sought.now.asked.now.plan.now)
         (answer_of result) shelf.old shelf.new) }
     ensures quiet_at { IsQuietAt (answer_of result) (S.faults shelf.old) (S.faults shelf.new) }
     ensures kept { (file : List ℕ) → S.held shelf.new file ≡ S.held shelf.old file }
     ensures later { S.faults shelf.old ≤ S.faults shelf.new }
 {
+    let ReplayProblem {
+        asked,
+        domain,
+        problem,
+    } = *sought;
     let task = grounded(alloc, domain, problem)?;
     let request = ReplayRequest {
         asked,
@@ -184,20 +212,25 @@ fn replay_task<S: Shelf>(
     ensures later { S.faults shelf.old ≤ S.faults shelf.new }
 {
     let read = read_plan_file(alloc, shelf, request.asked.plan, request.task)?;
-    replay_plan(alloc, shelf, request, &read.plan, world, monitors)
+    let run = RunRequest {
+        asked: request.asked,
+        problem: request.problem,
+        task: request.task,
+        plan: &read.plan,
+    };
+    replay_plan(alloc, shelf, &run, world, monitors)
 }
 
 /// The run of a plan of the task, under the record in its file.
 fn replay_plan<S: Shelf>(
     alloc: Global,
     shelf: &mut S,
-    request: &ReplayRequest<'_>,
-    plan: &Plan,
+    request: &RunRequest<'_>,
     world: &mut Box<dyn World>,
     monitors: &mut Vec<Box<dyn Monitor>>,
 ) -> Result<Shown, Refusal>
     requires in_task { let task = request.now.task.now in
-        IsPlanOf (fluent_count task) (action_count task) plan.now }
+        IsPlanOf (fluent_count task) (action_count task) request.now.plan.now }
     requires untold { All (λ monitor. (shown monitor).counted ≡ 0) monitors.old.items }
     ensures answer { let failed = FailedLast S.fetched S.faults shelf.old shelf.new in
         let task = request.now.task.now in
@@ -207,27 +240,26 @@ fn replay_plan<S: Shelf>(
         (tallies_of (map (λ monitor. shown monitor) monitors.old.items))
         asked.recorded.now (action_names task) (HasTooManyInitial task most_followed)
         (empty_init asked.problem.now (problem_value request.now.problem.now))
-        (system_of task) (plain_of plan.now) (answer_of result) }
+        (system_of task) (plain_of request.now.plan.now) (answer_of result) }
     ensures fetches { Fetches S.fetched (request.now.asked.now.recorded.now ∷ []) shelf.old shelf.new }
     ensures quiet_at { IsQuietAt (answer_of result) (S.faults shelf.old) (S.faults shelf.new) }
     ensures kept { (file : List ℕ) → S.held shelf.new file ≡ S.held shelf.old file }
     ensures later { S.faults shelf.old ≤ S.faults shelf.new }
 {
     let recorded = read_record_file(alloc, shelf, request.asked.recorded)?;
-    replay_record(alloc, request, plan, recorded, world, monitors)
+    replay_record(alloc, request, recorded, world, monitors)
 }
 
 /// The run of a plan of the task, under a record that was read out of its file.
 fn replay_record(
     alloc: Global,
-    request: &ReplayRequest<'_>,
-    plan: &Plan,
+    request: &RunRequest<'_>,
     recorded: Recorded,
     world: &mut Box<dyn World>,
     monitors: &mut Vec<Box<dyn Monitor>>,
 ) -> Result<Shown, Refusal>
     requires in_task { let task = request.now.task.now in
-        IsPlanOf (fluent_count task) (action_count task) plan.now }
+        IsPlanOf (fluent_count task) (action_count task) request.now.plan.now }
     requires untold { All (λ monitor. (shown monitor).counted ≡ 0) monitors.old.items }
     ensures { let task = request.now.task.now in
         let asked = request.now.asked.now in
@@ -239,17 +271,23 @@ fn replay_record(
         (λ first. IsReplayed
         (tallies_of (map (λ monitor. shown monitor) monitors.old.items))
         sys (action_names task)
-        (trace_under sys (plain_of plan.now) first recorded.words.items)) (answer_of result) }
+        (trace_under sys (plain_of request.now.plan.now) first recorded.words.items))
+        (answer_of result) }
 {
     let first = first_state(alloc, request, &recorded)?;
     load_world(alloc, world, recorded.words)?;
-    show_run(alloc, request.task, plan, first, world, monitors)
+    let start = Start {
+        task: request.task,
+        plan: request.plan,
+        first,
+    };
+    show_run(alloc, &start, world, monitors)
 }
 
 /// The initial state whose number begins a record that was read out of its file.
 fn first_state(
     alloc: Global,
-    request: &ReplayRequest<'_>,
+    request: &RunRequest<'_>,
     recorded: &Recorded,
 ) -> Result<State, Refusal>
     ensures first { IfOk result (λ state. IsFirstState (initial_states request.now.task.now)
@@ -289,24 +327,26 @@ fn load_world(alloc: Global, world: &mut Box<dyn World>, words: Vec<u32>) -> Res
 /// The run of a plan of the task from a state, with the outcome numbers that the world has.
 fn show_run(
     alloc: Global,
-    task: &Task,
-    plan: &Plan,
-    first: State,
+    start: &Start<'_>,
     world: &mut Box<dyn World>,
     monitors: &mut Vec<Box<dyn Monitor>>,
 ) -> Result<Shown, Refusal>
-    requires in_task { IsPlanOf (fluent_count task.now) (action_count task.now) plan.now }
-    requires within { IsWithin (fluent_count task.now) first }
+    requires in_task { IsPlanOf (fluent_count start.now.task.now) (action_count start.now.task.now)
+        start.now.plan.now }
+    requires within { IsWithin (fluent_count start.now.task.now) start.now.first }
     requires untold { All (λ monitor. (shown monitor).counted ≡ 0) monitors.old.items }
     ensures { (answer_of result ≡ refused no_memory)
         ⊎ IsReplayed
         (tallies_of (map (λ monitor. shown monitor) monitors.old.items))
-        (system_of task.now) (action_names task.now)
-        (trace_under (system_of task.now) (plain_of plan.now)
-        (vector (fluent_count task.now) first) (left world.old)) (answer_of result) }
+        (system_of start.now.task.now) (action_names start.now.task.now)
+        (trace_under (system_of start.now.task.now) (plain_of start.now.plan.now)
+        (vector (fluent_count start.now.task.now) start.now.first) (left world.old))
+        (answer_of result) }
 {
-    match execute(alloc, task, plan, first, world, monitors) {
-        Ok(trace) => Ok(Shown::Affirmed(Text::Made(write_trace(alloc, task, &trace, monitors)?))),
+    match execute(alloc, start, world, monitors) {
+        Ok(trace) => Ok(Shown::Affirmed(Text::Made(write_trace(
+            alloc, start.task, &trace, monitors,
+        )?))),
         Err(
             RunErr::StrayOutcome {
                 step,

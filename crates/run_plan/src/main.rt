@@ -4,7 +4,7 @@
 use anyhow::{Result, bail, ensure};
 use plan_rules::read_plan;
 use read_task::task_in_files;
-use run_replay::{Monitor, RecordWorld, World, execute, write_trace};
+use run_replay::{Monitor, RecordWorld, Start, World, execute, write_trace};
 use std::fs;
 use std::io::Write;
 use task_core::init_states;
@@ -21,7 +21,12 @@ fn main(rt: HostRuntime) -> Result<()> {
     let mut world: Box<dyn World> = Box::new(alloc, RecordWorld::new(alloc))?;
     world.load(alloc, vec![in alloc; 1, 1, 0]?)?;
     let mut told: Vec<Box<dyn Monitor>> = Vec::new(alloc);
-    let Ok(run) = execute(alloc, &task, &read.plan, states[0], &mut world, &mut told) else {
+    let start = Start {
+        task: &task,
+        plan: &read.plan,
+        first: states[0],
+    };
+    let Ok(run) = execute(alloc, &start, &mut world, &mut told) else {
         bail!("the run was refused");
     };
     let text = write_trace(alloc, &task, &run, &told)?;

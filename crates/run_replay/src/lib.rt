@@ -20,7 +20,7 @@ mod worlds;
 pub use laws::{steps_have_their_outcomes, traces_are_paths};
 pub use monitors::{ChangeMonitor, Monitor, StepMonitor};
 pub use records::{Recorded, read_words};
-pub use runs::{MOST_STEPS, execute};
+pub use runs::{MOST_STEPS, Start, execute};
 pub use text::write_trace;
 pub use traces::{End, RunErr, Trace};
 pub use worlds::{RecordWorld, Step, World};

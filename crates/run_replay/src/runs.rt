@@ -29,7 +29,7 @@ ghost use Rattle.task_core.specs.Tasks.{action_count, fluent_count, system_of};
 
 use crate::monitors::Monitor;
 use crate::traces::{RunErr, Trace};
-use crate::turns::{Turn, take_turn};
+use crate::turns::{Standing, Turn, take_turn};
 use crate::watch::tell;
 use crate::worlds::{Step, World};
 use plan_guide::Guide;
@@ -39,6 +39,14 @@ use task_core::{State, Task};
 
 /// How many steps a run makes at most.
 pub const MOST_STEPS: usize = 1_000_000;
+
+/// A run that is to be made: of a plan of a task, from a state.
+#[derive(Clone, Copy)]
+pub struct Start<'a> {
+    pub task: &'a Task,
+    pub plan: &'a Plan,
+    pub first: State,
+}
 
 /// A run on its way: its steps so far, and the state and the context that they led to.
 #[derive(Drop)]
@@ -67,20 +75,20 @@ struct Run {
 /// past the task's, and no monitor has counted anything yet.
 pub fn execute(
     alloc: Global,
-    task: &Task,
-    plan: &Plan,
-    first: State,
+    start: &Start<'_>,
     world: &mut Box<dyn World>,
     monitors: &mut Vec<Box<dyn Monitor>>,
 ) -> Result<Trace, RunErr>
-    requires plan_of_task { IsPlanOf (fluent_count task.now) (action_count task.now) plan.now }
-    requires within { IsWithin (fluent_count task.now) first }
+    requires plan_of_task { IsPlanOf (fluent_count start.now.task.now) (action_count start.now.task.now)
+        start.now.plan.now }
+    requires within { IsWithin (fluent_count start.now.task.now) start.now.first }
     requires untold { All (λ monitor. (shown monitor).counted ≡ 0) monitors.old.items }
-    ensures first_state { IfOk result (λ trace. trace.first ≡ first) }
-    ensures trace { IfOk result (λ trace. trace_value (fluent_count task.now) trace (left world.new)
-        ≡ trace_in task.now plan.now first (left world.old)) }
+    ensures first_state { IfOk result (λ trace. trace.first ≡ start.now.first) }
+    ensures trace { IfOk result (λ trace. trace_value (fluent_count start.now.task.now) trace (left world.new)
+        ≡ trace_in start.now.task.now start.now.plan.now start.now.first (left world.old)) }
     ensures in_task { IfOk result (λ trace.
-        All (IsStepOf (fluent_count task.now) (action_count task.now)) trace.steps.items) }
+        All (IsStepOf (fluent_count start.now.task.now) (action_count start.now.task.now))
+        trace.steps.items) }
     ensures told { IfOk result (λ trace. AreTold trace.steps.items
         (map (λ monitor. shown monitor) monitors.old.items)
         (map (λ monitor. shown monitor) monitors.new.items)) }
@@ -88,34 +96,36 @@ pub fn execute(
         tally_lines (map (λ monitor. shown monitor) monitors.new.items)
         ≡ tallies_of (map (λ monitor. shown monitor) monitors.old.items) trace.steps.items) }
     ensures refused { IfErr result (λ refusal. (steps : List Step) ×
-        IsRefused (fluent_count task.now) refusal
-        (trace_in task.now plan.now first (left world.old)) (left world.old) steps (left world.new)
-        × All (IsStepOf (fluent_count task.now) (action_count task.now)) steps
+        IsRefused (fluent_count start.now.task.now) refusal
+        (trace_in start.now.task.now start.now.plan.now start.now.first (left world.old))
+        (left world.old) steps (left world.new)
+        × All (IsStepOf (fluent_count start.now.task.now) (action_count start.now.task.now)) steps
         × AreTold steps
         (map (λ monitor. shown monitor) monitors.old.items)
         (map (λ monitor. shown monitor) monitors.new.items)) }
 {
-    let guide = Guide::new(alloc, task, plan)?;
-    run_guide(alloc, task, &guide, first, world, monitors)
+    let guide = Guide::new(alloc, start.task, start.plan)?;
+    run_guide(alloc, start, &guide, world, monitors)
 }
 
 /// The same by a guide of the plan.
 fn run_guide(
     alloc: Global,
-    task: &Task,
+    start: &Start<'_>,
     guide: &Guide<'_>,
-    first: State,
     world: &mut Box<dyn World>,
     monitors: &mut Vec<Box<dyn Monitor>>,
 ) -> Result<Trace, RunErr>
-    requires guide { IsGuideOf (fluent_count task.now) (action_count task.now) guide.now }
-    requires within { IsWithin (fluent_count task.now) first }
+    requires guide { IsGuideOf (fluent_count start.now.task.now) (action_count start.now.task.now) guide.now }
+    requires within { IsWithin (fluent_count start.now.task.now) start.now.first }
     requires untold { All (λ monitor. (shown monitor).counted ≡ 0) monitors.old.items }
-    ensures first_state { IfOk result (λ trace. trace.first ≡ first) }
-    ensures trace { IfOk result (λ trace. trace_value (fluent_count task.now) trace (left world.new)
-        ≡ trace_by task.now (denoted_contexts (rules_of guide.now)) first (left world.old)) }
+    ensures first_state { IfOk result (λ trace. trace.first ≡ start.now.first) }
+    ensures trace { IfOk result (λ trace. trace_value (fluent_count start.now.task.now) trace (left world.new)
+        ≡ trace_by start.now.task.now (denoted_contexts (rules_of guide.now)) start.now.first
+        (left world.old)) }
     ensures in_task { IfOk result (λ trace.
-        All (IsStepOf (fluent_count task.now) (action_count task.now)) trace.steps.items) }
+        All (IsStepOf (fluent_count start.now.task.now) (action_count start.now.task.now))
+        trace.steps.items) }
     ensures told { IfOk result (λ trace. AreTold trace.steps.items
         (map (λ monitor. shown monitor) monitors.old.items)
         (map (λ monitor. shown monitor) monitors.new.items)) }
@@ -123,24 +133,25 @@ fn run_guide(
         tally_lines (map (λ monitor. shown monitor) monitors.new.items)
         ≡ tallies_of (map (λ monitor. shown monitor) monitors.old.items) trace.steps.items) }
     ensures refused { IfErr result (λ refusal. (steps : List Step) ×
-        IsRefused (fluent_count task.now) refusal
-        (trace_by task.now (denoted_contexts (rules_of guide.now)) first (left world.old))
+        IsRefused (fluent_count start.now.task.now) refusal
+        (trace_by start.now.task.now (denoted_contexts (rules_of guide.now)) start.now.first
+        (left world.old))
         (left world.old) steps (left world.new)
-        × All (IsStepOf (fluent_count task.now) (action_count task.now)) steps
+        × All (IsStepOf (fluent_count start.now.task.now) (action_count start.now.task.now)) steps
         × AreTold steps
         (map (λ monitor. shown monitor) monitors.old.items)
         (map (λ monitor. shown monitor) monitors.new.items)) }
 {
     let mut run = Run {
         steps: Vec::new(alloc),
-        state: first,
+        state: start.first,
         context: Some(FIRST_CONTEXT),
     };
     loop {
-        match next_turn(task, guide, &run, world) {
+        match next_turn(start.task, guide, &run, world) {
             Turn::Ends(end) => {
                 return Ok(Trace {
-                    first,
+                    first: start.first,
                     steps: run.steps,
                     end,
                 });
@@ -156,20 +167,19 @@ fn next_turn(task: &Task, guide: &Guide<'_>, run: &Run, world: &mut Box<dyn Worl
     requires guide { IsGuideOf (fluent_count task.now) (action_count task.now) guide.now }
     requires within { IsWithin (fluent_count task.now) run.now.state }
     ensures turn { IsTurn (fluent_count task.now) result (left world.new)
-        (next_turn_of (system_of task.now) (denoted_contexts (rules_of guide.now)) (fluent_count task.now)
+        (next_turn_of (system_of task.now) (denoted_contexts (rules_of guide.now))
+        (fluent_count task.now)
         run.now.steps.items run.now.state run.now.context (left world.old)) }
     ensures in_task { MakesStepOf (fluent_count task.now) (action_count task.now) result }
 {
     let made = run.steps.len();
-    take_turn(
-        task,
-        guide,
-        made == MOST_STEPS,
-        made as u64 + 1,
-        &run.state,
-        run.context,
-        world,
-    )
+    let at = Standing {
+        state: &run.state,
+        context: run.context,
+        number: made as u64 + 1,
+        full: made == MOST_STEPS,
+    };
+    take_turn(task, guide, &at, world)
 }
 
 impl Run {

@@ -27,58 +27,59 @@ pub(crate) enum Turn {
     Goes(Step, Option<u32>),
 }
 
-/// The turn of a run in a state and a context, in which the step of this number would be made
-/// unless the run is full.
+/// Where a run is: the state, the context or none, the number of the next step, and whether the run is
+/// full, so that this step isn't made.
+#[derive(Clone, Copy)]
+pub(crate) struct Standing<'a> {
+    pub(crate) state: &'a State,
+    pub(crate) context: Option<u32>,
+    pub(crate) number: u64,
+    pub(crate) full: bool,
+}
+
+/// The turn of a run that is there.
 pub(crate) fn take_turn(
     task: &Task,
     guide: &Guide<'_>,
-    full: bool,
-    number: u64,
-    state: &State,
-    context: Option<u32>,
+    at: &Standing<'_>,
     world: &mut Box<dyn World>,
 ) -> Turn
     requires guide { IsGuideOf (fluent_count task.now) (action_count task.now) guide.now }
-    requires within { IsWithin (fluent_count task.now) state.now }
+    requires within { IsWithin (fluent_count task.now) at.now.state.now }
     ensures turn { IsTurn (fluent_count task.now) result (left world.new)
-        (turn_of (system_of task.now) (denoted_contexts (rules_of guide.now)) full number
-        (vector (fluent_count task.now) state.now) context (left world.old)) }
+        (turn_of (system_of task.now) (denoted_contexts (rules_of guide.now)) at.now.full
+        at.now.number (vector (fluent_count task.now) at.now.state.now) at.now.context
+        (left world.old)) }
     ensures in_task { MakesStepOf (fluent_count task.now) (action_count task.now) result }
 {
-    let Some(context) = context else {
+    let Some(context) = at.context else {
         return Turn::Ends(End::Terminal);
     };
-    match guide.rule_in(task, state, context) {
+    match guide.rule_in(task, at.state, context) {
         None => Turn::Ends(End::Terminal),
-        Some(rule) => follow(task, full, number, state, rule, world),
+        Some(rule) => follow(task, at, rule, world),
     }
 }
 
 /// The turn in which this rule counts.
-fn follow(
-    task: &Task,
-    full: bool,
-    number: u64,
-    state: &State,
-    rule: &GuideRule<'_>,
-    world: &mut Box<dyn World>,
-) -> Turn
+fn follow(task: &Task, at: &Standing<'_>, rule: &GuideRule<'_>, world: &mut Box<dyn World>) -> Turn
     requires ready { IsReady (fluent_count task.now) (action_count task.now) rule.now }
-    requires within { IsWithin (fluent_count task.now) state.now }
+    requires within { IsWithin (fluent_count task.now) at.now.state.now }
     ensures turn { IsTurn (fluent_count task.now) result (left world.new)
-        (turn_by (system_of task.now) full number (vector (fluent_count task.now) state.now)
-        (left world.old) (Some (advised_by (rule_value rule.now)))) }
+        (turn_by (system_of task.now) at.now.full at.now.number
+        (vector (fluent_count task.now) at.now.state.now) (left world.old)
+        (Some (advised_by (rule_value rule.now)))) }
     ensures in_task { MakesStepOf (fluent_count task.now) (action_count task.now) result }
 {
-    if !is_executable(task, state, rule.action) {
-        return Turn::Refuses(RunErr::Unexecutable { step: number });
+    if !is_executable(task, at.state, rule.action) {
+        return Turn::Refuses(RunErr::Unexecutable { step: at.number });
     }
-    if full {
+    if at.full {
         return Turn::Ends(End::Capped);
     }
     match world.choose() {
         None => Turn::Ends(End::Ended),
-        Some(word) => make_step(task, number, state, rule, word),
+        Some(word) => make_step(task, at.number, at.state, rule, word),
     }
 }
 

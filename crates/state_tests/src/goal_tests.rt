@@ -58,27 +58,28 @@ fn followers_in<L: Ledger>(
     Ok(lists)
 }
 
-/// Whether every path of so many steps meets the target, with the guard until then, or, where
-/// `weak` says so, keeps the guard.
-fn every_path(
-    lists: &[Vec<u32>],
-    guard: &[bool],
-    target: &[bool],
-    number: u32,
-    steps: u32,
+/// What is asked of a path: to meet the target, with the guard until then, or, where `weak` says so, to
+/// keep the guard.
+#[derive(Clone, Copy)]
+struct Until<'a> {
+    guard: &'a [bool],
+    target: &'a [bool],
     weak: bool,
-) -> bool {
-    if number as usize >= lists.len() || is_marked(target, number) {
+}
+
+/// Whether every path of so many steps does what is asked.
+fn every_path(lists: &[Vec<u32>], until: &Until<'_>, number: u32, steps: u32) -> bool {
+    if number as usize >= lists.len() || is_marked(until.target, number) {
         return true;
     }
-    if !is_marked(guard, number) {
+    if !is_marked(until.guard, number) {
         return false;
     }
     if steps == 0 {
-        return weak;
+        return until.weak;
     }
     for next in &lists[number as usize] {
-        if !every_path(lists, guard, target, *next, steps - 1, weak) {
+        if !every_path(lists, until, *next, steps - 1) {
             return false;
         }
     }
@@ -86,28 +87,21 @@ fn every_path(
 }
 
 /// Whether some path of so many steps does.
-fn some_path(
-    lists: &[Vec<u32>],
-    guard: &[bool],
-    target: &[bool],
-    number: u32,
-    steps: u32,
-    weak: bool,
-) -> bool {
+fn some_path(lists: &[Vec<u32>], until: &Until<'_>, number: u32, steps: u32) -> bool {
     if number as usize >= lists.len() {
         return false;
     }
-    if is_marked(target, number) {
+    if is_marked(until.target, number) {
         return true;
     }
-    if !is_marked(guard, number) {
+    if !is_marked(until.guard, number) {
         return false;
     }
     if steps == 0 {
-        return weak;
+        return until.weak;
     }
     for next in &lists[number as usize] {
-        if some_path(lists, guard, target, *next, steps - 1, weak) {
+        if some_path(lists, until, *next, steps - 1) {
             return true;
         }
     }
@@ -138,50 +132,84 @@ fn some_next(lists: &[Vec<u32>], label: &[bool], number: u32) -> bool {
     false
 }
 
+/// Where the parts of a goal hold, where what is always true does, and where what is never true does.
+#[derive(Clone, Copy)]
+struct Labels<'a> {
+    left: &'a [bool],
+    right: &'a [bool],
+    all: &'a [bool],
+    none: &'a [bool],
+}
+
+/// What an operator asks of paths, where it asks something of them.
+fn until_of<'a>(operator: u32, labels: &Labels<'a>) -> Until<'a> {
+    let Labels {
+        left,
+        right,
+        all,
+        none,
+    } = *labels;
+    match operator {
+        2 | 3 => Until {
+            guard: all,
+            target: left,
+            weak: false,
+        },
+        4 | 5 => Until {
+            guard: left,
+            target: none,
+            weak: true,
+        },
+        6 | 7 => Until {
+            guard: left,
+            target: right,
+            weak: false,
+        },
+        _ => Until {
+            guard: left,
+            target: right,
+            weak: true,
+        },
+    }
+}
+
 /// Whether an operator's goal holds in a configuration, where its parts hold as the labels say. A
 /// path of as many steps as there are configurations shows all that a longer one would.
-fn holds_by(
-    lists: &[Vec<u32>],
-    operator: u32,
-    left: &[bool],
-    right: &[bool],
-    all: &[bool],
-    none: &[bool],
-    number: u32,
-) -> bool
+fn holds_by(lists: &[Vec<u32>], operator: u32, labels: &Labels<'_>, number: u32) -> bool
     requires { length lists.now < 2 ^ 32 }
 {
     let steps = lists.len() as u32;
+    let until = until_of(operator, labels);
     match operator {
-        0 => every_next(lists, left, number),
-        1 => some_next(lists, left, number),
-        2 => every_path(lists, all, left, number, steps, false),
-        3 => some_path(lists, all, left, number, steps, false),
-        4 => every_path(lists, left, none, number, steps, true),
-        5 => some_path(lists, left, none, number, steps, true),
-        6 => every_path(lists, left, right, number, steps, false),
-        7 => some_path(lists, left, right, number, steps, false),
-        8 => every_path(lists, left, right, number, steps, true),
-        9 => some_path(lists, left, right, number, steps, true),
-        10 => !is_marked(left, number),
-        _ => !is_marked(left, number) || is_marked(right, number),
+        0 => every_next(lists, labels.left, number),
+        1 => some_next(lists, labels.left, number),
+        2 | 4 | 6 | 8 => every_path(lists, &until, number, steps),
+        3 | 5 | 7 | 9 => some_path(lists, &until, number, steps),
+        10 => !is_marked(labels.left, number),
+        _ => !is_marked(labels.left, number) || is_marked(labels.right, number),
     }
 }
 
 /// The label of an operator's goal, from those of its parts.
-fn reading(
+fn reading<'a>(
     alloc: Global,
     graph: &Graph,
     operator: u32,
-    left: &[bool],
-    right: &[bool],
+    left: &'a [bool],
+    right: &'a [bool],
 ) -> Result<Vec<bool>, AllocError> {
     let lists = followers(alloc, graph)?;
     let all = vec![in alloc; true; graph.len() as usize]?;
     let none = vec![in alloc; false; graph.len() as usize]?;
+    let labels = Labels {
+        left,
+        right,
+        all: &all,
+        none: &none,
+    };
     let mut marks = Vec::new(alloc);
     for number in 0..graph.len() {
-        marks.push(holds_by(&lists, operator, left, right, &all, &none, number))?;
+        marks.push(holds_by(&lists, operator, &labels, number))?;
     }
     Ok(marks)
 }
@@ -241,13 +269,26 @@ fn wanted(graph: &Graph, label: &[bool]) -> Verdict {
     Verdict::Yes { bound: None }
 }
 
+/// An operator on two fluents.
+#[derive(Clone, Copy)]
+struct Pair {
+    operator: u32,
+    left: u32,
+    right: u32,
+}
+
 /// The goal of an operator on two fluents.
-fn pair(alloc: Global, operator: u32, left: u32, right: u32) -> Result<Ctl, AllocError>
-    requires left { left < 2 }
-    requires right { right < 2 }
+fn pair_goal(alloc: Global, pair: Pair) -> Result<Ctl, AllocError>
+    requires left { pair.left < 2 }
+    requires right { pair.right < 2 }
     ensures { (n : ℕ) → 2 ≤ n → IfOk result (λ goal. NamesBelow n (ctl_value goal)) }
 {
-    goal_of(alloc, operator, fluent_goal(left), fluent_goal(right))
+    goal_of(
+        alloc,
+        pair.operator,
+        fluent_goal(pair.left),
+        fluent_goal(pair.right),
+    )
 }
 
 /// Whether the verdict for a goal is the one that its label gives.
@@ -273,32 +314,30 @@ fn agrees_around(
     alloc: Global,
     task: &Task,
     graph: &Graph,
-    operator: u32,
-    left: u32,
-    right: u32,
+    pair: Pair,
     part: &[bool],
 ) -> Result<bool, AllocError>
     requires fluents { 2 ≤ fluent_count task.now }
-    requires left { left < 2 }
-    requires right { right < 2 }
+    requires left { pair.left < 2 }
+    requires right { pair.right < 2 }
     requires graph { (contexts : ℕ) × ((rules : List ContextRule)
         × IsGraphOf (system_of task.now) (automaton contexts rules)
         (plain_graph (fluent_count task.now) graph.now)) }
 {
-    let goal = pair(alloc, operator, left, right)?;
+    let goal = pair_goal(alloc, pair)?;
     if !agrees(alloc, task, graph, &goal, part)? {
         return Ok(false);
     }
     for outer in 0..OPERATORS {
         for fluent in 0..2 {
             let other = fluent_label(alloc, graph, fluent)?;
-            let goal = pair(alloc, operator, left, right)?;
+            let goal = pair_goal(alloc, pair)?;
             let goal = goal_of(alloc, outer, goal, fluent_goal(fluent))?;
             let label = reading(alloc, graph, outer, part, &other)?;
             if !agrees(alloc, task, graph, &goal, &label)? {
                 return Ok(false);
             }
-            let goal = pair(alloc, operator, left, right)?;
+            let goal = pair_goal(alloc, pair)?;
             let goal = goal_of(alloc, outer, fluent_goal(fluent), goal)?;
             let label = reading(alloc, graph, outer, &other, part)?;
             if !agrees(alloc, task, graph, &goal, &label)? {
@@ -322,7 +361,12 @@ fn agrees_on_all(alloc: Global, task: &Task, graph: &Graph) -> Result<bool, Allo
             for right in 0..2 {
                 let second = fluent_label(alloc, graph, right)?;
                 let part = reading(alloc, graph, operator, &first, &second)?;
-                if !agrees_around(alloc, task, graph, operator, left, right, &part)? {
+                let pair = Pair {
+                    operator,
+                    left,
+                    right,
+                };
+                if !agrees_around(alloc, task, graph, pair, &part)? {
                     return Ok(false);
                 }
             }

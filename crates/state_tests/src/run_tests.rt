@@ -9,7 +9,7 @@ ghost use Rattle.std.specs.Prelude.{if◌then◌else◌, ◌≡◌, ◌==◌, Al
 
 use plan_rules::{Plan, read_plan};
 use run_replay::{
-    ChangeMonitor, Monitor, RecordWorld, RunErr, Step, StepMonitor, Trace, World, execute,
+    ChangeMonitor, Monitor, RecordWorld, RunErr, Start, Step, StepMonitor, Trace, World, execute,
     write_trace,
 };
 use sexpr_text::MAX_BYTES;
@@ -210,17 +210,22 @@ fn refusal_of(alloc: Global, refusal: RunErr) -> Result<String, Fail> {
 }
 
 /// What a run of a plan gives from the state in which both are off: its text or its refusal.
-fn told_of_plan(
+fn told_of_plan<'a>(
     alloc: Global,
-    task: &Task,
-    plan: &Plan,
+    task: &'a Task,
+    plan: &'a Plan,
     world: &mut Box<dyn World>,
     monitors: &mut Vec<Box<dyn Monitor>>,
 ) -> Result<String, Fail>
     requires plan_of_task { IsPlanOf (fluent_count task.now) (action_count task.now) plan.now }
     requires untold { All (λ monitor. (shown monitor).counted ≡ 0) monitors.old.items }
 {
-    match execute(alloc, task, plan, State::none(), world, monitors) {
+    let start = Start {
+        task,
+        plan,
+        first: State::none(),
+    };
+    match execute(alloc, &start, world, monitors) {
         Ok(trace) => Ok(text_of(alloc, task, &trace, monitors)?),
         Err(refusal) => refusal_of(alloc, refusal),
     }
@@ -433,17 +438,22 @@ fn a_caller_s_own_world_and_monitors(rt: HostRuntime) -> Result<(), Fail> {
 
 /// How a run of a plan ends: the word for the end and the number of steps, and nothing where it is
 /// refused.
-fn end_of_plan(
+fn end_of_plan<'a>(
     alloc: Global,
-    task: &Task,
-    plan: &Plan,
+    task: &'a Task,
+    plan: &'a Plan,
     world: &mut Box<dyn World>,
     monitors: &mut Vec<Box<dyn Monitor>>,
 ) -> Result<String, Fail>
     requires plan_of_task { IsPlanOf (fluent_count task.now) (action_count task.now) plan.now }
     requires untold { All (λ monitor. (shown monitor).counted ≡ 0) monitors.old.items }
 {
-    match execute(alloc, task, plan, State::none(), world, monitors) {
+    let start = Start {
+        task,
+        plan,
+        first: State::none(),
+    };
+    match execute(alloc, &start, world, monitors) {
         Ok(trace) => Ok(format!(in alloc; "{:?} {}", trace.end, trace.steps.len())?),
         Err(_) => Ok(String::new(alloc)),
     }

@@ -3,8 +3,5 @@ use Rattle.task_core.specs.Tasks.{fluent_count}
 use Rattle.plan_command.proofs.ContextAnswers.{over_task}
 use Rattle.controller_plan.proofs.context_searches.follow_parts.Goals as goal
 
-pub follow_in_order-requires-clause-goal : goal.follow_in_order-requires-clause-goal
-follow_in_order-requires-clause-goal c = over_task (fluent_count c.args.task.now) c.args.goal.now (search rules) (search rules) c.requires.names c.requires.shallow
-
-pub follow_plainly-requires-clause-goal : goal.follow_plainly-requires-clause-goal
-follow_plainly-requires-clause-goal c = over_task (fluent_count c.args.task.now) c.args.goal.now (search rules) (search rules) c.requires.names c.requires.shallow
+pub follow_in_tries-requires-clause-goal : goal.follow_in_tries-requires-clause-goal
+follow_in_tries-requires-clause-goal c = over_task (fluent_count c.args.task.now) c.args.goal.now (search rules) (search rules) c.requires.names c.requires.shallow

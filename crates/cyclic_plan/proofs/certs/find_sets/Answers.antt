@@ -41,8 +41,8 @@ returns-then-branch c start ready =
     ends_with_plan start c.all_sets.new.enc c.covers_initial.new.enc c.all_sets.new.board.slots.items c.all_sets.new.sets h (c.in_ok-covers_initial.ensures.left start at (test_near start c.all_sets.new.enc c.all_sets.new.board.slots.items _ _ h.so_far.lost.rounds.round))
     c.in_ok-covers_initial.field-0 (c.in_ok-covers_initial.ensures.answer start at) (let t = c.if-branch.true in cc)
 
-pub returns : goal.returns
-returns c start ready =
+pub returns-else-branch : goal.returns-else-branch
+returns-else-branch c start ready =
     let f = went start c.lose_first.new.enc c.lose_first.new.board.slots.items _ c.lose_first.result _ c.in_ok-lose_first.was (c.lose_first.ensures start ready) in
     let h = went start c.all_sets.new.enc c.all_sets.new.board.slots.items _ c.all_sets.result _ c.in_ok-all_sets.was (c.all_sets.ensures start f) in
     let at = h.so_far.lost.rounds.round.at in

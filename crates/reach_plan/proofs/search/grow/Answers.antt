@@ -15,12 +15,12 @@ copy_of-requires-clause-working c = let r = c.requires.ready in (r.0, r.4.by_lay
 pub returns-in_err-copy_of : goal.returns-in_err-copy_of
 returns-in_err-copy_of c start k f h ready =
     let p = err_from_is_err_and c.from_residual.result c.from_residual.ensures.1 in
-    passed start c.copy_of.new.enc c.copy_of.new.self.slots.items _ _ c.copy_of.result c.from_residual.result _ c.in_err-copy_of.was p (c.copy_of.ensures start ready.by_layer.at (layer_copy_fits c.args.class start c.args.enc.now c.args.board.now.slots.items 0 1 f untaken h ready.by_layer ready.known))
+    passed start c.copy_of.new.enc c.copy_of.new.self.slots.items _ _ c.copy_of.result c.from_residual.result _ c.in_err-copy_of.was p (c.copy_of.ensures start ready.by_layer.at (layer_copy_fits c.args.aim.class start c.args.enc.now c.args.board.now.slots.items 0 1 f untaken h ready.by_layer ready.known))
 
 pub loop-a-init : goal.loop-a-init
 loop-a-init c start k f h ready =
-    grown_first c.args.class start c.args.enc.now c.copy_of.new.enc c.args.board.now.slots.items c.copy_of.new.self.slots.items f h c.args.steps.now.items c.args.spent.now.items c.requires.places ready
-    (went start c.copy_of.new.enc c.copy_of.new.self.slots.items _ c.copy_of.result _ c.in_ok-copy_of.was (c.copy_of.ensures start ready.by_layer.at (layer_copy_fits c.args.class start c.args.enc.now c.args.board.now.slots.items 0 1 f untaken h ready.by_layer ready.known)))
+    grown_first c.args.aim.class start c.args.enc.now c.copy_of.new.enc c.args.board.now.slots.items c.copy_of.new.self.slots.items f h c.args.steps.now.items c.args.spent.now.items c.requires.places ready
+    (went start c.copy_of.new.enc c.copy_of.new.self.slots.items _ c.copy_of.result _ c.in_ok-copy_of.was (c.copy_of.ensures start ready.by_layer.at (layer_copy_fits c.args.aim.class start c.args.enc.now c.args.board.now.slots.items 0 1 f untaken h ready.by_layer ready.known)))
 
 pub grow_by-requires-clause-ready : goal.grow_by-requires-clause-ready
 grow_by-requires-clause-ready c = let r = c.requires.ready in (r.0, r.1, r.2, r.3, c.loop-a.invariant r.0 r.1 r.2 r.3 r.4)
@@ -57,5 +57,5 @@ loop-a-preserved c start k f h ready =
 
 pub returns : goal.returns
 returns c start k f h ready =
-    let e : c.loop-a.a ≡ c.args.actions = omega arith in
-    subst (λ m. HasGrown c.args.class start c.loop-a.enc c.loop-a.board.slots.items k f h m c.loop-a.steps.items c.loop-a.spent.items) e (c.loop-a.invariant start k f h ready)
+    let e : c.loop-a.a ≡ c.args.aim.actions = omega arith in
+    subst (λ m. HasGrown c.args.aim.class start c.loop-a.enc c.loop-a.board.slots.items k f h m c.loop-a.steps.items c.loop-a.spent.items) e (c.loop-a.invariant start k f h ready)

@@ -8,7 +8,7 @@ use Rattle.reach_plan.proofs.SetLayers.{missed}
 use Rattle.reach_plan.proofs.search.search_back.Given as goal
 
 abbrev pub invariant-loop-spent : goal.invariant-loop-spent
-invariant-loop-spent l = (start : Start) → HasNothing start l.fn.enc l.fn.board.slots.items → BoundsReachSets start.width l.fn.class start.task → (k : ℕ) × HasRound l.fn.class start l.enc l.board.slots.items k l.steps.items l.spent.items
+invariant-loop-spent l = (start : Start) → HasNothing start l.fn.enc l.fn.board.slots.items → BoundsReachSets start.width l.fn.aim.class start.task → (k : ℕ) × HasRound l.fn.aim.class start l.enc l.board.slots.items k l.steps.items l.spent.items
 
 -- how many states it misses
 abbrev pub decreases-loop-spent : goal.decreases-loop-spent

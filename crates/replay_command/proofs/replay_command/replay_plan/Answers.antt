@@ -22,7 +22,7 @@ returns-in_err-recorded-clause-answer g c =
     let tallies : Tallies = tallies_of (map (λ monitor. (goal.Monitor-dyn g (monitor.vtable, monitor.value)).shown monitor.value) c.args.monitors.now.items) in
     let task = c.args.request.now.task.now in
     let empty = empty_init c.args.request.now.asked.now.problem.now (problem_value c.args.request.now.problem.now) in
-    rw (p.1, p.2) (record_refused held failed tallies c.args.request.now.asked.now.recorded.now (action_names task) (HasTooManyInitial task most_followed) empty (system_of task) (plain_of c.args.plan.now)
+    rw (p.1, p.2) (record_refused held failed tallies c.args.request.now.asked.now.recorded.now (action_names task) (HasTooManyInitial task most_followed) empty (system_of task) (plain_of c.args.request.now.plan.now)
     (refusal_of c.in_err-recorded.field-0.0) c.in_err-recorded.ensures.refused)
 
 pub returns-clause-answer : goal.returns-clause-answer
@@ -32,7 +32,7 @@ returns-clause-answer g c =
     let tallies : Tallies = tallies_of (map (λ monitor. (goal.Monitor-dyn g (monitor.vtable, monitor.value)).shown monitor.value) c.args.monitors.now.items) in
     let task = c.args.request.now.task.now in
     let empty = empty_init c.args.request.now.asked.now.problem.now (problem_value c.args.request.now.problem.now) in
-    record_answer held failed tallies c.args.request.now.asked.now.recorded.now (action_names task) (HasTooManyInitial task most_followed) empty (system_of task) (plain_of c.args.plan.now)
+    record_answer held failed tallies c.args.request.now.asked.now.recorded.now (action_names task) (HasTooManyInitial task most_followed) empty (system_of task) (plain_of c.args.request.now.plan.now)
     (record_value c.in_ok-recorded.recorded) (answer_of c.replay_record.result) c.in_ok-recorded.ensures.holds c.replay_record.ensures
 
 pub returns-in_err-recorded-clause-fetches : goal.returns-in_err-recorded-clause-fetches

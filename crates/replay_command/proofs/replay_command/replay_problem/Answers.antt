@@ -18,17 +18,17 @@ returns-in_err-task-clause-answer g c =
     let held = g.S.Shelf.held c.args.shelf.now in
     let failed = FailedLast g.S.Shelf.fetched g.S.Shelf.faults c.args.shelf.now c.args.shelf.now in
     let tallies : Tallies = tallies_of (map (λ monitor. (goal.Monitor-dyn g (monitor.vtable, monitor.value)).shown monitor.value) c.args.monitors.now.items) in
-    let domain = domain_value c.args.domain.now in
-    let problem = problem_value c.args.problem.now in
+    let domain = domain_value c.args.sought.now.domain.now in
+    let problem = problem_value c.args.sought.now.problem.now in
     rw (p.1, p.2) (ground_refused domain problem
-    (ReplayThen held failed tallies (replay_words_of c.args.asked.now) (fluent_names domain problem) (action_names domain problem) (HasTooManyStates domain problem) (empty_init c.args.asked.now.problem.now problem) (system domain problem)) (refusal_of c.in_err-task.field-0.0) c.in_err-task.ensures.refused)
+    (ReplayThen held failed tallies (replay_words_of c.args.sought.now.asked.now) (fluent_names domain problem) (action_names domain problem) (HasTooManyStates domain problem) (empty_init c.args.sought.now.asked.now.problem.now problem) (system domain problem)) (refusal_of c.in_err-task.field-0.0) c.in_err-task.ensures.refused)
 
 pub returns-clause-answer : goal.returns-clause-answer
 returns-clause-answer g c =
     let held = g.S.Shelf.held c.args.shelf.now in
     let failed = FailedLast g.S.Shelf.fetched g.S.Shelf.faults c.args.shelf.now c.replay_task.new.shelf in
     let tallies : Tallies = tallies_of (map (λ monitor. (goal.Monitor-dyn g (monitor.vtable, monitor.value)).shown monitor.value) c.args.monitors.now.items) in
-    replay_answer held failed tallies (replay_words_of c.args.asked.now) (domain_value c.args.domain.now) (problem_value c.args.problem.now) c.in_ok-task.task (answer_of c.replay_task.result)
+    replay_answer held failed tallies (replay_words_of c.args.sought.now.asked.now) (domain_value c.args.sought.now.domain.now) (problem_value c.args.sought.now.problem.now) c.in_ok-task.task (answer_of c.replay_task.result)
     c.in_ok-task.ensures.task c.in_ok-task.ensures.system c.in_ok-task.ensures.within c.replay_task.ensures.answer
 
 pub returns-clause-fetches : goal.returns-clause-fetches
@@ -37,6 +37,6 @@ returns-clause-fetches g c =
     let failed = FailedLast g.S.Shelf.fetched g.S.Shelf.faults c.args.shelf.now c.replay_task.new.shelf in
     inr (
       c.in_ok-task.ensures.within,
-      task_fetched held failed g.S.Shelf.fetched (replay_words_of c.args.asked.now) (domain_value c.args.domain.now) (problem_value c.args.problem.now) c.in_ok-task.task _
+      task_fetched held failed g.S.Shelf.fetched (replay_words_of c.args.sought.now.asked.now) (domain_value c.args.sought.now.domain.now) (problem_value c.args.sought.now.problem.now) c.in_ok-task.task _
           c.args.shelf.now c.replay_task.new.shelf c.in_ok-task.ensures.task c.replay_task.ensures.fetches,
     )

@@ -20,6 +20,6 @@ returns g c =
     let task = c.args.request.now.task.now in
     let Then : Vector → Answer → Type 0 = λ first. IsReplayed
     (tallies_of (map (λ monitor. (goal.Monitor-dyn g (monitor.vtable, monitor.value)).shown monitor.value) c.args.monitors.now.items))
-    (system_of task) (action_names task) (trace_under (system_of task) (plain_of c.args.plan.now) first c.args.recorded.words.items) in
+    (system_of task) (action_names task) (trace_under (system_of task) (plain_of c.args.request.now.plan.now) first c.args.recorded.words.items) in
     first_answer (HasTooManyInitial task most_followed) (empty_init c.args.request.now.asked.now.problem.now (problem_value c.args.request.now.problem.now)) (initial_states task) c.args.request.now.asked.now.recorded.now (record_value c.args.recorded) (vector (fluent_count task) c.in_ok-first.first) Then (answer_of c.show_run.result)
     c.in_ok-first.ensures.few c.in_ok-first.ensures.first (rw c.in_ok-load_world.ensures at c.show_run.ensures)

@@ -18,6 +18,6 @@ returns-in_err-guide-clause-refused g c =
     rw (p.1, p.2) (
       [],
       record { later = _; front = refl; taken = refl },
-      All-nil (IsStepOf (fluent_count c.args.task.now) (action_count c.args.task.now)),
+      All-nil (IsStepOf (fluent_count c.args.start.now.task.now) (action_count c.args.start.now.task.now)),
       are_told_none (map (λ monitor. (goal.Monitor-dyn g (monitor.vtable, monitor.value)).shown monitor.value) c.args.monitors.now.items),
     )

@@ -10,7 +10,7 @@ use Rattle.run_replay.proofs.runs.run_guide.Given as goal
 -- the run has come so far
 abbrev pub invariant-loop-end : goal.invariant-loop-end
 invariant-loop-end g l = HasRun
-    (system_of l.task) (denoted_contexts (rules_of l.guide)) (fluent_count l.task) (action_count l.task) (vector (fluent_count l.task) l.first)
+    (system_of l.start.task.now) (denoted_contexts (rules_of l.guide)) (fluent_count l.start.task.now) (action_count l.start.task.now) (vector (fluent_count l.start.task.now) l.start.first)
     ((goal.World-dyn g (l.initial.world.vtable, l.initial.world.value)).left l.initial.world.value)
     (map (λ monitor. (goal.Monitor-dyn g (monitor.vtable, monitor.value)).shown monitor.value) l.initial.monitors.items)
     l.run.steps.items l.run.state l.run.context

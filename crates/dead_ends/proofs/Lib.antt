@@ -1,0 +1,6 @@
+mod Firsts
+mod Outcomes
+mod Pushed
+mod Starts
+mod Straying
+mod Told
