@@ -110,6 +110,9 @@ ol {
   list-style: none;
   padding-left: 0.3rem;
 }
+#sentence {
+  white-space: pre-line;
+}
 #steps {
   padding-left: 2.6rem;
   max-height: 16rem;
