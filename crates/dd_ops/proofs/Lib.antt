@@ -17,6 +17,7 @@ pub mod GrowthSubstSteps
 pub mod GrowthTables
 pub mod HalvesLemmas
 pub mod KnownLemmas
+pub mod PairLemmas
 pub mod QuestionLemmas
 pub mod ReplacedLemmas
 pub mod Restated

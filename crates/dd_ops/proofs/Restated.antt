@@ -127,7 +127,7 @@ module _ (before after : List Node) (extends : Extends before after) (vars : ℕ
 
 -- a question that is restated has no lesser top
 module _ (t : NodeTable) (table : IsNodeTable t) where
-  level_small : (n : ℕ) → level_of t.nodes n ≤ 256
+  pub level_small : (n : ℕ) → level_of t.nodes n ≤ 256
   level_small n = ⊎_elim
       (λ (none : node_at t.nodes n ≡ None).
       let level : level_of t.nodes n ≡ 256 = ap level_at none in omega arith)

@@ -5,3 +5,4 @@ pub mod Growth
 pub mod GrowthLaws
 pub mod Known
 pub mod Operations
+pub mod Pairs

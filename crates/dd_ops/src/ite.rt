@@ -7,7 +7,7 @@ ghost use Rattle.dd_ops.specs.Cached.{Remembers, IsQuestion, AddsPairs};
 ghost use Rattle.dd_ops.specs.Growth.{AddsParts};
 
 use crate::memo::{recall_answer, remember_answer};
-use crate::question::{Halves, Question, Settled, halve, operand_with, settle};
+use crate::question::{HalfAnswers, Halves, Question, Settled, halve, operand_with, settle};
 use dd_cache::Cache;
 use dd_nodes::{Dd, DdErr, Ref};
 
@@ -57,7 +57,7 @@ fn answer_open(dd: &mut Dd, cache: &mut Cache, q: Question) -> Result<Ref, DdErr
     let halves = halve(dd, q);
     let lo = answer(dd, cache, halves.lo)?;
     let hi = answer(dd, cache, halves.hi)?;
-    join(dd, cache, q, halves, lo, hi)
+    join(dd, cache, q, halves, HalfAnswers { lo, hi })
 }
 
 /// The answer to a question, by the answers to its halves, which the cache keeps.
@@ -66,13 +66,12 @@ fn join(
     cache: &mut Cache,
     q: Question,
     halves: Halves,
-    lo: Ref,
-    hi: Ref,
+    answers: HalfAnswers,
 ) -> Result<Ref, DdErr>
     requires table { IsNodeTable dd.old }
     requires asked { IsAsked dd.old.nodes q }
     requires halves { IsHalved dd.old.nodes q halves }
-    requires answers { AreHalfAnswers dd.old q halves.var lo.0 hi.0 }
+    requires answers { AreHalfAnswers dd.old q halves.var answers.lo.0 answers.hi.0 }
     requires memo { Remembers dd.old.nodes cache.old.pairs }
     ensures answer { IfOk result (λ r. IsAnswer dd.new.nodes q r.0) }
     ensures kept { Keeps dd.old dd.new }
@@ -83,18 +82,23 @@ fn join(
     ensures only_full { IfErr result (λ e. e ≡ DdErr.Full) }
     ensures full { IsErrOf result DdErr.Full → IsFullFor (asked_of dd.old.nodes q ∷ []) dd.new }
 {
-    let r = operand_or_node(dd, q, halves, lo, hi)?;
+    let r = operand_or_node(dd, q, halves, answers)?;
     remember_answer(cache, q, r);
     Ok(r)
 }
 
-/// The number of the function whose halves are `lo` and `hi`. Where that is one of the question's
+/// The number of the function whose halves are the answers. Where that is one of the question's
 /// operands, it needs no look at the table, which in large tables is what takes the time.
-fn operand_or_node(dd: &mut Dd, q: Question, halves: Halves, lo: Ref, hi: Ref) -> Result<Ref, DdErr>
+fn operand_or_node(
+    dd: &mut Dd,
+    q: Question,
+    halves: Halves,
+    answers: HalfAnswers,
+) -> Result<Ref, DdErr>
     requires table { IsNodeTable dd.old }
     requires asked { IsAsked dd.old.nodes q }
     requires halves { IsHalved dd.old.nodes q halves }
-    requires answers { AreHalfAnswers dd.old q halves.var lo.0 hi.0 }
+    requires answers { AreHalfAnswers dd.old q halves.var answers.lo.0 answers.hi.0 }
     ensures answer { IfOk result (λ r. IsAnswer dd.new.nodes q r.0) }
     ensures kept { Keeps dd.old dd.new }
     ensures table { IsNodeTable dd.new }
@@ -102,8 +106,8 @@ fn operand_or_node(dd: &mut Dd, q: Question, halves: Halves, lo: Ref, hi: Ref) -
     ensures only_full { IfErr result (λ e. e ≡ DdErr.Full) }
     ensures full { IsErrOf result DdErr.Full → IsFullFor (asked_of dd.old.nodes q ∷ []) dd.new }
 {
-    match operand_with(q, halves, lo, hi) {
+    match operand_with(q, halves, answers) {
         Some(r) => Ok(r),
-        None => dd.mk(halves.var, lo, hi),
+        None => dd.mk(halves.var, answers.lo, answers.hi),
     }
 }

@@ -14,6 +14,7 @@ mod known;
 mod make;
 mod memo;
 mod ops;
+mod pairs;
 mod question;
 mod replacements;
 mod subst;

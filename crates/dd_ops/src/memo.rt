@@ -29,22 +29,31 @@ pub fn remember_answer(cache: &mut Cache, q: Question, r: Ref)
     remember(cache, question_key(q), r);
 }
 
-/// The remembered number of `f` with variable `v` fixed.
-pub fn recall_cofactor(cache: &mut Cache, f: Ref, v: u32, value: bool) -> Option<Ref>
-    ensures answer { IfSome result (λ r. (nodes : List Node)
-        → RemembersCofactors nodes cache.old.pairs → IsCofactor nodes v value f.0 r.0) }
-    ensures same { cache.new.pairs ≡ cache.old.pairs }
-{
-    recall(cache, cofactor_key(f, v, value))
+/// A variable that is fixed, and its value.
+#[derive(Clone, Copy)]
+pub struct Fixed {
+    pub var: u32,
+    pub value: bool,
 }
 
-/// Remembers the number of `f` with variable `v` fixed.
-pub fn remember_cofactor(cache: &mut Cache, f: Ref, v: u32, value: bool, r: Ref)
+/// The remembered number of `f` with a variable fixed.
+pub fn recall_cofactor(cache: &mut Cache, f: Ref, fixed: Fixed) -> Option<Ref>
+    ensures answer { IfSome result (λ r. (nodes : List Node)
+        → RemembersCofactors nodes cache.old.pairs
+        → IsCofactor nodes fixed.var fixed.value f.0 r.0) }
+    ensures same { cache.new.pairs ≡ cache.old.pairs }
+{
+    recall(cache, cofactor_key(f, fixed))
+}
+
+/// Remembers the number of `f` with a variable fixed.
+pub fn remember_cofactor(cache: &mut Cache, f: Ref, fixed: Fixed, r: Ref)
     ensures kept { (nodes : List Node) → RemembersCofactors nodes cache.old.pairs
-        → IsCofactor nodes v value f.0 r.0 → RemembersCofactors nodes cache.new.pairs }
+        → IsCofactor nodes fixed.var fixed.value f.0 r.0
+        → RemembersCofactors nodes cache.new.pairs }
     ensures others { AddsPairs IsFixed cache.old.pairs cache.new.pairs }
 {
-    remember(cache, cofactor_key(f, v, value), r);
+    remember(cache, cofactor_key(f, fixed), r);
 }
 
 /// The remembered number of `f` with the variables replaced that the list with a number has.
@@ -79,15 +88,15 @@ fn question_key(q: Question) -> Key
     }
 }
 
-/// The key of `f` with variable `v` fixed.
-fn cofactor_key(f: Ref, v: u32, value: bool) -> Key
-    ensures { result ≡ key_of_cofactor f.0 v value }
+/// The key of `f` with a variable fixed.
+fn cofactor_key(f: Ref, fixed: Fixed) -> Key
+    ensures { result ≡ key_of_cofactor f.0 fixed.var fixed.value }
 {
     Key {
         op: 1,
         a: f.0,
-        b: v,
-        c: if value { 1 } else { 0 },
+        b: fixed.var,
+        c: if fixed.value { 1 } else { 0 },
         call: 0,
     }
 }

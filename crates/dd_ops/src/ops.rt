@@ -12,6 +12,8 @@ ghost use Rattle.dd_ops.specs.Operations.{cofactor_of, subst_of};
 use crate::cofactor::fix;
 use crate::ite::answer;
 use crate::known::{KnownLists, number_of};
+use crate::memo::Fixed;
+use crate::pairs::{Pair, answer_join, answer_meet, answer_rest};
 use crate::question::Question;
 use crate::subst::substitute;
 use dd_cache::Cache;
@@ -145,7 +147,7 @@ impl Ops {
             [])
             self.old self.new result }
     {
-        self.ite(f, g, Ref(0))
+        answer_meet(&mut self.dd, &mut self.cache, Pair { f, g })
     }
 
     /// The disjunction of `f` and `g`.
@@ -159,7 +161,7 @@ impl Ops {
             [])
             self.old self.new result }
     {
-        self.ite(f, Ref(1), g)
+        answer_join(&mut self.dd, &mut self.cache, Pair { f, g })
     }
 
     /// `f` and not `g`.
@@ -173,7 +175,7 @@ impl Ops {
             ∷ [])
             self.old self.new result }
     {
-        self.ite(g, Ref(0), f)
+        answer_rest(&mut self.dd, &mut self.cache, Pair { f, g })
     }
 
     /// `f` with variable `v` fixed at a value.
@@ -185,7 +187,7 @@ impl Ops {
         ensures grows { Grows (cofactor_of (function self.old.nodes f.0) v value ∷ [])
             self.old self.new result }
     {
-        fix(&mut self.dd, &mut self.cache, f, v, value)
+        fix(&mut self.dd, &mut self.cache, f, Fixed { var: v, value })
     }
 
     /// `f` with each listed variable replaced by its function, all at once.

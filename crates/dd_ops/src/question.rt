@@ -107,7 +107,7 @@ pub fn level(dd: &Dd, f: Ref) -> u32
 }
 
 /// The variable of a node, and 256 for none.
-fn level_of_node(node: Option<Node>) -> u32
+pub fn level_of_node(node: Option<Node>) -> u32
     ensures { result ≡ level_at node }
 {
     match node {
@@ -123,6 +123,13 @@ pub struct Halves {
     pub var: u32,
     pub lo: Question,
     pub hi: Question,
+}
+
+/// What is answered where a variable is fixed at false and at true.
+#[derive(Clone, Copy)]
+pub struct HalfAnswers {
+    pub lo: Ref,
+    pub hi: Ref,
 }
 
 /// The halves of a question. Each of its nodes is read once.
@@ -164,15 +171,15 @@ pub fn branch(found: Option<Node>, f: Ref, var: u32, value: bool) -> Ref
     }
 }
 
-/// The operand of a question whose halves are `lo` and `hi`, if there is one.
-pub fn operand_with(q: Question, halves: Halves, lo: Ref, hi: Ref) -> Option<Ref>
-    ensures { IfSome result (IsOperandWith q halves lo hi) }
+/// The operand of a question whose halves are the answers to its halves, if there is one.
+pub fn operand_with(q: Question, halves: Halves, answers: HalfAnswers) -> Option<Ref>
+    ensures { IfSome result (IsOperandWith q halves answers.lo answers.hi) }
 {
-    if lo == halves.lo.f && hi == halves.hi.f {
+    if answers.lo == halves.lo.f && answers.hi == halves.hi.f {
         Some(q.f)
-    } else if lo == halves.lo.g && hi == halves.hi.g {
+    } else if answers.lo == halves.lo.g && answers.hi == halves.hi.g {
         Some(q.g)
-    } else if lo == halves.lo.h && hi == halves.hi.h {
+    } else if answers.lo == halves.lo.h && answers.hi == halves.hi.h {
         Some(q.h)
     } else {
         None

@@ -8,9 +8,10 @@ ghost use Rattle.dd_ops.specs.Operations.{listed};
 use dd_nodes::{Dd, Ref};
 
 /// A list of variables and what replaces each, with a table by variable, so that each is found at
-/// once.
+/// once, and the number of the list.
 #[derive(Drop)]
 pub struct Replacements<'a> {
+    pub number: u64,
     pub map: &'a [(u32, Ref)],
     pub by_var: [Option<Ref>; 256],
     /// The least variable from which on no function but a variable itself replaces it.
@@ -19,7 +20,8 @@ pub struct Replacements<'a> {
 
 impl<'a> Replacements<'a> {
     /// The list with its table by variable. Of two entries for a variable the first counts.
-    pub fn new(map: &'a [(u32, Ref)], end: u32) -> Replacements<'a>
+    pub fn new(number: u64, map: &'a [(u32, Ref)], end: u32) -> Replacements<'a>
+        ensures number { result.number ≡ number }
         ensures map { result.map.now ≡ map.now }
         ensures found { IsByVar map.now result.by_var }
         ensures end { result.end ≡ end }
@@ -28,7 +30,12 @@ impl<'a> Replacements<'a> {
         for place in (0..map.len()).rev() {
             put(&mut by_var, map[place].0, map[place].1);
         }
-        Replacements { map, by_var, end }
+        Replacements {
+            number,
+            map,
+            by_var,
+            end,
+        }
     }
 
     /// The number that replaces a variable, if the list has the variable.

@@ -11,9 +11,9 @@ ghost use Rattle.dd_ops.specs.Growth.{AddsParts, pieces_of_subst};
 ghost use Rattle.dd_ops.specs.Operations.{listed, replaced};
 
 use crate::ite::answer;
-use crate::make::make;
+use crate::make::{OwnNode, make};
 use crate::memo::{recall_replaced, remember_replaced};
-use crate::question::{Question, level};
+use crate::question::{HalfAnswers, Question, level};
 use crate::replacements::{Replacements, end_of, variable_of};
 use dd_cache::Cache;
 use dd_nodes::{Dd, DdErr, Node, Ref};
@@ -51,31 +51,25 @@ pub fn substitute(
     if let Some(r) = recall_replaced(cache, call, f) {
         return Ok(r);
     }
-    let images = Replacements::new(map, end);
-    replace(dd, cache, call, f, &images)
+    let images = Replacements::new(call, map, end);
+    replace(dd, cache, f, &images)
 }
 
 /// The number of `f` with each variable of `images` replaced by its function.
 ///
 /// A child looks only at greater variables, so the calls are nested at most 256 deep.
-fn replace(
-    dd: &mut Dd,
-    cache: &mut Cache,
-    call: u64,
-    f: Ref,
-    images: &Replacements,
-) -> Result<Ref, DdErr>
+fn replace(dd: &mut Dd, cache: &mut Cache, f: Ref, images: &Replacements) -> Result<Ref, DdErr>
     requires table { IsNodeTable dd.old }
     requires number { IsNumber dd.old.nodes f.0 }
     requires images { IsIndexed dd.old.nodes images.now.map.now images.now.by_var images.now.end }
     requires questions { Remembers dd.old.nodes cache.old.pairs }
-    requires memo { RemembersReplaced dd.old.nodes images.now.map.now call cache.old.pairs }
+    requires memo { RemembersReplaced dd.old.nodes images.now.map.now images.now.number cache.old.pairs }
     ensures answer { IfOk result (λ r. IsReplaced dd.new.nodes images.now.map.now f.0 r.0) }
     ensures kept { Keeps dd.old dd.new }
     ensures table { IsNodeTable dd.new }
     ensures questions { Remembers dd.new.nodes cache.new.pairs }
-    ensures memo { RemembersReplaced dd.new.nodes images.now.map.now call cache.new.pairs }
-    ensures others { AddsPairs (MayAdd call) cache.old.pairs cache.new.pairs }
+    ensures memo { RemembersReplaced dd.new.nodes images.now.map.now images.now.number cache.new.pairs }
+    ensures others { AddsPairs (MayAdd images.now.number) cache.old.pairs cache.new.pairs }
     ensures adds { AddsParts dd.old.vars (pieces_of_subst dd.old.vars dd.old.nodes
         images.now.map.now f.0) dd.old.nodes dd.new.nodes }
     ensures only_full { IfErr result (λ e. e ≡ DdErr.Full) }
@@ -87,14 +81,15 @@ fn replace(
     };
     let image = images.get(node.var);
     if let Some(child) = follow(node, image) {
-        return replace(dd, cache, call, child, images);
+        return replace(dd, cache, child, images);
     }
-    if let Some(r) = recall_replaced(cache, call, f) {
+    if let Some(r) = recall_replaced(cache, images.number, f) {
         return Ok(r);
     }
-    let lo = replace(dd, cache, call, node.lo, images)?;
-    let hi = replace(dd, cache, call, node.hi, images)?;
-    remember_choice(dd, cache, call, images, f, node, lo, hi)
+    let lo = replace(dd, cache, node.lo, images)?;
+    let hi = replace(dd, cache, node.hi, images)?;
+    let own = OwnNode { number: f, node };
+    remember_choice(dd, cache, images, own, HalfAnswers { lo, hi })
 }
 
 /// The number of a node's function with each variable of `images` replaced, by those of the node's
@@ -102,34 +97,31 @@ fn replace(
 fn remember_choice(
     dd: &mut Dd,
     cache: &mut Cache,
-    call: u64,
     images: &Replacements,
-    f: Ref,
-    node: Node,
-    lo: Ref,
-    hi: Ref,
+    own: OwnNode,
+    answers: HalfAnswers,
 ) -> Result<Ref, DdErr>
     requires table { IsNodeTable dd.old }
-    requires node { node_at dd.old.nodes f.0 ≡ Some node }
+    requires node { node_at dd.old.nodes own.number.0 ≡ Some own.node }
     requires images { IsIndexed dd.old.nodes images.now.map.now images.now.by_var images.now.end }
-    requires lo { IsReplaced dd.old.nodes images.now.map.now node.lo.0 lo.0 }
-    requires hi { IsReplaced dd.old.nodes images.now.map.now node.hi.0 hi.0 }
+    requires lo { IsReplaced dd.old.nodes images.now.map.now own.node.lo.0 answers.lo.0 }
+    requires hi { IsReplaced dd.old.nodes images.now.map.now own.node.hi.0 answers.hi.0 }
     requires questions { Remembers dd.old.nodes cache.old.pairs }
-    requires memo { RemembersReplaced dd.old.nodes images.now.map.now call cache.old.pairs }
-    ensures answer { IfOk result (λ r. IsReplaced dd.new.nodes images.now.map.now f.0 r.0) }
+    requires memo { RemembersReplaced dd.old.nodes images.now.map.now images.now.number cache.old.pairs }
+    ensures answer { IfOk result (λ r. IsReplaced dd.new.nodes images.now.map.now own.number.0 r.0) }
     ensures kept { Keeps dd.old dd.new }
     ensures table { IsNodeTable dd.new }
     ensures questions { Remembers dd.new.nodes cache.new.pairs }
-    ensures memo { RemembersReplaced dd.new.nodes images.now.map.now call cache.new.pairs }
-    ensures others { AddsPairs (MayAdd call) cache.old.pairs cache.new.pairs }
+    ensures memo { RemembersReplaced dd.new.nodes images.now.map.now images.now.number cache.new.pairs }
+    ensures others { AddsPairs (MayAdd images.now.number) cache.old.pairs cache.new.pairs }
     ensures adds { AddsParts dd.old.vars (pieces_of_subst dd.old.vars dd.old.nodes
-        images.now.map.now f.0) dd.old.nodes dd.new.nodes }
+        images.now.map.now own.number.0) dd.old.nodes dd.new.nodes }
     ensures only_full { IfErr result (λ e. e ≡ DdErr.Full) }
     ensures full { IsErrOf result DdErr.Full → IsFullFor
-        (pieces_of_subst dd.old.vars dd.old.nodes images.now.map.now f.0) dd.new }
+        (pieces_of_subst dd.old.vars dd.old.nodes images.now.map.now own.number.0) dd.new }
 {
-    let r = choose(dd, cache, images, f, node, lo, hi)?;
-    remember_replaced(cache, call, f, r);
+    let r = choose(dd, cache, images, own, answers)?;
+    remember_replaced(cache, images.number, own.number, r);
     Ok(r)
 }
 
@@ -163,48 +155,46 @@ fn choose(
     dd: &mut Dd,
     cache: &mut Cache,
     images: &Replacements,
-    f: Ref,
-    node: Node,
-    lo: Ref,
-    hi: Ref,
+    own: OwnNode,
+    answers: HalfAnswers,
 ) -> Result<Ref, DdErr>
     requires table { IsNodeTable dd.old }
-    requires node { node_at dd.old.nodes f.0 ≡ Some node }
+    requires node { node_at dd.old.nodes own.number.0 ≡ Some own.node }
     requires images { IsIndexed dd.old.nodes images.now.map.now images.now.by_var images.now.end }
-    requires lo { IsReplaced dd.old.nodes images.now.map.now node.lo.0 lo.0 }
-    requires hi { IsReplaced dd.old.nodes images.now.map.now node.hi.0 hi.0 }
+    requires lo { IsReplaced dd.old.nodes images.now.map.now own.node.lo.0 answers.lo.0 }
+    requires hi { IsReplaced dd.old.nodes images.now.map.now own.node.hi.0 answers.hi.0 }
     requires questions { Remembers dd.old.nodes cache.old.pairs }
-    ensures answer { IfOk result (λ r. IsReplaced dd.new.nodes images.now.map.now f.0 r.0) }
+    ensures answer { IfOk result (λ r. IsReplaced dd.new.nodes images.now.map.now own.number.0 r.0) }
     ensures kept { Keeps dd.old dd.new }
     ensures table { IsNodeTable dd.new }
     ensures questions { Remembers dd.new.nodes cache.new.pairs }
     ensures others { AddsPairs IsQuestion cache.old.pairs cache.new.pairs }
     ensures adds { AddsParts dd.old.vars (pieces_of_subst dd.old.vars dd.old.nodes
-        images.now.map.now f.0) dd.old.nodes dd.new.nodes }
+        images.now.map.now own.number.0) dd.old.nodes dd.new.nodes }
     ensures only_full { IfErr result (λ e. e ≡ DdErr.Full) }
     ensures full { IsErrOf result DdErr.Full → IsFullFor
-        (pieces_of_subst dd.old.vars dd.old.nodes images.now.map.now f.0) dd.new }
+        (pieces_of_subst dd.old.vars dd.old.nodes images.now.map.now own.number.0) dd.new }
 {
-    match variable_above(dd, images, node.var, lo, hi) {
-        Some(var) => join_replaced(dd, images, f, node, var, lo, hi),
-        None => ask_image(dd, cache, images, f, node, lo, hi),
+    match variable_above(dd, images, own.node.var, answers) {
+        Some(var) => join_replaced(dd, images, own, var, answers),
+        None => ask_image(dd, cache, images, own, answers),
     }
 }
 
 /// The variable whose value replaces a variable, where two numbers stand below it.
-fn variable_above(dd: &Dd, images: &Replacements, var: u32, lo: Ref, hi: Ref) -> Option<u32>
+fn variable_above(dd: &Dd, images: &Replacements, var: u32, answers: HalfAnswers) -> Option<u32>
     requires in_range { var < dd.now.vars }
     requires images { IsIndexed dd.now.nodes images.now.map.now images.now.by_var images.now.end }
-    requires lo { IsNumber dd.now.nodes lo.0 }
-    requires hi { IsNumber dd.now.nodes hi.0 }
+    requires lo { IsNumber dd.now.nodes answers.lo.0 }
+    requires hi { IsNumber dd.now.nodes answers.hi.0 }
     ensures in_range { IfSome result (λ w. w < dd.now.vars) }
     ensures value { IfSome result (λ w. (values : Values)
         → values w ≡ replaced dd.now.nodes images.now.map.now values var) }
-    ensures lo { IfSome result (λ w. StandsBelow dd.now.nodes w lo.0) }
-    ensures hi { IfSome result (λ w. StandsBelow dd.now.nodes w hi.0) }
+    ensures lo { IfSome result (λ w. StandsBelow dd.now.nodes w answers.lo.0) }
+    ensures hi { IfSome result (λ w. StandsBelow dd.now.nodes w answers.hi.0) }
 {
     match variable_for(dd, images, var) {
-        Some(w) if w < level(dd, lo) && w < level(dd, hi) => Some(w),
+        Some(w) if w < level(dd, answers.lo) && w < level(dd, answers.hi) => Some(w),
         _ => None,
     }
 }
@@ -228,32 +218,35 @@ fn variable_for(dd: &Dd, images: &Replacements, var: u32) -> Option<u32>
 fn join_replaced(
     dd: &mut Dd,
     images: &Replacements,
-    f: Ref,
-    node: Node,
+    own: OwnNode,
     var: u32,
-    lo: Ref,
-    hi: Ref,
+    answers: HalfAnswers,
 ) -> Result<Ref, DdErr>
     requires table { IsNodeTable dd.old }
-    requires node { node_at dd.old.nodes f.0 ≡ Some node }
+    requires node { node_at dd.old.nodes own.number.0 ≡ Some own.node }
     requires images { IsIndexed dd.old.nodes images.now.map.now images.now.by_var images.now.end }
-    requires lo { IsReplaced dd.old.nodes images.now.map.now node.lo.0 lo.0 }
-    requires hi { IsReplaced dd.old.nodes images.now.map.now node.hi.0 hi.0 }
+    requires lo { IsReplaced dd.old.nodes images.now.map.now own.node.lo.0 answers.lo.0 }
+    requires hi { IsReplaced dd.old.nodes images.now.map.now own.node.hi.0 answers.hi.0 }
     requires in_range { var < dd.old.vars }
     requires value { (values : Values) → values var
-        ≡ replaced dd.old.nodes images.now.map.now values node.var }
-    requires lo_below { StandsBelow dd.old.nodes var lo.0 }
-    requires hi_below { StandsBelow dd.old.nodes var hi.0 }
-    ensures answer { IfOk result (λ r. IsReplaced dd.new.nodes images.now.map.now f.0 r.0) }
+        ≡ replaced dd.old.nodes images.now.map.now values own.node.var }
+    requires lo_below { StandsBelow dd.old.nodes var answers.lo.0 }
+    requires hi_below { StandsBelow dd.old.nodes var answers.hi.0 }
+    ensures answer { IfOk result (λ r. IsReplaced dd.new.nodes images.now.map.now own.number.0 r.0) }
     ensures kept { Keeps dd.old dd.new }
     ensures table { IsNodeTable dd.new }
     ensures adds { AddsParts dd.old.vars (pieces_of_subst dd.old.vars dd.old.nodes
-        images.now.map.now f.0) dd.old.nodes dd.new.nodes }
+        images.now.map.now own.number.0) dd.old.nodes dd.new.nodes }
     ensures only_full { IfErr result (λ e. e ≡ DdErr.Full) }
     ensures full { IsErrOf result DdErr.Full → IsFullFor
-        (pieces_of_subst dd.old.vars dd.old.nodes images.now.map.now f.0) dd.new }
+        (pieces_of_subst dd.old.vars dd.old.nodes images.now.map.now own.number.0) dd.new }
 {
-    make(dd, f, node, var, lo, hi)
+    let wanted = Node {
+        var,
+        lo: answers.lo,
+        hi: answers.hi,
+    };
+    make(dd, own, wanted)
 }
 
 /// The answer to the question of a node's image between the children's numbers.
@@ -261,36 +254,34 @@ fn ask_image(
     dd: &mut Dd,
     cache: &mut Cache,
     images: &Replacements,
-    f: Ref,
-    node: Node,
-    lo: Ref,
-    hi: Ref,
+    own: OwnNode,
+    answers: HalfAnswers,
 ) -> Result<Ref, DdErr>
     requires table { IsNodeTable dd.old }
-    requires node { node_at dd.old.nodes f.0 ≡ Some node }
+    requires node { node_at dd.old.nodes own.number.0 ≡ Some own.node }
     requires images { IsIndexed dd.old.nodes images.now.map.now images.now.by_var images.now.end }
-    requires lo { IsReplaced dd.old.nodes images.now.map.now node.lo.0 lo.0 }
-    requires hi { IsReplaced dd.old.nodes images.now.map.now node.hi.0 hi.0 }
+    requires lo { IsReplaced dd.old.nodes images.now.map.now own.node.lo.0 answers.lo.0 }
+    requires hi { IsReplaced dd.old.nodes images.now.map.now own.node.hi.0 answers.hi.0 }
     requires questions { Remembers dd.old.nodes cache.old.pairs }
-    ensures answer { IfOk result (λ r. IsReplaced dd.new.nodes images.now.map.now f.0 r.0) }
+    ensures answer { IfOk result (λ r. IsReplaced dd.new.nodes images.now.map.now own.number.0 r.0) }
     ensures kept { Keeps dd.old dd.new }
     ensures table { IsNodeTable dd.new }
     ensures questions { Remembers dd.new.nodes cache.new.pairs }
     ensures others { AddsPairs IsQuestion cache.old.pairs cache.new.pairs }
     ensures adds { AddsParts dd.old.vars (pieces_of_subst dd.old.vars dd.old.nodes
-        images.now.map.now f.0) dd.old.nodes dd.new.nodes }
+        images.now.map.now own.number.0) dd.old.nodes dd.new.nodes }
     ensures only_full { IfErr result (λ e. e ≡ DdErr.Full) }
     ensures full { IsErrOf result DdErr.Full → IsFullFor
-        (pieces_of_subst dd.old.vars dd.old.nodes images.now.map.now f.0) dd.new }
+        (pieces_of_subst dd.old.vars dd.old.nodes images.now.map.now own.number.0) dd.new }
 {
-    let test = image(dd, images, node.var)?;
+    let test = image(dd, images, own.node.var)?;
     answer(
         dd,
         cache,
         Question {
             f: test,
-            g: hi,
-            h: lo,
+            g: answers.hi,
+            h: answers.lo,
         },
     )
 }

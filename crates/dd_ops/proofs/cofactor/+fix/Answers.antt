@@ -50,31 +50,31 @@ join_fixed-requires-clause-node t c =
 
 pub join_fixed-requires-clause-lo : goal.join_fixed-requires-clause-lo
 join_fixed-requires-clause-lo t c =
-    cofactor_extends c.fix.new.dd.nodes c.fix-2.new.dd.nodes c.in_ok-hi.ensures.kept.nodes c.fix.new.dd.vars c.in_ok-lo.ensures.table.reduced c.args.v c.args.value
+    cofactor_extends c.fix.new.dd.nodes c.fix-2.new.dd.nodes c.in_ok-hi.ensures.kept.nodes c.fix.new.dd.vars c.in_ok-lo.ensures.table.reduced c.args.fixed.var c.args.fixed.value
     c.in-Some.node.lo.0 c.in_ok-lo.lo.0 c.in_ok-lo.ensures.answer
 
 pub returns-in_err-lo-clause-adds : goal.returns-in_err-lo-clause-adds
-returns-in_err-lo-clause-adds t c = fixed_lo_adds c.args.dd.now c.requires.table c.args.f.0 c.in-Some.node (sym c.in-Some.ensures.node) c.args.v c.args.value c.if-node-v.true
+returns-in_err-lo-clause-adds t c = fixed_lo_adds c.args.dd.now c.requires.table c.args.f.0 c.in-Some.node (sym c.in-Some.ensures.node) c.args.fixed.var c.args.fixed.value c.if-node-fixed.true
     c.fix.new.dd c.fix.ensures.kept c.fix.ensures.adds
 
 pub returns-in_err-lo-clause-full : goal.returns-in_err-lo-clause-full
-returns-in_err-lo-clause-full t c is = fixed_lo_full c.args.dd.now c.requires.table c.args.f.0 c.in-Some.node (sym c.in-Some.ensures.node) c.args.v c.args.value c.if-node-v.true
+returns-in_err-lo-clause-full t c is = fixed_lo_full c.args.dd.now c.requires.table c.args.f.0 c.in-Some.node (sym c.in-Some.ensures.node) c.args.fixed.var c.args.fixed.value c.if-node-fixed.true
     c.fix.new.dd c.fix.ensures.kept (c.in_err-lo.ensures.full (passed_on c.from_residual.result c.in_err-lo.field-0.0 Full c.from_residual.ensures.1 is))
 
 pub returns-in_err-hi-clause-adds : goal.returns-in_err-hi-clause-adds
-returns-in_err-hi-clause-adds t c = fixed_hi_adds c.args.dd.now c.requires.table c.args.f.0 c.in-Some.node (sym c.in-Some.ensures.node) c.args.v c.args.value c.if-node-v.true
+returns-in_err-hi-clause-adds t c = fixed_hi_adds c.args.dd.now c.requires.table c.args.f.0 c.in-Some.node (sym c.in-Some.ensures.node) c.args.fixed.var c.args.fixed.value c.if-node-fixed.true
     c.fix.new.dd c.fix.ensures.kept c.fix.ensures.adds c.fix-2.new.dd c.fix-2.ensures.kept c.fix-2.ensures.adds
 
 pub returns-in_err-hi-clause-full : goal.returns-in_err-hi-clause-full
-returns-in_err-hi-clause-full t c is = fixed_hi_full c.args.dd.now c.requires.table c.args.f.0 c.in-Some.node (sym c.in-Some.ensures.node) c.args.v c.args.value c.if-node-v.true
+returns-in_err-hi-clause-full t c is = fixed_hi_full c.args.dd.now c.requires.table c.args.f.0 c.in-Some.node (sym c.in-Some.ensures.node) c.args.fixed.var c.args.fixed.value c.if-node-fixed.true
     c.fix.new.dd c.fix.ensures.kept c.fix.ensures.adds c.fix-2.new.dd c.fix-2.ensures.kept (c.in_err-hi.ensures.full (passed_on c.from_residual-in_err-hi.result c.in_err-hi.field-0.0 Full c.from_residual-in_err-hi.ensures.1 is))
 
 pub returns-clause-adds : goal.returns-clause-adds
-returns-clause-adds t c = fixed_rest_adds c.args.dd.now c.requires.table c.args.f.0 c.in-Some.node (sym c.in-Some.ensures.node) c.args.v c.args.value c.if-node-v.true
+returns-clause-adds t c = fixed_rest_adds c.args.dd.now c.requires.table c.args.f.0 c.in-Some.node (sym c.in-Some.ensures.node) c.args.fixed.var c.args.fixed.value c.if-node-fixed.true
     c.fix.new.dd c.fix.ensures.kept c.fix.ensures.adds c.fix-2.new.dd c.fix-2.ensures.kept c.fix-2.ensures.adds c.join_fixed.new.dd c.join_fixed.ensures.adds
 
 pub returns-clause-full : goal.returns-clause-full
-returns-clause-full t c is = fixed_rest_full c.args.dd.now c.requires.table c.args.f.0 c.in-Some.node (sym c.in-Some.ensures.node) c.args.v c.args.value c.if-node-v.true
+returns-clause-full t c is = fixed_rest_full c.args.dd.now c.requires.table c.args.f.0 c.in-Some.node (sym c.in-Some.ensures.node) c.args.fixed.var c.args.fixed.value c.if-node-fixed.true
     c.fix.new.dd c.fix.ensures.kept c.fix.ensures.adds c.fix-2.new.dd c.fix-2.ensures.kept c.fix-2.ensures.adds c.join_fixed.new.dd (c.join_fixed.ensures.full is)
 
 pub returns-in_err-hi-clause-kept : goal.returns-in_err-hi-clause-kept

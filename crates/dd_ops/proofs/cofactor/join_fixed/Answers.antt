@@ -10,10 +10,10 @@ use Rattle.dd_ops.proofs.GrowthFixed.{fixed_join_adds, fixed_join_full}
 use Rattle.dd_ops.proofs.cofactor.join_fixed.Goals as goal
 
 pub make-requires-clause-lo_below : goal.make-requires-clause-lo_below
-make-requires-clause-lo_below c = lo_stays_below c.args.dd.now.vars c.args.dd.now.nodes c.requires.table.reduced c.args.f.0 c.args.node c.requires.node c.args.v c.args.value c.requires.before c.args.lo.0 c.args.hi.0 c.requires.lo c.requires.hi
+make-requires-clause-lo_below c = lo_stays_below c.args.dd.now.vars c.args.dd.now.nodes c.requires.table.reduced c.args.own.number.0 c.args.own.node c.requires.node c.args.fixed.var c.args.fixed.value c.requires.before c.args.answers.lo.0 c.args.answers.hi.0 c.requires.lo c.requires.hi
 
 pub make-requires-clause-hi_below : goal.make-requires-clause-hi_below
-make-requires-clause-hi_below c = hi_stays_below c.args.dd.now.vars c.args.dd.now.nodes c.requires.table.reduced c.args.f.0 c.args.node c.requires.node c.args.v c.args.value c.requires.before c.args.lo.0 c.args.hi.0 c.requires.lo c.requires.hi
+make-requires-clause-hi_below c = hi_stays_below c.args.dd.now.vars c.args.dd.now.nodes c.requires.table.reduced c.args.own.number.0 c.args.own.node c.requires.node c.args.fixed.var c.args.fixed.value c.requires.before c.args.answers.lo.0 c.args.answers.hi.0 c.requires.lo c.requires.hi
 
 pub returns-in_err-r-clause-memo : goal.returns-in_err-r-clause-memo
 returns-in_err-r-clause-memo c = subst (λ (t : NodeTable). RemembersCofactors t.nodes c.args.cache.now.pairs) (sym c.in_err-r.ensures.refused) c.requires.memo
@@ -23,7 +23,7 @@ returns-in_err-r-clause-others c = same_pairs c.args.cache.now.pairs c.args.cach
 
 pub returns-clause-answer : goal.returns-clause-answer
 returns-clause-answer c =
-    cofactor_joined c.args.dd.now.vars c.args.dd.now.nodes c.requires.table.reduced c.args.f.0 c.args.node c.requires.node c.args.v c.args.value c.requires.before c.args.lo.0 c.args.hi.0 c.requires.lo c.requires.hi
+    cofactor_joined c.args.dd.now.vars c.args.dd.now.nodes c.requires.table.reduced c.args.own.number.0 c.args.own.node c.requires.node c.args.fixed.var c.args.fixed.value c.requires.before c.args.answers.lo.0 c.args.answers.hi.0 c.requires.lo c.requires.hi
     c.make.new.dd.nodes c.in_ok-r.r.0 c.make.ensures.extends c.in_ok-r.ensures.function c.in_ok-r.ensures.in_table c.in_ok-r.ensures.from_var
 
 pub returns-clause-memo : goal.returns-clause-memo
@@ -35,10 +35,10 @@ returns-clause-memo c =
 pub returns-in_err-r-clause-full : goal.returns-in_err-r-clause-full
 returns-in_err-r-clause-full c is =
     let facts = c.in_err-r.ensures.full (passed_on c.from_residual.result c.in_err-r.field-0.0 Full c.from_residual.ensures.1 is) in
-    fixed_join_full c.args.dd.now c.requires.table c.args.f.0 c.args.node c.requires.node c.args.v c.args.value c.requires.before c.args.lo c.args.hi c.requires.lo c.requires.hi c.make.new.dd
+    fixed_join_full c.args.dd.now c.requires.table c.args.own.number.0 c.args.own.node c.requires.node c.args.fixed.var c.args.fixed.value c.requires.before c.args.answers.lo c.args.answers.hi c.requires.lo c.requires.hi c.make.new.dd
     facts.0 facts.1 facts.2 c.in_err-r.ensures.refused
 
 pub returns-clause-adds : goal.returns-clause-adds
 returns-clause-adds c =
-    fixed_join_adds c.args.dd.now c.requires.table c.args.f.0 c.args.node c.requires.node c.args.v c.args.value c.requires.before c.args.lo c.args.hi c.requires.lo c.requires.hi c.make.new.dd
+    fixed_join_adds c.args.dd.now c.requires.table c.args.own.number.0 c.args.own.node c.requires.node c.args.fixed.var c.args.fixed.value c.requires.before c.args.answers.lo c.args.answers.hi c.requires.lo c.requires.hi c.make.new.dd
     c.make.ensures.table c.make.ensures.vars c.make.result c.make.ensures.cases c.make.ensures.function c.make.ensures.refused

@@ -8,21 +8,21 @@ use Rattle.dd_ops.proofs.ite.operand_or_node.Goals as goal
 
 pub returns-in-Some-clause-answer : goal.returns-in-Some-clause-answer
 returns-in-Some-clause-answer c =
-    operand_answer c.args.dd.now c.requires.table c.args.q c.requires.asked c.args.halves c.args.lo c.args.hi
+    operand_answer c.args.dd.now c.requires.table c.args.q c.requires.asked c.args.halves c.args.answers.lo c.args.answers.hi
     c.requires.halves c.requires.answers c.in-Some.r c.in-Some.ensures
 
 pub returns-in-None-clause-answer : goal.returns-in-None-clause-answer
 returns-in-None-clause-answer c =
-    node_answer c.args.dd.now c.requires.table c.args.q c.requires.asked c.args.halves.var c.args.lo.0 c.args.hi.0 c.requires.answers
+    node_answer c.args.dd.now c.requires.table c.args.q c.requires.asked c.args.halves.var c.args.answers.lo.0 c.args.answers.hi.0 c.requires.answers
     c.mk.new.self.nodes c.mk.ensures.extends c.mk.result c.mk.ensures.function c.mk.ensures.in_table c.mk.ensures.from_var
 
 pub returns-in-None-clause-adds : goal.returns-in-None-clause-adds
 returns-in-None-clause-adds c =
-    adds_join c.args.dd.now c.requires.table c.args.q c.args.halves.var c.args.lo c.args.hi c.requires.answers c.mk.new.self
+    adds_join c.args.dd.now c.requires.table c.args.q c.args.halves.var c.args.answers.lo c.args.answers.hi c.requires.answers c.mk.new.self
     c.mk.ensures.table c.mk.ensures.vars c.mk.result c.mk.ensures.cases c.mk.ensures.function c.mk.ensures.refused
 
 pub returns-in-None-clause-full : goal.returns-in-None-clause-full
 returns-in-None-clause-full c is =
     let facts = c.mk.ensures.full.0 is in
-    full_join c.args.dd.now c.requires.table c.args.q c.args.halves.var c.args.lo c.args.hi c.requires.answers c.mk.new.self
+    full_join c.args.dd.now c.requires.table c.args.q c.args.halves.var c.args.answers.lo c.args.answers.hi c.requires.answers c.mk.new.self
     facts.0 facts.1 facts.2 (refused_same c.mk.result Full is c.mk.ensures.refused)

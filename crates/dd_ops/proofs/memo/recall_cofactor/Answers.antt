@@ -6,4 +6,4 @@ use Rattle.dd_ops.proofs.memo.recall_cofactor.Goals as goal
 
 pub returns-clause-answer : goal.returns-clause-answer
 returns-clause-answer c = IfSome_then c.recall.result c.recall.ensures.found
-    (λ r has nodes remembers. remembers c.args.f.0 c.args.v c.args.value r.0 (subst (λ (k : Key). Contains c.args.cache.now.pairs (k, r.0)) c.cofactor_key.ensures has))
+    (λ r has nodes remembers. remembers c.args.f.0 c.args.fixed.var c.args.fixed.value r.0 (subst (λ (k : Key). Contains c.args.cache.now.pairs (k, r.0)) c.cofactor_key.ensures has))

@@ -6,7 +6,7 @@ use Rattle.dd_ops.proofs.CachedLemmas.{cofactor_added, pair_of_kind}
 use Rattle.dd_ops.proofs.memo.remember_cofactor.Goals as goal
 
 pub returns-clause-kept : goal.returns-clause-kept
-returns-clause-kept c nodes old new = cofactor_added c.args.cache.now.pairs c.remember.new.cache.pairs nodes c.args.f.0 c.args.v c.args.value c.args.r.0
+returns-clause-kept c nodes old new = cofactor_added c.args.cache.now.pairs c.remember.new.cache.pairs nodes c.args.f.0 c.args.fixed.var c.args.fixed.value c.args.r.0
     (subst (λ (k : Key). AddsPair k c.args.r.0 c.args.cache.now.pairs c.remember.new.cache.pairs) c.cofactor_key.ensures c.remember.ensures) old new
 
 pub returns-clause-others : goal.returns-clause-others

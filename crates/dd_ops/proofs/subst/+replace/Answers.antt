@@ -37,7 +37,7 @@ remember_choice-requires-clause-images t c =
     c.args.dd.now.vars c.requires.table.reduced c.args.images.now.map.now c.args.images.now.by_var c.args.images.now.end c.requires.images
 
 pub returns-in-Some-recall_replaced-clause-others : goal.returns-in-Some-recall_replaced-clause-others
-returns-in-Some-recall_replaced-clause-others t c = same_pairs c.args.cache.now.pairs c.recall_replaced.new.cache.pairs (MayAdd c.args.call) c.recall_replaced.ensures.same
+returns-in-Some-recall_replaced-clause-others t c = same_pairs c.args.cache.now.pairs c.recall_replaced.new.cache.pairs (MayAdd c.args.images.now.number) c.recall_replaced.ensures.same
 
 pub returns-in-Some-recall_replaced-clause-answer : goal.returns-in-Some-recall_replaced-clause-answer
 returns-in-Some-recall_replaced-clause-answer t c = c.in-Some-recall_replaced.ensures.answer c.args.dd.now.nodes c.args.images.now.map.now c.requires.memo
@@ -46,7 +46,7 @@ pub returns-in-Some-recall_replaced-clause-questions : goal.returns-in-Some-reca
 returns-in-Some-recall_replaced-clause-questions t c = subst (Remembers c.args.dd.now.nodes) (sym c.recall_replaced.ensures.same) c.requires.questions
 
 pub returns-in-Some-recall_replaced-clause-memo : goal.returns-in-Some-recall_replaced-clause-memo
-returns-in-Some-recall_replaced-clause-memo t c = subst (RemembersReplaced c.args.dd.now.nodes c.args.images.now.map.now c.args.call) (sym c.recall_replaced.ensures.same) c.requires.memo
+returns-in-Some-recall_replaced-clause-memo t c = subst (RemembersReplaced c.args.dd.now.nodes c.args.images.now.map.now c.args.images.now.number) (sym c.recall_replaced.ensures.same) c.requires.memo
 
 pub replace-requires-2 : goal.replace-requires-2
 replace-requires-2 t c =
@@ -64,7 +64,7 @@ replace-requires-2 t c =
             c.requires.images,
             (
               subst (Remembers dd.nodes) (sym c.recall_replaced.ensures.same) c.requires.questions,
-              subst (RemembersReplaced dd.nodes c.args.images.now.map.now c.args.call) (sym c.recall_replaced.ensures.same) c.requires.memo,
+              subst (RemembersReplaced dd.nodes c.args.images.now.map.now c.args.images.now.number) (sym c.recall_replaced.ensures.same) c.requires.memo,
             ),
           ),
         ),
@@ -132,22 +132,22 @@ returns-clause-kept t c = keeps_more c.args.dd.now c.replace-2.new.dd c.remember
     (keeps_more c.replace-2.new.dd c.replace-3.new.dd c.remember_choice.new.dd c.replace-3.ensures.kept c.remember_choice.ensures.kept)
 
 pub returns-in_default-clause-others : goal.returns-in_default-clause-others
-returns-in_default-clause-others t c = same_pairs c.args.cache.now.pairs c.args.cache.now.pairs (MayAdd c.args.call) refl
+returns-in_default-clause-others t c = same_pairs c.args.cache.now.pairs c.args.cache.now.pairs (MayAdd c.args.images.now.number) refl
 
 pub returns-in_err-lo-clause-others : goal.returns-in_err-lo-clause-others
 returns-in_err-lo-clause-others t c =
-    adds_more (MayAdd c.args.call) c.args.cache.now.pairs c.recall_replaced.new.cache.pairs c.replace-2.new.cache.pairs
-    (same_pairs c.args.cache.now.pairs c.recall_replaced.new.cache.pairs (MayAdd c.args.call) c.recall_replaced.ensures.same) c.replace-2.ensures.others
+    adds_more (MayAdd c.args.images.now.number) c.args.cache.now.pairs c.recall_replaced.new.cache.pairs c.replace-2.new.cache.pairs
+    (same_pairs c.args.cache.now.pairs c.recall_replaced.new.cache.pairs (MayAdd c.args.images.now.number) c.recall_replaced.ensures.same) c.replace-2.ensures.others
 
 pub returns-in_err-hi-clause-others : goal.returns-in_err-hi-clause-others
 returns-in_err-hi-clause-others t c =
-    adds_more (MayAdd c.args.call) c.args.cache.now.pairs c.recall_replaced.new.cache.pairs c.replace-3.new.cache.pairs
-    (same_pairs c.args.cache.now.pairs c.recall_replaced.new.cache.pairs (MayAdd c.args.call) c.recall_replaced.ensures.same)
-    (adds_more (MayAdd c.args.call) c.recall_replaced.new.cache.pairs c.replace-2.new.cache.pairs c.replace-3.new.cache.pairs c.replace-2.ensures.others c.replace-3.ensures.others)
+    adds_more (MayAdd c.args.images.now.number) c.args.cache.now.pairs c.recall_replaced.new.cache.pairs c.replace-3.new.cache.pairs
+    (same_pairs c.args.cache.now.pairs c.recall_replaced.new.cache.pairs (MayAdd c.args.images.now.number) c.recall_replaced.ensures.same)
+    (adds_more (MayAdd c.args.images.now.number) c.recall_replaced.new.cache.pairs c.replace-2.new.cache.pairs c.replace-3.new.cache.pairs c.replace-2.ensures.others c.replace-3.ensures.others)
 
 pub returns-clause-others : goal.returns-clause-others
 returns-clause-others t c =
-    adds_more (MayAdd c.args.call) c.args.cache.now.pairs c.recall_replaced.new.cache.pairs c.remember_choice.new.cache.pairs
-    (same_pairs c.args.cache.now.pairs c.recall_replaced.new.cache.pairs (MayAdd c.args.call) c.recall_replaced.ensures.same)
-    (adds_more (MayAdd c.args.call) c.recall_replaced.new.cache.pairs c.replace-2.new.cache.pairs c.remember_choice.new.cache.pairs c.replace-2.ensures.others
-    (adds_more (MayAdd c.args.call) c.replace-2.new.cache.pairs c.replace-3.new.cache.pairs c.remember_choice.new.cache.pairs c.replace-3.ensures.others c.remember_choice.ensures.others))
+    adds_more (MayAdd c.args.images.now.number) c.args.cache.now.pairs c.recall_replaced.new.cache.pairs c.remember_choice.new.cache.pairs
+    (same_pairs c.args.cache.now.pairs c.recall_replaced.new.cache.pairs (MayAdd c.args.images.now.number) c.recall_replaced.ensures.same)
+    (adds_more (MayAdd c.args.images.now.number) c.recall_replaced.new.cache.pairs c.replace-2.new.cache.pairs c.remember_choice.new.cache.pairs c.replace-2.ensures.others
+    (adds_more (MayAdd c.args.images.now.number) c.replace-2.new.cache.pairs c.replace-3.new.cache.pairs c.remember_choice.new.cache.pairs c.replace-3.ensures.others c.remember_choice.ensures.others))

@@ -3,7 +3,7 @@
 use Rattle.std.proofs.Common.{refl, ◌≤◌, List, ℕ, sym, subst}
 use Rattle.dd_nodes.specs.declared.node.Ref.{Ref}
 use Rattle.dd_ops.specs.Answers.{IsIndexed, StayFrom}
-use Rattle.dd_ops.specs.Cached.{MayAdd, Remembers, RemembersReplaced}
+use Rattle.dd_ops.specs.Cached.{AddsPairs, MayAdd, Remembers, RemembersReplaced}
 use Rattle.dd_cache.specs.declared.key.Key.{Key}
 use Rattle.dd_ops.proofs.CachedLemmas.{same_pairs, adds_more}
 use Rattle.dd_ops.proofs.QuestionLemmas.{from_level}
@@ -27,8 +27,9 @@ replace-requires-clause-images c = subst (λ (map : List (ℕ × Ref)). IsIndexe
     })
 
 pub replace-requires-clause-memo : goal.replace-requires-clause-memo
-replace-requires-clause-memo c = subst (λ (map : List (ℕ × Ref)). RemembersReplaced c.args.dd.now.nodes map c.args.call c.recall_replaced.new.cache.pairs) (sym c.new-images.ensures.map)
-    (subst (λ (pairs : List (Key × ℕ)). RemembersReplaced c.args.dd.now.nodes c.args.map.now c.args.call pairs) (sym c.recall_replaced.ensures.same) c.requires.memo)
+replace-requires-clause-memo c = subst (λ (number : ℕ). RemembersReplaced c.args.dd.now.nodes c.new-images.result.map.now number c.recall_replaced.new.cache.pairs) (sym c.new-images.ensures.number)
+    (subst (λ (map : List (ℕ × Ref)). RemembersReplaced c.args.dd.now.nodes map c.args.call c.recall_replaced.new.cache.pairs) (sym c.new-images.ensures.map)
+    (subst (λ (pairs : List (Key × ℕ)). RemembersReplaced c.args.dd.now.nodes c.args.map.now c.args.call pairs) (sym c.recall_replaced.ensures.same) c.requires.memo))
 
 pub replace-requires-clause-questions : goal.replace-requires-clause-questions
 replace-requires-clause-questions c = subst (λ (pairs : List (Key × ℕ)). Remembers c.args.dd.now.nodes pairs) (sym c.recall_replaced.ensures.same) c.requires.questions
@@ -43,9 +44,11 @@ pub returns-in-Some-clause-memo : goal.returns-in-Some-clause-memo
 returns-in-Some-clause-memo c = subst (λ (pairs : List (Key × ℕ)). RemembersReplaced c.args.dd.now.nodes c.args.map.now c.args.call pairs) (sym c.recall_replaced.ensures.same) c.requires.memo
 
 pub returns-clause-memo : goal.returns-clause-memo
-returns-clause-memo c = subst (λ (map : List (ℕ × Ref)). RemembersReplaced c.replace.new.dd.nodes map c.args.call c.replace.new.cache.pairs) c.new-images.ensures.map c.replace.ensures.memo
+returns-clause-memo c = subst (λ (map : List (ℕ × Ref)). RemembersReplaced c.replace.new.dd.nodes map c.args.call c.replace.new.cache.pairs) c.new-images.ensures.map
+    (subst (λ (number : ℕ). RemembersReplaced c.replace.new.dd.nodes c.new-images.result.map.now number c.replace.new.cache.pairs) c.new-images.ensures.number c.replace.ensures.memo)
 
 pub returns-clause-others : goal.returns-clause-others
 returns-clause-others c =
     adds_more (MayAdd c.args.call) c.args.cache.now.pairs c.recall_replaced.new.cache.pairs c.replace.new.cache.pairs
-    (same_pairs c.args.cache.now.pairs c.recall_replaced.new.cache.pairs (MayAdd c.args.call) c.recall_replaced.ensures.same) c.replace.ensures.others
+    (same_pairs c.args.cache.now.pairs c.recall_replaced.new.cache.pairs (MayAdd c.args.call) c.recall_replaced.ensures.same)
+    (subst (λ (number : ℕ). AddsPairs (MayAdd number) c.recall_replaced.new.cache.pairs c.replace.new.cache.pairs) c.new-images.ensures.number c.replace.ensures.others)

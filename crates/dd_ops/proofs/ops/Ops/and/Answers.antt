@@ -1,10 +1,44 @@
--- The operation is an if-then-else with constants, which may follow other calls.
-use Rattle.std.proofs.Common.{rules}
-use Rattle.dd_ops.proofs.ValueLemmas.{answers_and, grows_and, ite_later}
+-- The answer of the pair, in the table as it was.
+use Rattle.std.proofs.Common.{List, [], ◌∷◌, arith, subst, sym}
+use Rattle.dd_nodes.specs.NodeList.{function}
+use Rattle.dd_nodes.specs.Subfunctions.{Function}
+use Rattle.dd_nodes.specs.Table.{NodeTable}
+use Rattle.dd_ops.specs.Answers.{IsAsked, asked_of}
+use Rattle.dd_ops.specs.Pairs.{meet_of}
+use Rattle.dd_ops.specs.declared.question.Question.{Question}
+use Rattle.dd_ops.proofs.CachedLemmas.{cache_after_answer}
+use Rattle.dd_ops.proofs.GrowthOps.{grows}
+use Rattle.dd_ops.proofs.ValueLemmas.{answer_function, answers, answers_and, grows_and, ok_then}
 use Rattle.dd_ops.proofs.ops.Ops.and.Goals as goal
 
+pub answer_meet-requires-clause-asked : goal.answer_meet-requires-clause-asked
+answer_meet-requires-clause-asked c =
+    let q : Question = meet_of (record { f = c.args.f; g = c.args.g }) in
+    let asked : IsAsked c.args.self.now.nodes q = record { f = c.requires.f_in_table; g = c.requires.g_in_table; h = omega arith } in
+    subst (λ (t : NodeTable). IsAsked t.nodes q) (sym c.self.view_is) asked
+
 pub returns-clause-answers : goal.returns-clause-answers
-returns-clause-answers c = search (rules, answers_and, ite_later)
+returns-clause-answers c =
+    let q : Question = meet_of (record { f = c.args.f; g = c.args.g }) in
+    let asked : IsAsked c.args.self.now.nodes q = record { f = c.requires.f_in_table; g = c.requires.g_in_table; h = omega arith } in
+    answers_and c.args.self.now c.answer_meet.new.dd c.answer_meet.result (function c.args.self.now.nodes c.args.f.0) (function c.args.self.now.nodes c.args.g.0)
+    (answers c.self.inside.dd c.args.self.now c.answer_meet.new.dd c.self.view_is c.self.invariant.table c.answer_meet.ensures.kept c.answer_meet.ensures.table (asked_of c.args.self.now.nodes q) c.answer_meet.result
+    (ok_then c.answer_meet.result c.answer_meet.ensures.answer
+    (λ r answer. answer_function c.self.inside.dd c.args.self.now c.answer_meet.new.dd c.self.view_is c.self.invariant.table c.answer_meet.ensures.kept q asked r.0 answer))
+    (ok_then c.answer_meet.result c.answer_meet.ensures.answer (λ r answer. answer.number))
+    c.answer_meet.ensures.only_full)
+
+-- the one piece of the call, over any table
+asked_pieces : Question → NodeTable → List Function
+asked_pieces q t = asked_of t.nodes q ∷ []
 
 pub returns-clause-grows : goal.returns-clause-grows
-returns-clause-grows c = search (rules, grows_and)
+unfolding asked_pieces
+returns-clause-grows c =
+    let q : Question = meet_of (record { f = c.args.f; g = c.args.g }) in
+    grows_and c.args.self.now c.answer_meet.new.dd c.answer_meet.result (function c.args.self.now.nodes c.args.f.0) (function c.args.self.now.nodes c.args.g.0)
+    (grows (asked_pieces q) c.self.inside.dd c.args.self.now c.answer_meet.new.dd c.self.view_is c.self.invariant.table c.answer_meet.ensures.adds c.answer_meet.result c.answer_meet.ensures.kept c.answer_meet.ensures.full)
+
+pub invariant_of-self : goal.invariant_of-self
+invariant_of-self c = cache_after_answer c.self.inside.dd c.answer_meet.new.dd c.answer_meet.ensures.kept c.self.invariant.table c.self.inside.known.places.items c.self.inside.known.entries.items c.self.inside.cache.pairs c.answer_meet.new.cache.pairs c.self.inside.next c.self.invariant
+    c.answer_meet.ensures.table c.answer_meet.ensures.memo c.answer_meet.ensures.others

@@ -1,0 +1,176 @@
+-- The halves have a greater top, and their answers are what `join_pair` requires.
+use Rattle.std.proofs.Common.{[], ◌∷◌, refl, sym, subst, true, false, ◌+◌, ◌*◌, ◌<◌, ◌≤◌, ◌-◌, arith}
+use Rattle.dd_nodes.specs.Subfunctions.{Function}
+use Rattle.dd_ops.specs.Answers.{top_of, IsAnswer, IsFullFor, IsRestated}
+use Rattle.dd_ops.specs.Cached.{Remembers, IsQuestion}
+use Rattle.dd_ops.specs.Growth.{AddsParts}
+use Rattle.dd_ops.specs.Pairs.{join_of}
+use Rattle.dd_ops.specs.declared.question.Question.{Question}
+use Rattle.dd_ops.proofs.CachedLemmas.{same_pairs, adds_more}
+use Rattle.dd_ops.proofs.PairLemmas.{asked_pair, pair_hi, pair_lo, pair_top}
+use Rattle.dd_ops.proofs.QuestionLemmas.{half_asked, asked_extends}
+use Rattle.dd_ops.proofs.Restated.{half_extends, restated_answer, restated_top}
+use Rattle.dd_ops.proofs.ValueLemmas.{ok_then}
+use Rattle.dd_ops.proofs.HalvesLemmas.{half_smaller, half_answers, keeps_more}
+use Rattle.dd_ops.proofs.GrowthHalves.{adds_lo, full_lo, adds_hi, full_hi, adds_rest, full_rest}
+use Rattle.dd_nodes.specs.declared.node.DdErr.TheVariants.{Full}
+use Rattle.dd_ops.proofs.ErrorLemmas.{passed_on}
+use Rattle.dd_ops.proofs.pairs.+joins.Goals as goal
+
+pub answer_join-open_join-requires : goal.answer_join-open_join-requires
+answer_join-open_join-requires t c =
+    let dd = c.args.dd.now in
+    let restated : IsRestated dd.nodes (join_of c.args.p) (join_of c.in_order.result) = c.in_order.ensures.same dd.nodes c.requires.asked in
+    let tests : 1 < (join_of c.in_order.result).f.0 = c.in_order.ensures.tests in
+    let greater : top_of dd.nodes (join_of c.args.p) ≤ top_of dd.nodes (join_of c.in_order.result) = restated_top dd c.requires.table (join_of c.args.p) (join_of c.in_order.result) restated in
+    let falls : 2 * (256 - top_of dd.nodes (join_of c.in_order.result)) < t = omega (arith, c.decreases) in
+    (falls, (c.requires.table, (restated.asked, (tests, c.requires.memo))))
+
+pub answer_join-returns-in-None-clause-answer : goal.answer_join-returns-in-None-clause-answer
+answer_join-returns-in-None-clause-answer t c = ok_then c.open_join.result c.open_join.ensures.answer
+    (λ r answer.
+    let later = c.open_join.new.dd.nodes in
+    let asked = asked_extends c.args.dd.now.nodes later c.open_join.ensures.kept.nodes (join_of c.args.p) c.requires.asked in
+    restated_answer later (join_of c.args.p) (join_of c.in_order.result) asked (c.in_order.ensures.same later asked) r.0 answer)
+
+pub open_join-answer_join-requires : goal.open_join-answer_join-requires
+open_join-answer_join-requires t c =
+    let dd = c.args.dd.now in
+    let smaller : 256 - top_of dd.nodes (join_of c.halve_pair-halves.result.lo) < 256 - top_of dd.nodes (join_of c.args.p) =
+    half_smaller dd c.requires.table (join_of c.args.p) c.requires.asked c.requires.tests c.halve_pair-halves.result.var (pair_top c.args.dd.now c.requires.table c.args.p c.halve_pair-halves.result.var c.halve_pair-halves.ensures.top 1) dd c.requires.table refl false (join_of c.halve_pair-halves.result.lo) (pair_lo c.args.dd.now.vars c.args.dd.now.nodes c.requires.table.reduced 1 c.args.p c.halve_pair-halves.result c.halve_pair-halves.ensures) in
+    let falls : 2 * (256 - top_of dd.nodes (join_of c.halve_pair-halves.result.lo)) + 1 < t = omega (arith, c.decreases) in
+    (falls, (c.requires.table, (half_asked dd.nodes c.halve_pair-halves.result.var false (join_of c.args.p) (join_of c.halve_pair-halves.result.lo) (pair_lo c.args.dd.now.vars c.args.dd.now.nodes c.requires.table.reduced 1 c.args.p c.halve_pair-halves.result c.halve_pair-halves.ensures), subst (Remembers dd.nodes) (sym c.recall_answer.ensures.same) c.requires.memo)))
+
+pub open_join-answer_join-requires-2 : goal.open_join-answer_join-requires-2
+open_join-answer_join-requires-2 t c =
+    let dd = c.args.dd.now in
+    let later = c.answer_join.new.dd in
+    let half = half_extends dd.nodes later.nodes c.in_ok-lo.ensures.kept.nodes dd.vars c.requires.table.reduced c.halve_pair-halves.result.var true (join_of c.args.p) (join_of c.halve_pair-halves.result.hi) c.requires.asked (pair_hi c.args.dd.now.vars c.args.dd.now.nodes c.requires.table.reduced 1 c.args.p c.halve_pair-halves.result c.halve_pair-halves.ensures) in
+    let smaller : 256 - top_of later.nodes (join_of c.halve_pair-halves.result.hi) < 256 - top_of dd.nodes (join_of c.args.p) =
+    half_smaller dd c.requires.table (join_of c.args.p) c.requires.asked c.requires.tests c.halve_pair-halves.result.var (pair_top c.args.dd.now c.requires.table c.args.p c.halve_pair-halves.result.var c.halve_pair-halves.ensures.top 1) later c.in_ok-lo.ensures.table c.in_ok-lo.ensures.kept.vars true (join_of c.halve_pair-halves.result.hi) half in
+    let falls : 2 * (256 - top_of later.nodes (join_of c.halve_pair-halves.result.hi)) + 1 < t = omega (arith, c.decreases) in
+    (falls, (c.in_ok-lo.ensures.table, (half_asked later.nodes c.halve_pair-halves.result.var true (join_of c.args.p) (join_of c.halve_pair-halves.result.hi) half, c.in_ok-lo.ensures.memo)))
+
+pub open_join-join_pair-requires-clause-answers : goal.open_join-join_pair-requires-clause-answers
+open_join-join_pair-requires-clause-answers t c =
+    half_answers c.args.dd.now c.answer_join.new.dd c.answer_join-2.new.dd (join_of c.args.p) (join_of c.halve_pair-halves.result.lo) (join_of c.halve_pair-halves.result.hi) c.halve_pair-halves.result.var c.in_ok-lo.lo.0 c.in_ok-hi.hi.0
+    (record {
+      table0 = c.requires.table;
+      asked = c.requires.asked;
+      tests = c.requires.tests;
+      top = (pair_top c.args.dd.now c.requires.table c.args.p c.halve_pair-halves.result.var c.halve_pair-halves.ensures.top 1);
+      half0 = (pair_lo c.args.dd.now.vars c.args.dd.now.nodes c.requires.table.reduced 1 c.args.p c.halve_pair-halves.result c.halve_pair-halves.ensures);
+      kept1 = c.in_ok-lo.ensures.kept;
+      table1 = c.in_ok-lo.ensures.table;
+      answer0 = c.in_ok-lo.ensures.answer;
+      half1 = (half_extends c.args.dd.now.nodes c.answer_join.new.dd.nodes c.answer_join.ensures.kept.nodes c.args.dd.now.vars c.requires.table.reduced c.halve_pair-halves.result.var true (join_of c.args.p) (join_of c.halve_pair-halves.result.hi) c.requires.asked (pair_hi c.args.dd.now.vars c.args.dd.now.nodes c.requires.table.reduced 1 c.args.p c.halve_pair-halves.result c.halve_pair-halves.ensures));
+      kept2 = c.in_ok-hi.ensures.kept;
+      table2 = c.in_ok-hi.ensures.table;
+      answer1 = c.in_ok-hi.ensures.answer;
+    })
+
+pub open_join-join_pair-requires-clause-halves : goal.open_join-join_pair-requires-clause-halves
+open_join-join_pair-requires-clause-halves t c =
+    let dd = c.args.dd.now in
+    let last = c.answer_join-2.new.dd in
+    let kept = keeps_more dd c.answer_join.new.dd last c.answer_join.ensures.kept c.answer_join-2.ensures.kept in
+    record {
+      lo = half_extends dd.nodes last.nodes kept.nodes dd.vars c.requires.table.reduced c.halve_pair-halves.result.var false (join_of c.args.p) (join_of c.halve_pair-halves.result.lo) c.requires.asked (pair_lo c.args.dd.now.vars c.args.dd.now.nodes c.requires.table.reduced 1 c.args.p c.halve_pair-halves.result c.halve_pair-halves.ensures);
+      hi = half_extends dd.nodes last.nodes kept.nodes dd.vars c.requires.table.reduced c.halve_pair-halves.result.var true (join_of c.args.p) (join_of c.halve_pair-halves.result.hi) c.requires.asked (pair_hi c.args.dd.now.vars c.args.dd.now.nodes c.requires.table.reduced 1 c.args.p c.halve_pair-halves.result c.halve_pair-halves.ensures);
+    }
+
+pub open_join-returns-in_err-lo-clause-adds : goal.open_join-returns-in_err-lo-clause-adds
+open_join-returns-in_err-lo-clause-adds t c =
+    adds_lo c.args.dd.now c.requires.table (join_of c.args.p) c.requires.asked c.requires.tests c.halve_pair-halves.result.var (pair_top c.args.dd.now c.requires.table c.args.p c.halve_pair-halves.result.var c.halve_pair-halves.ensures.top 1)
+    (join_of c.halve_pair-halves.result.lo) (pair_lo c.args.dd.now.vars c.args.dd.now.nodes c.requires.table.reduced 1 c.args.p c.halve_pair-halves.result c.halve_pair-halves.ensures) c.answer_join.new.dd c.answer_join.ensures.kept c.answer_join.ensures.adds
+
+pub open_join-returns-in_err-lo-clause-full : goal.open_join-returns-in_err-lo-clause-full
+open_join-returns-in_err-lo-clause-full t c is =
+    full_lo c.args.dd.now c.requires.table (join_of c.args.p) c.requires.asked c.requires.tests c.halve_pair-halves.result.var (pair_top c.args.dd.now c.requires.table c.args.p c.halve_pair-halves.result.var c.halve_pair-halves.ensures.top 1)
+    (join_of c.halve_pair-halves.result.lo) (pair_lo c.args.dd.now.vars c.args.dd.now.nodes c.requires.table.reduced 1 c.args.p c.halve_pair-halves.result c.halve_pair-halves.ensures) c.answer_join.new.dd c.answer_join.ensures.kept c.answer_join.ensures.adds (c.in_err-lo.ensures.full (passed_on c.from_residual.result c.in_err-lo.field-0.0 Full c.from_residual.ensures.1 is))
+
+pub open_join-returns-in_err-hi-clause-kept : goal.open_join-returns-in_err-hi-clause-kept
+open_join-returns-in_err-hi-clause-kept t c = keeps_more c.args.dd.now c.answer_join.new.dd c.answer_join-2.new.dd c.answer_join.ensures.kept c.answer_join-2.ensures.kept
+
+pub open_join-returns-in_err-hi-clause-adds : goal.open_join-returns-in_err-hi-clause-adds
+open_join-returns-in_err-hi-clause-adds t c =
+    adds_hi c.args.dd.now c.requires.table (join_of c.args.p) c.requires.asked c.requires.tests c.halve_pair-halves.result.var (pair_top c.args.dd.now c.requires.table c.args.p c.halve_pair-halves.result.var c.halve_pair-halves.ensures.top 1)
+    (join_of c.halve_pair-halves.result.lo) (pair_lo c.args.dd.now.vars c.args.dd.now.nodes c.requires.table.reduced 1 c.args.p c.halve_pair-halves.result c.halve_pair-halves.ensures) c.answer_join.new.dd c.answer_join.ensures.kept c.answer_join.ensures.adds
+    (join_of c.halve_pair-halves.result.hi) (half_extends c.args.dd.now.nodes c.answer_join.new.dd.nodes c.answer_join.ensures.kept.nodes c.args.dd.now.vars c.requires.table.reduced c.halve_pair-halves.result.var true (join_of c.args.p) (join_of c.halve_pair-halves.result.hi) c.requires.asked (pair_hi c.args.dd.now.vars c.args.dd.now.nodes c.requires.table.reduced 1 c.args.p c.halve_pair-halves.result c.halve_pair-halves.ensures)) c.answer_join-2.new.dd c.answer_join-2.ensures.kept c.answer_join-2.ensures.adds
+
+pub open_join-returns-in_err-hi-clause-full : goal.open_join-returns-in_err-hi-clause-full
+open_join-returns-in_err-hi-clause-full t c is =
+    full_hi c.args.dd.now c.requires.table (join_of c.args.p) c.requires.asked c.requires.tests c.halve_pair-halves.result.var (pair_top c.args.dd.now c.requires.table c.args.p c.halve_pair-halves.result.var c.halve_pair-halves.ensures.top 1)
+    (join_of c.halve_pair-halves.result.lo) (pair_lo c.args.dd.now.vars c.args.dd.now.nodes c.requires.table.reduced 1 c.args.p c.halve_pair-halves.result c.halve_pair-halves.ensures) c.answer_join.new.dd c.answer_join.ensures.kept c.answer_join.ensures.adds
+    (join_of c.halve_pair-halves.result.hi) (half_extends c.args.dd.now.nodes c.answer_join.new.dd.nodes c.answer_join.ensures.kept.nodes c.args.dd.now.vars c.requires.table.reduced c.halve_pair-halves.result.var true (join_of c.args.p) (join_of c.halve_pair-halves.result.hi) c.requires.asked (pair_hi c.args.dd.now.vars c.args.dd.now.nodes c.requires.table.reduced 1 c.args.p c.halve_pair-halves.result c.halve_pair-halves.ensures)) c.answer_join-2.new.dd c.answer_join-2.ensures.kept c.answer_join-2.ensures.adds (c.in_err-hi.ensures.full (passed_on c.from_residual-in_err-hi.result c.in_err-hi.field-0.0 Full c.from_residual-in_err-hi.ensures.1 is))
+
+pub open_join-returns-clause-adds : goal.open_join-returns-clause-adds
+open_join-returns-clause-adds t c =
+    adds_rest c.args.dd.now c.requires.table (join_of c.args.p) c.requires.asked c.requires.tests c.halve_pair-halves.result.var (pair_top c.args.dd.now c.requires.table c.args.p c.halve_pair-halves.result.var c.halve_pair-halves.ensures.top 1)
+    (join_of c.halve_pair-halves.result.lo) (pair_lo c.args.dd.now.vars c.args.dd.now.nodes c.requires.table.reduced 1 c.args.p c.halve_pair-halves.result c.halve_pair-halves.ensures) c.answer_join.new.dd c.answer_join.ensures.kept c.answer_join.ensures.adds
+    (join_of c.halve_pair-halves.result.hi) (half_extends c.args.dd.now.nodes c.answer_join.new.dd.nodes c.answer_join.ensures.kept.nodes c.args.dd.now.vars c.requires.table.reduced c.halve_pair-halves.result.var true (join_of c.args.p) (join_of c.halve_pair-halves.result.hi) c.requires.asked (pair_hi c.args.dd.now.vars c.args.dd.now.nodes c.requires.table.reduced 1 c.args.p c.halve_pair-halves.result c.halve_pair-halves.ensures)) c.answer_join-2.new.dd c.answer_join-2.ensures.kept c.answer_join-2.ensures.adds c.join_pair.new.dd c.join_pair.ensures.adds
+
+pub open_join-returns-clause-full : goal.open_join-returns-clause-full
+open_join-returns-clause-full t c is =
+    full_rest c.args.dd.now c.requires.table (join_of c.args.p) c.requires.asked c.requires.tests c.halve_pair-halves.result.var (pair_top c.args.dd.now c.requires.table c.args.p c.halve_pair-halves.result.var c.halve_pair-halves.ensures.top 1)
+    (join_of c.halve_pair-halves.result.lo) (pair_lo c.args.dd.now.vars c.args.dd.now.nodes c.requires.table.reduced 1 c.args.p c.halve_pair-halves.result c.halve_pair-halves.ensures) c.answer_join.new.dd c.answer_join.ensures.kept c.answer_join.ensures.adds
+    (join_of c.halve_pair-halves.result.hi) (half_extends c.args.dd.now.nodes c.answer_join.new.dd.nodes c.answer_join.ensures.kept.nodes c.args.dd.now.vars c.requires.table.reduced c.halve_pair-halves.result.var true (join_of c.args.p) (join_of c.halve_pair-halves.result.hi) c.requires.asked (pair_hi c.args.dd.now.vars c.args.dd.now.nodes c.requires.table.reduced 1 c.args.p c.halve_pair-halves.result c.halve_pair-halves.ensures)) c.answer_join-2.new.dd c.answer_join-2.ensures.kept c.answer_join-2.ensures.adds c.join_pair.new.dd (c.join_pair.ensures.full is)
+
+pub open_join-returns-clause-kept : goal.open_join-returns-clause-kept
+open_join-returns-clause-kept t c = keeps_more c.args.dd.now c.answer_join.new.dd c.join_pair.new.dd c.answer_join.ensures.kept
+    (keeps_more c.answer_join.new.dd c.answer_join-2.new.dd c.join_pair.new.dd c.answer_join-2.ensures.kept c.join_pair.ensures.kept)
+
+pub answer_join-returns-in-Some-clause-others : goal.answer_join-returns-in-Some-clause-others
+answer_join-returns-in-Some-clause-others t c = same_pairs c.args.cache.now.pairs c.args.cache.now.pairs IsQuestion refl
+
+pub open_join-returns-in-Some-clause-memo : goal.open_join-returns-in-Some-clause-memo
+open_join-returns-in-Some-clause-memo t c = subst (Remembers c.args.dd.now.nodes) (sym c.recall_answer.ensures.same) c.requires.memo
+
+pub open_join-returns-in-Some-clause-others : goal.open_join-returns-in-Some-clause-others
+open_join-returns-in-Some-clause-others t c = same_pairs c.args.cache.now.pairs c.recall_answer.new.cache.pairs IsQuestion c.recall_answer.ensures.same
+
+pub open_join-returns-in_err-lo-clause-others : goal.open_join-returns-in_err-lo-clause-others
+open_join-returns-in_err-lo-clause-others t c =
+    adds_more IsQuestion c.args.cache.now.pairs c.recall_answer.new.cache.pairs c.answer_join.new.cache.pairs
+    (same_pairs c.args.cache.now.pairs c.recall_answer.new.cache.pairs IsQuestion c.recall_answer.ensures.same) c.answer_join.ensures.others
+
+pub open_join-returns-in_err-hi-clause-others : goal.open_join-returns-in_err-hi-clause-others
+open_join-returns-in_err-hi-clause-others t c =
+    adds_more IsQuestion c.args.cache.now.pairs c.recall_answer.new.cache.pairs c.answer_join-2.new.cache.pairs
+    (same_pairs c.args.cache.now.pairs c.recall_answer.new.cache.pairs IsQuestion c.recall_answer.ensures.same)
+    (adds_more IsQuestion c.recall_answer.new.cache.pairs c.answer_join.new.cache.pairs c.answer_join-2.new.cache.pairs c.answer_join.ensures.others c.answer_join-2.ensures.others)
+
+pub open_join-returns-clause-others : goal.open_join-returns-clause-others
+open_join-returns-clause-others t c =
+    adds_more IsQuestion c.args.cache.now.pairs c.recall_answer.new.cache.pairs c.join_pair.new.cache.pairs
+    (same_pairs c.args.cache.now.pairs c.recall_answer.new.cache.pairs IsQuestion c.recall_answer.ensures.same)
+    (adds_more IsQuestion c.recall_answer.new.cache.pairs c.answer_join.new.cache.pairs c.join_pair.new.cache.pairs c.answer_join.ensures.others
+    (adds_more IsQuestion c.answer_join.new.cache.pairs c.answer_join-2.new.cache.pairs c.join_pair.new.cache.pairs c.answer_join-2.ensures.others c.join_pair.ensures.others))
+
+pub answer_join-returns-in-None-clause-adds : goal.answer_join-returns-in-None-clause-adds
+answer_join-returns-in-None-clause-adds t c =
+    subst (λ (f : Function). AddsParts c.args.dd.now.vars (f ∷ []) c.args.dd.now.nodes c.open_join.new.dd.nodes)
+    (c.in_order.ensures.same c.args.dd.now.nodes c.requires.asked).value c.open_join.ensures.adds
+
+pub answer_join-returns-in-None-clause-full : goal.answer_join-returns-in-None-clause-full
+answer_join-returns-in-None-clause-full t c is =
+    subst (λ (f : Function). IsFullFor (f ∷ []) c.open_join.new.dd) (c.in_order.ensures.same c.args.dd.now.nodes c.requires.asked).value (c.open_join.ensures.full is)
+
+pub open_join-halve_pair-halves-requires : goal.open_join-halve_pair-halves-requires
+open_join-halve_pair-halves-requires t c = asked_pair c.args.dd.now.nodes 1 c.args.p c.requires.asked
+
+pub open_join-returns-in-Some-clause-answer : goal.open_join-returns-in-Some-clause-answer
+open_join-returns-in-Some-clause-answer t c =
+    subst (λ (q : Question). IsAnswer c.args.dd.now.nodes q c.in-Some.r.0) c.question_of.ensures (c.in-Some.ensures.answer c.args.dd.now.nodes c.requires.memo)
+
+pub answer_join-returns-in-Some-clause-answer : goal.answer_join-returns-in-Some-clause-answer
+answer_join-returns-in-Some-clause-answer t c = c.in-Some.ensures.right c.args.dd.now.nodes c.requires.asked
+
+pub open_join-join_pair-requires-clause-asked : goal.open_join-join_pair-requires-clause-asked
+open_join-join_pair-requires-clause-asked t c =
+    let dd = c.args.dd.now in
+    let last = c.answer_join-2.new.dd in
+    asked_extends dd.nodes last.nodes (keeps_more dd c.answer_join.new.dd last c.answer_join.ensures.kept c.answer_join-2.ensures.kept).nodes (join_of c.args.p) c.requires.asked
+
+pub open_join-returns-clause-answer : goal.open_join-returns-clause-answer
+open_join-returns-clause-answer t c = c.join_pair.ensures.answer
