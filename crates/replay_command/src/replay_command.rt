@@ -34,6 +34,7 @@ use plan_io::Shelf;
 use plan_rules::Plan;
 use run_replay::{Monitor, Recorded, RunErr, Start, World, execute, write_trace};
 use sexpr_text::{FaultKind, InputFault};
+use short_conditions::short_task;
 use std::alloc::{AllocError, Global};
 use task_core::{InitErr, State, Task};
 
@@ -285,6 +286,35 @@ fn load_world(alloc: Global, world: &mut Box<dyn World>, words: Vec<u32>) -> Res
 
 /// The run of a plan of the task from a state, with the outcome numbers that the world has.
 fn show_run(
+    alloc: Global,
+    start: &Start<'_>,
+    world: &mut Box<dyn World>,
+    monitors: &mut Vec<Box<dyn Monitor>>,
+) -> Result<Shown, Refusal>
+    requires in_task { IsPlanOf (fluent_count start.now.task.now) (action_count start.now.task.now)
+        start.now.plan.now }
+    requires within { IsWithin (fluent_count start.now.task.now) start.now.first }
+    requires untold { All (λ monitor. (shown monitor).counted ≡ 0) monitors.old.items }
+    ensures { (answer_of result ≡ refused no_memory)
+        ⊎ IsReplayed
+        (tallies_of (map (λ monitor. shown monitor) monitors.old.items))
+        (system_of start.now.task.now) (action_names start.now.task.now)
+        (trace_under (system_of start.now.task.now) (plain_of start.now.plan.now)
+        (vector (fluent_count start.now.task.now) start.now.first) (left world.old))
+        (answer_of result) }
+{
+    // Conditions are asked in each step, so short ones are made once.
+    let short = short_task(alloc, start.task)?;
+    let run = Start {
+        task: &short,
+        plan: start.plan,
+        first: start.first,
+    };
+    show_steps(alloc, &run, world, monitors)
+}
+
+/// The same, by the conditions of the task as they are.
+fn show_steps(
     alloc: Global,
     start: &Start<'_>,
     world: &mut Box<dyn World>,
