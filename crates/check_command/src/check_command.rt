@@ -1,28 +1,15 @@
 //! The command `check`.
 
-ghost use Rattle.check_command.specs.CheckCommand.{
-  ExploreThen,
-  IsCheckAnswer,
-  IsChecked,
-  ShowsVerdict,
-  verdict_answer,
-  FetchesToCheck,
-};
+ghost use Rattle.check_command.specs.CheckCommand.{ExploreThen, IsCheckAnswer, IsChecked, ShowsVerdict, verdict_answer, FetchesToCheck};
 ghost use Rattle.check_command.specs.Judged.{HasGoalIn, IsTaskVerdict};
 ghost use Rattle.command_base.specs.Answers.{no_memory, refused};
-ghost use Rattle.command_base.specs.Faults.{IsQuietAt};
 ghost use Rattle.command_base.specs.Fetching.{Stops};
 ghost use Rattle.command_base.specs.Following.{most_followed};
 ghost use Rattle.command_base.specs.Grounding.{GoalThen, GroundThen, has_goal_for};
 ghost use Rattle.command_base.specs.InitialStates.{InitialThen, empty_init};
 ghost use Rattle.command_base.specs.PlanFiles.{KindThen, is_of_kind};
-ghost use Rattle.command_base.specs.Values.{
-  answer_of,
-  check_words_of,
-  kind_of,
-  placed_of,
-  shown_of,
-};
+ghost use Rattle.command_base.specs.Shelves.{KeepsShelf};
+ghost use Rattle.command_base.specs.Values.{answer_of, check_words_of, kind_of, placed_of, shown_of};
 ghost use Rattle.command_base.specs.Words.{with_contexts};
 ghost use Rattle.ctl_syntax.specs.Values.{NamesBelow, ctl_value};
 ghost use Rattle.exec_graph.specs.Graphs.{IsGraphOf};
@@ -35,20 +22,7 @@ ghost use Rattle.pddl_system.specs.Sizes.{first_passed};
 ghost use Rattle.plan_io.specs.Fetches.{FailedLast, Fetches};
 ghost use Rattle.plan_rules.specs.Plans.{IsPlanOf};
 ghost use Rattle.plan_rules.specs.Rules.{ContextRule, PlainPlan, automaton, plain_of};
-ghost use Rattle.std.specs.Prelude.{
-  ◌≡◌,
-  ◌≤◌,
-  ◌⊎◌,
-  [],
-  ◌∷◌,
-  IfOk,
-  IfSome,
-  IsSome,
-  List,
-  None,
-  true,
-  ℕ,
-};
+ghost use Rattle.std.specs.Prelude.{◌≡◌, ◌⊎◌, [], ◌∷◌, IfOk, IfSome, IsSome, List, None, true, ℕ};
 ghost use Rattle.task_core.specs.Tasks.{action_count, fluent_count, initial_states, system_of};
 
 use command_base::{
@@ -77,9 +51,7 @@ pub fn check_files<S: Shelf>(
     ensures fetches { let failed = FailedLast S.fetched S.faults shelf.old shelf.new in
         FetchesToCheck (S.held shelf.old) failed S.fetched (check_words_of asked.now)
         (answer_of result) shelf.old shelf.new }
-    ensures quiet_at { IsQuietAt (answer_of result) (S.faults shelf.old) (S.faults shelf.new) }
-    ensures kept { (file : List ℕ) → S.held shelf.new file ≡ S.held shelf.old file }
-    ensures later { S.faults shelf.old ≤ S.faults shelf.new }
+    ensures shelf { KeepsShelf S.held S.faults (answer_of result) shelf.old shelf.new }
 {
     let (domain, problem) = read_both(alloc, shelf, asked.domain, asked.problem)?;
     check_problem(alloc, shelf, asked, &domain, &problem)
@@ -107,9 +79,7 @@ fn check_problem<S: Shelf>(
         ⊎ (((has_goal_for asked.kind (problem_value problem.now) ≡ true)
         × (first_passed (domain_value domain.now) (problem_value problem.now) ≡ None))
         × Fetches S.fetched (asked.plan ∷ []) shelf.old shelf.new) }
-    ensures quiet_at { IsQuietAt (answer_of result) (S.faults shelf.old) (S.faults shelf.new) }
-    ensures kept { (file : List ℕ) → S.held shelf.new file ≡ S.held shelf.old file }
-    ensures later { S.faults shelf.old ≤ S.faults shelf.new }
+    ensures shelf { KeepsShelf S.held S.faults (answer_of result) shelf.old shelf.new }
 {
     // This does nothing: that the task's goal is true where the problem's is rests on what it
     // promises.

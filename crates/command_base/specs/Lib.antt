@@ -10,6 +10,7 @@ pub mod OneReading
 pub mod PddlTexts
 pub mod PlanFiles
 pub mod Reading
+pub mod Shelves
 pub mod Values
 pub mod Words
 pub mod Frame

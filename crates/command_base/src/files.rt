@@ -1,11 +1,11 @@
 //! Fetching the files of a command.
 
-ghost use Rattle.command_base.specs.Answers.{no_memory, refused};
-ghost use Rattle.command_base.specs.Faults.{IsQuietAt};
+ghost use Rattle.command_base.specs.Answers.{no_memory};
 ghost use Rattle.command_base.specs.Reading.{IsFile, IsTooLong, IsUnreadable};
+ghost use Rattle.command_base.specs.Shelves.{ReadsShelf};
 ghost use Rattle.command_base.specs.Values.{refusal_of};
 ghost use Rattle.plan_io.specs.Fetches.{FailedLast};
-ghost use Rattle.std.specs.Prelude.{◌≡◌, ◌≤◌, ◌⊎◌, IfErr, IfOk, List, OnOk, ℕ};
+ghost use Rattle.std.specs.Prelude.{◌≡◌, ◌⊎◌, IfErr, IfOk};
 
 use crate::answers::{Limit, Refusal};
 use plan_io::{FetchErr, Shelf};
@@ -20,12 +20,7 @@ pub fn fetch<S: Shelf>(alloc: Global, shelf: &mut S, name: &str) -> Result<Vec<u
         ⊎ IsUnreadable (S.held shelf.old) failed name.now (refusal_of refusal)
         ⊎ IsTooLong (S.held shelf.old) name.now (refusal_of refusal)) }
     ensures fetch { S.fetched shelf.old name.now shelf.new }
-    ensures quiet { OnOk result (S.faults shelf.new ≡ S.faults shelf.old) }
-    ensures quiet_at { IfErr result
-        (λ refusal. IsQuietAt (refused (refusal_of refusal)) (S.faults shelf.old)
-        (S.faults shelf.new)) }
-    ensures kept { (file : List ℕ) → S.held shelf.new file ≡ S.held shelf.old file }
-    ensures later { S.faults shelf.old ≤ S.faults shelf.new }
+    ensures shelf { ReadsShelf S.held S.faults result shelf.old shelf.new }
 {
     match shelf.fetch(alloc, name, MAX_BYTES) {
         Ok(bytes) => Ok(bytes),

@@ -1,15 +1,10 @@
 //! Reading the domain and the problem out of their files.
 
 ghost use Rattle.command_base.specs.Answers.{no_memory, refused};
-ghost use Rattle.command_base.specs.Faults.{IsQuietAt};
 ghost use Rattle.command_base.specs.Fetching.{FetchDomain, FetchesBoth, RefusesBoth};
-ghost use Rattle.command_base.specs.PddlTexts.{
-  HoldBoth,
-  IsFaultyDomain,
-  IsFaultyProblem,
-  SpellsProblemOf,
-};
+ghost use Rattle.command_base.specs.PddlTexts.{HoldBoth, IsFaultyDomain, IsFaultyProblem, SpellsProblemOf};
 ghost use Rattle.command_base.specs.Reading.{Holds, IsFile, IsRefusedFile, file_limit};
+ghost use Rattle.command_base.specs.Shelves.{ReadsShelf};
 ghost use Rattle.command_base.specs.Values.{refusal_for, refusal_of};
 ghost use Rattle.domain_read.specs.Domains.{SpellsDomain};
 ghost use Rattle.pddl_ast.specs.Fits.{FitsDomain, FitsProblem};
@@ -18,7 +13,7 @@ ghost use Rattle.pddl_domain.specs.WordNames.{HasWordNames};
 ghost use Rattle.pddl_problem.specs.WordNames.{HasWordObjects};
 ghost use Rattle.pddl_system.specs.Names.{NamesAreWords};
 ghost use Rattle.plan_io.specs.Fetches.{FailedLast, Fetches, FetchesNothing};
-ghost use Rattle.std.specs.Prelude.{◌≡◌, ◌≤◌, ◌⊎◌, [], ◌∷◌, IfErr, IfOk, List, OnOk, length, ℕ};
+ghost use Rattle.std.specs.Prelude.{◌≡◌, ◌≤◌, ◌⊎◌, [], ◌∷◌, IfErr, IfOk, OnOk, length};
 
 use crate::answers::Refusal;
 use crate::files::fetch;
@@ -91,12 +86,7 @@ pub fn read_domain_file<S: Shelf>(
         IfErr result (λ refusal. (refusal_of refusal ≡ no_memory)
         ⊎ IsRefusedFile (S.held shelf.old) failed IsFaultyDomain name.now (refusal_of refusal)) }
     ensures fetch { S.fetched shelf.old name.now shelf.new }
-    ensures quiet { OnOk result (S.faults shelf.new ≡ S.faults shelf.old) }
-    ensures quiet_at { IfErr result
-        (λ refusal. IsQuietAt (refused (refusal_of refusal)) (S.faults shelf.old)
-        (S.faults shelf.new)) }
-    ensures kept { (file : List ℕ) → S.held shelf.new file ≡ S.held shelf.old file }
-    ensures later { S.faults shelf.old ≤ S.faults shelf.new }
+    ensures shelf { ReadsShelf S.held S.faults result shelf.old shelf.new }
 {
     let bytes = fetch(alloc, shelf, name)?;
     domain_in(alloc, name, &bytes)
@@ -127,12 +117,7 @@ fn fetch_both<S: Shelf>(
         FetchesNothing shelf.old shelf.new }
     ensures fetched { OnOk result
         (Fetches S.fetched (domain_name.now ∷ problem_name.now ∷ []) shelf.old shelf.new) }
-    ensures quiet { OnOk result (S.faults shelf.new ≡ S.faults shelf.old) }
-    ensures quiet_at { IfErr result
-        (λ refusal. IsQuietAt (refused (refusal_of refusal)) (S.faults shelf.old)
-        (S.faults shelf.new)) }
-    ensures kept { (file : List ℕ) → S.held shelf.new file ≡ S.held shelf.old file }
-    ensures later { S.faults shelf.old ≤ S.faults shelf.new }
+    ensures shelf { ReadsShelf S.held S.faults result shelf.old shelf.new }
 {
     let domain = read_domain_file(alloc, shelf, domain_name)?;
     let bytes = fetch(alloc, shelf, problem_name)?;
@@ -164,12 +149,7 @@ pub fn read_both<S: Shelf>(
         FetchesNothing shelf.old shelf.new }
     ensures fetched { OnOk result
         (Fetches S.fetched (domain_name.now ∷ problem_name.now ∷ []) shelf.old shelf.new) }
-    ensures quiet { OnOk result (S.faults shelf.new ≡ S.faults shelf.old) }
-    ensures quiet_at { IfErr result
-        (λ refusal. IsQuietAt (refused (refusal_of refusal)) (S.faults shelf.old)
-        (S.faults shelf.new)) }
-    ensures kept { (file : List ℕ) → S.held shelf.new file ≡ S.held shelf.old file }
-    ensures later { S.faults shelf.old ≤ S.faults shelf.new }
+    ensures shelf { ReadsShelf S.held S.faults result shelf.old shelf.new }
 {
     // This does nothing: `names` rests on what it promises.
     read_names_are_words();

@@ -1,5 +1,5 @@
 -- Controllers whose actions may be tried again: what is judged to be good is one.
-use Rattle.std.proofs.Common.{◌≡◌, ◌≢◌, ◌≤◌, ◌<◌, ◌⊎◌, ◌∙◌, ℕ, Bool, true, List, [], ◌∷◌, map, inl, inr, refl, sym, subst, ap, All, None, Some, arith}
+use Rattle.std.proofs.Common.{◌≡◌, ◌≢◌, ◌≤◌, ◌<◌, ◌⊎◌, ◌∙◌, ℕ, true, List, [], ◌∷◌, map, inl, inr, refl, sym, subst, ap, All, None, Some, arith}
 use Rattle.std.specs.Prelude.{IfErr, IfOk, IfSome, Option, Result, Ok, Err, codes}
 use Rattle.std.proofs.lemmas.Bool.{le-leb}
 use Rattle.std.proofs.lemmas.List.Elements.{All-cons, All-head, All-nil, All-tail}
@@ -14,7 +14,7 @@ use Rattle.ctl_syntax.specs.declared.context_goals.UntilStage.{UntilStage}
 use Rattle.ctl_syntax.specs.declared.goals.Ctl.{Ctl}
 use Rattle.ctl_syntax.proofs.ConditionTrees.{below_is, tree_below}
 use Rattle.ctl_syntax.proofs.Parts.{each_mapped, each_weaker}
-use Rattle.fair_plan.specs.Found.{CanBeHad, IfNoPlan, IfPlan}
+use Rattle.fair_plan.specs.Found.{CanBeHad, IsFairPlannersAnswer}
 use Rattle.fair_plan.specs.declared.found.FairFound.{FairFound}
 use Rattle.fair_plan.specs.declared.found.FairFound.TheVariants.{NoPlan, Plan}
 use Rattle.fair_plan.specs.Goals.{IsConditionOver, IsFairGoalOver}
@@ -48,7 +48,7 @@ use Rattle.command_base.specs.InitialStates.{empty_init}
 use Rattle.command_base.specs.PddlTexts.{HoldBoth}
 use Rattle.command_base.specs.Values.{answer_of, kind_of, refusal_of, shown_of}
 use Rattle.pddl_ast.specs.Values.{domain_value, problem_value}
-use Rattle.command_base.specs.Words.{Bytes, IsNodeLimit, with_contexts}
+use Rattle.command_base.specs.Words.{Bytes, with_contexts}
 use Rattle.command_base.specs.declared.answers.Refusal.{Refusal as CodeRefusal}
 use Rattle.command_base.specs.declared.answers.Shown.{Shown}
 use Rattle.plan_command.specs.ContextGoals.{part_count}
@@ -234,11 +234,10 @@ full_try nodes t (inr searched) =
     inr (filled_after nodes t searched.before searched.after searched.encoded searched.lacks_room.made searched.lacks_room.slots searched.sound searched.lacks_room.at_limit)
 
 -- what a search found
-pub found_of : {E : Type 0} (t : Task) (goal : SetGoal) (r : Result FairFound E) → IfOk r (λ found. IfNoPlan found (HasNoFairPlan (system_of t) goal))
-    → IfOk r (λ found. IfPlan found (λ plan. CanBeHad (system_of t) goal)) → IfOk r (IsFairlyFound t goal)
-found_of t goal (Ok (Plan plan)) none had = had
-found_of t goal (Ok NoPlan) none had = none
-found_of t goal (Err e) none had = none
+pub found_of : {E : Type 0} (t : Task) (goal : SetGoal) (r : Result FairFound E) → IfOk r (IsFairPlannersAnswer t goal) → IfOk r (IsFairlyFound t goal)
+found_of t goal (Ok (Plan plan)) answer = answer.had
+found_of t goal (Ok NoPlan) answer = answer
+found_of t goal (Err e) answer = tt
 
 -- once the goal and the limits are found to be as they are wanted, what follows is the answer
 pub tried_then : (asked : FairWords) (d : DomainTree) (p : ProblemTree) (a : Answer) → has_goal_for with_contexts p ≡ true → first_passed d p ≡ None

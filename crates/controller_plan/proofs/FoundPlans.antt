@@ -33,7 +33,8 @@ use Rattle.command_base.specs.Words.{Bytes, PlanKind, PlanWords, of_class, with_
 use Rattle.command_base.proofs.TaskNames.{same_actions, same_fluents}
 use Rattle.plan_command.specs.ContextGoals.{context_goal, most_parts, part_count}
 use Rattle.plan_command.specs.GoalSets.{GoalSets, contexts_for, goal_sets, guarded_stage, of_patrol, of_until, one_holds, rules_for, until_chained}
-use Rattle.plan_command.specs.PlanCommand.{ArePrintedRules, IsPlanFound, IsPlanResult, IsResultFrom, IsResultOf, IsTextPrinted, IsWrittenFor, PlanThen}
+use Rattle.plan_theory.specs.PrintedRules.{ArePrintedRules}
+use Rattle.plan_command.specs.PlanCommand.{IsPlanFound, IsPlanResult, IsResultFrom, IsResultOf, IsTextPrinted, IsWrittenFor, PlanThen}
 use Rattle.plan_command.proofs.GoalParts.{HasVisit, has_visit}
 use Rattle.plan_meets.specs.Meets.{PlanMeets}
 use Rattle.apart_rules.proofs.ApartPlans.{IsApartPlan, cyclic_plan, patrol_plan, printed_plan, until_plan}

@@ -1,18 +1,12 @@
 //! From the words to the answer.
 
+ghost use Rattle.command_base.specs.Shelves.{KeepsShelf};
 ghost use Rattle.controller_plan.specs.Controllers.{IsControlAnswer, IsControlled};
 ghost use Rattle.controller_plan.specs.Runs.{HasControlCause};
 ghost use Rattle.controller_plan.specs.Sought.{IsAnswerFor, IsAnswerIn, IsReady};
 ghost use Rattle.controller_words.specs.Values.{control_words_of};
-ghost use Rattle.controller_words.specs.FairWords.{
-  AskNothing,
-  ControlRequest as AskedControl,
-  SaysRequest,
-  domain_of,
-  problem_of,
-};
+ghost use Rattle.controller_words.specs.FairWords.{AskNothing, ControlRequest as AskedControl, SaysRequest, domain_of, problem_of};
 ghost use Rattle.command_base.specs.Answers.{no_memory, refused};
-ghost use Rattle.command_base.specs.Faults.{IsQuietAt};
 ghost use Rattle.command_base.specs.Fetching.{FetchesBoth};
 ghost use Rattle.command_base.specs.Values.{answer_of};
 ghost use Rattle.command_base.specs.Words.{IsNodeLimit};
@@ -20,7 +14,7 @@ ghost use Rattle.pddl_ast.specs.Fits.{FitsDomain, FitsProblem};
 ghost use Rattle.pddl_ast.specs.Values.{domain_value, problem_value};
 ghost use Rattle.pddl_system.specs.Names.{NamesAreWords};
 ghost use Rattle.plan_io.specs.Fetches.{FailedLast, FetchesNothing};
-ghost use Rattle.std.specs.Prelude.{◌≡◌, ◌≤◌, ◌⊎◌, List, map, string_bytes, ℕ};
+ghost use Rattle.std.specs.Prelude.{◌≡◌, ◌⊎◌, map, string_bytes};
 
 use crate::fair::fair_files;
 use crate::plan_controllers::without_controller;
@@ -46,9 +40,7 @@ pub(crate) fn answer<S: Shelf>(
         → FetchesBoth (S.held shelf.old) S.fetched (domain_of asked) (problem_of asked)
         FetchesNothing shelf.old shelf.new }
     ensures no_fetch { AskNothing (map string_bytes words.now) → shelf.new ≡ shelf.old }
-    ensures quiet_at { IsQuietAt (answer_of result) (S.faults shelf.old) (S.faults shelf.new) }
-    ensures kept { (file : List ℕ) → S.held shelf.new file ≡ S.held shelf.old file }
-    ensures later { S.faults shelf.old ≤ S.faults shelf.new }
+    ensures shelf { KeepsShelf S.held S.faults (answer_of result) shelf.old shelf.new }
 {
     match read_request(words) {
         ControlRequest::Plan(asked) => control_files(alloc, shelf, &asked),
@@ -70,9 +62,7 @@ fn control_files<S: Shelf>(
         (answer_of result) }
     ensures fetches { FetchesBoth (S.held shelf.old) S.fetched asked.now.plan.domain.now
         asked.now.plan.problem.now FetchesNothing shelf.old shelf.new }
-    ensures quiet_at { IsQuietAt (answer_of result) (S.faults shelf.old) (S.faults shelf.new) }
-    ensures kept { (file : List ℕ) → S.held shelf.new file ≡ S.held shelf.old file }
-    ensures later { S.faults shelf.old ≤ S.faults shelf.new }
+    ensures shelf { KeepsShelf S.held S.faults (answer_of result) shelf.old shelf.new }
 {
     let (domain, problem) = read_both(alloc, shelf, asked.plan.domain, asked.plan.problem)?;
     control_problem(alloc, asked, &domain, &problem)

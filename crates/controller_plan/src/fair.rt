@@ -1,21 +1,13 @@
 //! Controllers for goals whose actions may be tried again: from the words to the goal.
 
 ghost use Rattle.command_base.specs.Answers.{no_memory, refused};
-ghost use Rattle.command_base.specs.Faults.{IsQuietAt};
 ghost use Rattle.command_base.specs.Fetching.{FetchesBoth};
-ghost use Rattle.command_base.specs.Grounded.{IsGroundedOf};
-ghost use Rattle.command_base.specs.Grounding.{has_goal_for};
+ghost use Rattle.command_base.specs.Shelves.{KeepsShelf};
 ghost use Rattle.command_base.specs.Values.{answer_of, limit_of};
-ghost use Rattle.command_base.specs.Words.{IsNodeLimit, with_contexts};
+ghost use Rattle.command_base.specs.Words.{IsNodeLimit};
 ghost use Rattle.controller_plan.specs.FairControllers.{IsFairAnswer, IsTried};
 ghost use Rattle.controller_plan.specs.FairJudged.{most_fair_of, with_goal as grounded_with};
-ghost use Rattle.controller_plan.specs.FairSought.{
-  IsFairAnswerFor,
-  IsFairGoal,
-  IsFairlyGrounded,
-  StandsFor,
-  StandsForNone,
-};
+ghost use Rattle.controller_plan.specs.FairSought.{IsFairAnswerFor, IsFairGoal, IsFairlyGrounded, StandsFor, StandsForNone};
 ghost use Rattle.controller_words.specs.Values.{fair_words_of};
 ghost use Rattle.ctl_syntax.specs.GoalValues.{GoalIsAtMostDeep, GoalNamesBelow};
 ghost use Rattle.ctl_syntax.specs.Values.{IsAtMostDeep, NamesBelow, ctl_value};
@@ -25,20 +17,7 @@ ghost use Rattle.pddl_system.specs.CtlGoals.{ctl_goal_of, goal_value};
 ghost use Rattle.pddl_system.specs.Names.{NamesAreWords};
 ghost use Rattle.plan_command.specs.GoalConditions.{count_of, limit_of_goal};
 ghost use Rattle.plan_io.specs.Fetches.{FailedLast, FetchesNothing};
-ghost use Rattle.std.specs.Prelude.{
-  ◌≡◌,
-  ◌≤◌,
-  ◌⊎◌,
-  ◌↔◌,
-  IfNone,
-  IfOk,
-  IfSome,
-  IsTrue,
-  List,
-  Some,
-  true,
-  ℕ,
-};
+ghost use Rattle.std.specs.Prelude.{◌≡◌, ◌≤◌, ◌⊎◌, ◌↔◌, IfNone, IfOk, IfSome, IsTrue, Some};
 ghost use Rattle.task_core.specs.Tasks.{fluent_count};
 
 use crate::fair_controllers::{FairTask, fair_tried};
@@ -77,9 +56,7 @@ pub(crate) fn fair_files<S: Shelf>(
         ⊎ IsFairAnswer (S.held shelf.old) failed (fair_words_of asked.now) (answer_of result) }
     ensures fetches { FetchesBoth (S.held shelf.old) S.fetched asked.now.domain.now
         asked.now.problem.now FetchesNothing shelf.old shelf.new }
-    ensures quiet_at { IsQuietAt (answer_of result) (S.faults shelf.old) (S.faults shelf.new) }
-    ensures kept { (file : List ℕ) → S.held shelf.new file ≡ S.held shelf.old file }
-    ensures later { S.faults shelf.old ≤ S.faults shelf.new }
+    ensures shelf { KeepsShelf S.held S.faults (answer_of result) shelf.old shelf.new }
 {
     let (domain, problem) = read_both(alloc, shelf, asked.domain, asked.problem)?;
     fair_problem(alloc, asked, &domain, &problem)

@@ -26,6 +26,7 @@ use plan_guide::Guide;
 use plan_rules::{Class, Plan, Rule};
 use reach_plan::{Takers, find_takers};
 use reached_plan::plan_reached;
+use short_conditions::short_task;
 use std::alloc::{AllocError, AllocFailed, Global};
 use task_core::{ActionId, InitErr, Lit, Task, init_states};
 use task_sets::{SetSearch, search_in_tries};
@@ -169,7 +170,8 @@ fn seek_contexts_thoroughly(
 
 /// Looks for a plan of a class: with little work state by state where very few can be reached, and else
 /// by a heuristic search; thoroughly state by state, then over sets of states, and where the table of
-/// nodes is full by a heuristic search; with much work by a heuristic search.
+/// nodes is full by a heuristic search; with much work by a heuristic search. Conditions are asked in each
+/// state, in their short forms.
 fn seek_class(
     alloc: Global,
     class: Class,
@@ -179,10 +181,11 @@ fn seek_class(
 ) -> Result<Searched, AllocError>
     requires room { IsNodeLimit nodes }
 {
+    let short = short_task(alloc, task)?;
     match effort {
-        Effort::Little => seek_quickly(alloc, class, task),
-        Effort::Thorough => seek_thoroughly(alloc, class, nodes, task),
-        Effort::Much => seek_guided(alloc, class, task, &MUCH),
+        Effort::Little => seek_quickly(alloc, class, &short),
+        Effort::Thorough => seek_thoroughly(alloc, class, nodes, &short),
+        Effort::Much => seek_guided(alloc, class, &short, &MUCH),
     }
 }
 

@@ -1,6 +1,6 @@
 //! Plans with contexts that are found state by state: for patrols where few states can be reached, and
 //! for all goals where the sets of states don't fit. Those whose actions may be tried again are looked for
-//! in the same two ways.
+//! in the same two ways. Conditions are asked in each state, in their short forms.
 
 ghost use Rattle.plan_rules.specs.Plans.{IsAutomatonOf};
 ghost use Rattle.plan_rules.specs.Rules.{context_rules_of};
@@ -14,6 +14,7 @@ use crate::searches::{Stop, follow_plan};
 use ctl_syntax::{ContextGoal, as_context_goal};
 use ground_task::Grounded;
 use plan_rules::{AutoPlan, Plan};
+use short_conditions::short_task;
 use staged_search::{Allowance, Way, plan_forward, plan_listed};
 use std::alloc::{AllocError, Global};
 use task_core::Task;
@@ -35,10 +36,10 @@ const MANY: Allowance = Allowance {
 pub(crate) fn follow_nearest(alloc: Global, grounded: &Grounded) -> Result<Option<Followed>, Stop> {
     match short_goal(alloc, grounded)? {
         Some(goal) if is_patrol(&goal) => {
-            let task = &grounded.task;
-            let few = staged_allowance_for(task, &FEW);
-            let found = plan_listed(alloc, task, &goal, Way::Strong, &few)?;
-            follow_if_found(alloc, task, found)
+            let task = short_task(alloc, &grounded.task)?;
+            let few = staged_allowance_for(&task, &FEW);
+            let found = plan_listed(alloc, &task, &goal, Way::Strong, &few)?;
+            follow_if_found(alloc, &task, found)
         }
         _ => Ok(None),
     }
@@ -48,10 +49,10 @@ pub(crate) fn follow_nearest(alloc: Global, grounded: &Grounded) -> Result<Optio
 pub(crate) fn follow_forward(alloc: Global, grounded: &Grounded) -> Result<Option<Followed>, Stop> {
     match short_goal(alloc, grounded)? {
         Some(goal) => {
-            let task = &grounded.task;
-            let many = staged_allowance_for(task, &MANY);
-            let found = plan_forward(alloc, task, &goal, Way::Strong, &many)?;
-            follow_if_found(alloc, task, found)
+            let task = short_task(alloc, &grounded.task)?;
+            let many = staged_allowance_for(&task, &MANY);
+            let found = plan_forward(alloc, &task, &goal, Way::Strong, &many)?;
+            follow_if_found(alloc, &task, found)
         }
         None => Ok(None),
     }
@@ -65,8 +66,9 @@ pub(crate) fn fair_nearest(
     goal: &ContextGoal,
 ) -> Result<Option<AutoPlan>, AllocError> {
     if is_patrol(goal) {
-        let few = staged_allowance_for(task, &FEW);
-        plan_listed(alloc, task, goal, Way::Fair, &few)
+        let short = short_task(alloc, task)?;
+        let few = staged_allowance_for(&short, &FEW);
+        plan_listed(alloc, &short, goal, Way::Fair, &few)
     } else {
         Ok(None)
     }
@@ -79,8 +81,9 @@ pub(crate) fn fair_forward(
     task: &Task,
     goal: &ContextGoal,
 ) -> Result<Option<AutoPlan>, AllocError> {
-    let many = staged_allowance_for(task, &MANY);
-    plan_forward(alloc, task, goal, Way::Fair, &many)
+    let short = short_task(alloc, task)?;
+    let many = staged_allowance_for(&short, &MANY);
+    plan_forward(alloc, &short, goal, Way::Fair, &many)
 }
 
 /// The goal, if it is an until-chain or a patrol goal with few stages or visits.

@@ -117,7 +117,7 @@ fn write_automaton(
     out.push_str("(plan automaton ")?;
     push_number(&mut out, plan.contexts)?;
     out.push('\n')?;
-    if push_context_rules(&mut out, plan.contexts, &plan.rules, steps, task, most)? {
+    if push_context_rules(&mut out, &plan.rules, steps, task, most)? {
         out.push_str(")\n")?;
         return Ok(text_within(out, most));
     }
@@ -166,14 +166,13 @@ fn push_rules(
 /// The same of an automaton's rules.
 fn push_context_rules(
     out: &mut String,
-    contexts: u32,
     rules: &[AutoRule],
     steps: &[u32],
     task: &Task,
     most: usize,
 ) -> Result<bool, AllocError>
-    requires in_task { All (IsContextRuleOf (fluent_count task.now) (action_count task.now)
-        contexts) (map context_rule_of rules.now) }
+    requires in_task { (contexts : ℕ) × All (IsContextRuleOf (fluent_count task.now)
+        (action_count task.now) contexts) (map context_rule_of rules.now) }
     requires told { All IsToldRule (map context_rule_of rules.now) }
     ensures all { IfOk result (λ all. IsTrue all → string_bytes out.new ≡ string_bytes out.old
         ++ noted_text (context_rule_text (fluent_names task.now) (action_names task.now)) None
@@ -182,8 +181,6 @@ fn push_context_rules(
         ++ noted_text (context_rule_text (fluent_names task.now) (action_names task.now)) None
         (map context_rule_of rules.now) steps.now)) }
 {
-    // The number of contexts is of no further use.
-    let _bound = contexts;
     let mut before = None;
     for (place, rule) in rules.iter().enumerate() {
         if out.len() > most {

@@ -15,9 +15,7 @@ use Rattle.plan_rules.specs.Denoted.{IsExecutable, denoted}
 use Rattle.plan_rules.specs.Plans.{IsRuleOf}
 use Rattle.plan_rules.specs.Rules.{PlanRule, rules_of}
 use Rattle.plan_rules.specs.declared.rules.TablePlan.{TablePlan}
-use Rattle.plan_theory.specs.declared.answers.Found.{Found}
-use Rattle.plan_theory.specs.declared.answers.Found.TheVariants.{NoPlan, Plan}
-use Rattle.plan_theory.specs.Found.{IfNoPlan, IfPlan}
+use Rattle.plan_theory.specs.Found.{IsPlanOfClass}
 use Rattle.encode_task.specs.Made.{MadeOf}
 use Rattle.plan_theory.proofs.PrintedWithin.{printed_within}
 use Rattle.plan_rules.proofs.DenotedPairs.{denoted-table}
@@ -26,7 +24,7 @@ use Rattle.plan_theory.proofs.RoundSteps.{later_rounds, rounds_end, rounds_shrin
 use Rattle.task_core.specs.Systems.{IsVector}
 use Rattle.task_core.specs.Vectors.{Vector, value_of}
 use Rattle.task_core.specs.Cubes.{SetOfVectors}
-use Rattle.cyclic_plan.specs.Answers.{Ends, IsAnswer, IsPlanOf, RoundsEnd}
+use Rattle.cyclic_plan.specs.Answers.{Ends, RoundsEnd}
 use Rattle.cyclic_plan.specs.Stages.{HasNear, HasRounds, Takings, kept_system, none_taken, takers_within}
 use Rattle.cyclic_plan.specs.Steps.{AreStepsFrom}
 use Rattle.slot_board.specs.declared.steps.Step.{Step}
@@ -136,12 +134,12 @@ table_is start r last all now slots near h =
     }
 
 -- and so a plan has it
-pub plan_of_table : (start : Start) (now : Encoded) (slots : List SetId) (h : HasTable start now slots) (plan : TablePlan) → plan.class ≡ Cyclic → rules_of plan ≡ cyclic_rules (system_of start.task) h.pairs → IsPlanOf start.task plan
+pub plan_of_table : (start : Start) (now : Encoded) (slots : List SetId) (h : HasTable start now slots) (plan : TablePlan) → plan.class ≡ Cyclic → rules_of plan ≡ cyclic_rules (system_of start.task) h.pairs → IsPlanOfClass Cyclic start.task plan
 plan_of_table start now slots h plan class is =
     let task = start.task in
     let sys = system_of task in
     record {
-      class = class;
+      of_class = class;
       printed = (h.pairs, h.largest, is);
       in_task = subst (λ (rules : List PlanRule). All (IsRuleOf (fluent_count task) (action_count task)) rules) (sym is)
           (printed_within Weak (restricted sys h.pairs) (2 ^ sys.fluents) (IsRuleOf (fluent_count task) (action_count task)) (λ cube a below lt. record { cube = below; action = lt }));
@@ -180,17 +178,6 @@ full_before inner outer e was p full =
 -- what is said of a value that is there
 pub some_has : {T : Type 0} (o : Option T) (P : T → Type 0) (x : T) → o ≡ Some x → IfSome o P → P x
 some_has o P x is has = subst (λ (p : _). IfSome p P) is has
-
--- what is said of a plan
-pub answer_plan : (task : Task) (P : TablePlan → Type 0) (result : Result Found SetErr) → ((plan : TablePlan) → IsPlanOf task plan → P plan) → IfOk result (IsAnswer task) → IfOk result (λ found. IfPlan found P)
-answer_plan task P (Ok (Plan plan)) each is = each plan is
-answer_plan task P (Ok NoPlan) each is = tt
-answer_plan task P (Err e) each is = tt
-
-pub answer_no_plan : (task : Task) (result : Result Found SetErr) → IfOk result (IsAnswer task) → IfOk result (λ found. IfNoPlan found (HasNoSolution Cyclic (system_of task)))
-answer_no_plan task (Ok (Plan plan)) is = tt
-answer_no_plan task (Ok NoPlan) is = is
-answer_no_plan task (Err e) is = tt
 
 -- the new board's places
 pub first_places : (task : Task) (enc now : Encoded) (made : MadeOf task enc) (width : ℕ) (wide : BoundsCyclicSets width task) (places : ℕ) (slots : List SetId) → places ≡ place_count (action_count task)

@@ -1,24 +1,19 @@
 //! The strong cyclic planner.
 
-ghost use Rattle.std.specs.Prelude.{◌≡◌, ℕ, ◌+◌, ◌*◌, ◌<◌, [], map, length, Some, All};
+ghost use Rattle.std.specs.Prelude.{◌≡◌, ℕ, ◌+◌, ◌*◌, ◌<◌, [], map, length, Some};
 ghost use Rattle.std.specs.Prelude.{IsSome, IfErr, IfNone, IfOk, IfSome, OnErr, IsErrOf};
 ghost use Rattle.dd_sets.specs.Frames.{Owns};
 ghost use Rattle.dd_sets.specs.Rooms.{NoRoom};
 ghost use Rattle.encode_task.specs.Made.{MadeOf};
-ghost use Rattle.task_core.specs.Solutions.{HasNoSolution, IsSolution};
-ghost use Rattle.task_core.specs.Tables.{IsTable};
-ghost use Rattle.task_core.specs.Tasks.{action_count, fluent_count, system_of};
+ghost use Rattle.task_core.specs.Solutions.{HasNoSolution};
+ghost use Rattle.task_core.specs.Tasks.{action_count, system_of};
 ghost use Rattle.task_core.specs.declared.classes.Class.TheVariants.{Cyclic};
 ghost use Rattle.task_core.specs.declared.tasks.Task.{Task as TaskOf};
-ghost use Rattle.plan_rules.specs.Denoted.{denoted, IsExecutable};
-ghost use Rattle.plan_rules.specs.Plans.{IsRuleOf};
-ghost use Rattle.plan_rules.specs.Rules.{rule_of, rules_of};
-ghost use Rattle.plan_theory.specs.Found.{IfNoPlan, IfPlan};
-ghost use Rattle.cyclic_plan.specs.Answers.{Ends, IsAnswer, IsPlanOf};
+ghost use Rattle.plan_rules.specs.Rules.{rule_of};
+ghost use Rattle.plan_theory.specs.Found.{IsPlanOfClass, IsPlannersAnswer};
+ghost use Rattle.cyclic_plan.specs.Answers.{Ends};
 ghost use Rattle.slot_board.specs.Board.{Left, Start};
 ghost use Rattle.cyclic_plan.specs.Stages.{place_count, HasNothing};
-ghost use Rattle.plan_theory.specs.LargestSets.{IsLargestSet};
-ghost use Rattle.plan_theory.specs.Pairs.{Pairs};
 ghost use Rattle.plan_theory.specs.CyclicPlans.{cyclic_rules};
 ghost use Rattle.plan_theory.specs.PairRounds.{round as round_of};
 ghost use Rattle.cyclic_plan.specs.Stages.{HasRound, none_taken};
@@ -154,7 +149,7 @@ fn close_as_plan(
     requires ready { (start : Start) × HasTable start enc.old board.slots.items }
     requires actions { actions ≡ length enc.old.actions }
     ensures plan { (start : Start) → HasTable start enc.old board.slots.items
-        → IfOk result (IsPlanOf start.task) }
+        → IfOk result (IsPlanOfClass Cyclic start.task) }
     ensures slots { (start : Start) → HasTable start enc.old board.slots.items
         → Owns start.enc.sets enc.new.sets [] }
     ensures same_slots { enc.new ≡ record enc.old { sets = enc.new.sets } }
@@ -176,7 +171,7 @@ fn close_as_plan(
 fn find_plan(alloc: Global, task: &Task, enc: &mut Enc) -> Result<Found, SetErr>
     requires made { MadeOf task.now enc.old }
     requires goal { IsSome task.now.goal }
-    ensures answer { IfOk result (IsAnswer task.now) }
+    ensures answer { IfOk result (IsPlannersAnswer Cyclic task.now) }
     ensures full { IsErrOf result SetErr.Full → (width : ℕ) → BoundsCyclicSets width task.now
         → NoRoom width (3 * action_count task.now + 32) 16 enc.old.sets enc.new.sets }
     ensures slots { Owns enc.old.sets enc.new.sets [] }
@@ -200,22 +195,7 @@ fn find_plan(alloc: Global, task: &Task, enc: &mut Enc) -> Result<Found, SetErr>
 pub fn plan_cyclic(alloc: Global, task: &Task, enc: &mut Enc) -> Result<Found, SetErr>
     requires made { MadeOf task.now enc.old }
     requires goal { IsSome task.now.goal }
-    ensures class { IfOk result (λ found. IfPlan found (λ plan. plan.class ≡ Cyclic)) }
-    ensures printed { let sys = system_of task.now in
-        IfOk result (λ found. IfPlan found (λ plan. (pairs : Pairs) × IsLargestSet sys pairs
-        × (rules_of plan ≡ cyclic_rules sys pairs))) }
-    ensures in_task { IfOk result
-        (λ found. IfPlan found
-        (λ plan. All (IsRuleOf (fluent_count task.now) (action_count task.now)) (rules_of plan))) }
-    ensures table { let sys = system_of task.now in
-        IfOk result (λ found. IfPlan found (λ plan. IsTable sys (denoted sys (rules_of plan)))) }
-    ensures solves { let sys = system_of task.now in
-        IfOk result (λ found. IfPlan found
-        (λ plan. IsSolution Cyclic sys (denoted sys (rules_of plan)))) }
-    ensures executable { let sys = system_of task.now in
-        IfOk result (λ found. IfPlan found (λ plan. IsExecutable sys (rules_of plan))) }
-    ensures no_plan { IfOk result
-        (λ found. IfNoPlan found (HasNoSolution Cyclic (system_of task.now))) }
+    ensures answer { IfOk result (IsPlannersAnswer Cyclic task.now) }
     ensures full { IsErrOf result SetErr.Full → (width : ℕ) → BoundsCyclicSets width task.now
         → NoRoom width (3 * action_count task.now + 32) 16 enc.old.sets enc.new.sets }
     ensures slots { Owns enc.old.sets enc.new.sets [] }

@@ -25,7 +25,7 @@ use Rattle.plan_command.specs.Enough.{IsTightPlan}
 use Rattle.command_base.specs.CountLines.{count_line}
 use Rattle.command_base.specs.Grounding.{GoalThen, GroundThen, has_goal_for}
 use Rattle.command_base.specs.PddlTexts.{IsFaultyDomain, IsFaultyProblem, SpellsProblemOf}
-use Rattle.plan_command.specs.PlanCommand.{ArePrintedRules}
+use Rattle.plan_theory.specs.PrintedRules.{ArePrintedRules}
 use Rattle.command_base.specs.Words.{Bytes, DrillKind, DrillWords, corridors, default_nodes}
 use Rattle.command_base.specs.Words.{drill_word, of_class, roads}
 

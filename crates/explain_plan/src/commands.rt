@@ -1,9 +1,9 @@
 //! From the words to the answer.
 
 ghost use Rattle.command_base.specs.Answers.{no_memory, refused};
-ghost use Rattle.command_base.specs.Faults.{IsQuietAt};
 ghost use Rattle.command_base.specs.Fetching.{Stops};
 ghost use Rattle.command_base.specs.Grounding.{GoalThen, GroundThen, has_goal_for};
+ghost use Rattle.command_base.specs.Shelves.{KeepsShelf};
 ghost use Rattle.command_base.specs.Values.{answer_of, kind_of};
 ghost use Rattle.command_base.specs.Words.{with_contexts};
 ghost use Rattle.explain_plan.specs.Explained.{IsExplainAnswer, IsExplained};
@@ -15,19 +15,7 @@ ghost use Rattle.pddl_ast.specs.Values.{domain_value, problem_value};
 ghost use Rattle.pddl_system.specs.Names.{NamesAreWords};
 ghost use Rattle.pddl_system.specs.Sizes.{first_passed};
 ghost use Rattle.plan_io.specs.Fetches.{FailedLast, Fetches};
-ghost use Rattle.std.specs.Prelude.{
-  ◌≡◌,
-  ◌≤◌,
-  ◌⊎◌,
-  [],
-  ◌∷◌,
-  List,
-  None,
-  map,
-  string_bytes,
-  true,
-  ℕ,
-};
+ghost use Rattle.std.specs.Prelude.{◌≡◌, ◌⊎◌, [], ◌∷◌, None, map, string_bytes, true};
 
 use crate::lined::read_lined;
 use crate::verdicts::explain_read;
@@ -53,9 +41,7 @@ pub(crate) fn answer<S: Shelf>(
         → FetchesToExplain (S.held shelf.old) failed S.fetched asked (answer_of result)
         shelf.old shelf.new }
     ensures no_fetch { AskNothing (map string_bytes words.now) → shelf.new ≡ shelf.old }
-    ensures quiet_at { IsQuietAt (answer_of result) (S.faults shelf.old) (S.faults shelf.new) }
-    ensures kept { (file : List ℕ) → S.held shelf.new file ≡ S.held shelf.old file }
-    ensures later { S.faults shelf.old ≤ S.faults shelf.new }
+    ensures shelf { KeepsShelf S.held S.faults (answer_of result) shelf.old shelf.new }
 {
     match read_words(words) {
         Some(asked) => explain_files(alloc, shelf, &asked),
@@ -76,9 +62,7 @@ fn explain_files<S: Shelf>(
     ensures fetches { let failed = FailedLast S.fetched S.faults shelf.old shelf.new in
         FetchesToExplain (S.held shelf.old) failed S.fetched (explain_words_of asked.now)
         (answer_of result) shelf.old shelf.new }
-    ensures quiet_at { IsQuietAt (answer_of result) (S.faults shelf.old) (S.faults shelf.new) }
-    ensures kept { (file : List ℕ) → S.held shelf.new file ≡ S.held shelf.old file }
-    ensures later { S.faults shelf.old ≤ S.faults shelf.new }
+    ensures shelf { KeepsShelf S.held S.faults (answer_of result) shelf.old shelf.new }
 {
     let (domain, problem) = read_both(alloc, shelf, asked.check.domain, asked.check.problem)?;
     explain_problem(alloc, shelf, asked, &domain, &problem)
@@ -107,9 +91,7 @@ fn explain_problem<S: Shelf>(
         ⊎ (((has_goal_for asked.kind (problem_value problem.now) ≡ true)
         × (first_passed (domain_value domain.now) (problem_value problem.now) ≡ None))
         × Fetches S.fetched (asked.plan ∷ []) shelf.old shelf.new) }
-    ensures quiet_at { IsQuietAt (answer_of result) (S.faults shelf.old) (S.faults shelf.new) }
-    ensures kept { (file : List ℕ) → S.held shelf.new file ≡ S.held shelf.old file }
-    ensures later { S.faults shelf.old ≤ S.faults shelf.new }
+    ensures shelf { KeepsShelf S.held S.faults (answer_of result) shelf.old shelf.new }
 {
     // These do nothing: that the task's goal is true where the problem's is, and the one that stands for it
     // where it is had fairly, rests on what they promise.

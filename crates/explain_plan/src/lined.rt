@@ -1,9 +1,9 @@
 //! Reading a plan and the lines of its rules.
 
-ghost use Rattle.command_base.specs.Answers.{no_memory, refused};
-ghost use Rattle.command_base.specs.Faults.{IsQuietAt};
+ghost use Rattle.command_base.specs.Answers.{no_memory};
 ghost use Rattle.command_base.specs.PlanFiles.{IsFaultyPlan};
 ghost use Rattle.command_base.specs.Reading.{Holds, IsRefusedFile};
+ghost use Rattle.command_base.specs.Shelves.{ReadsShelf};
 ghost use Rattle.command_base.specs.Values.{refusal_of};
 ghost use Rattle.explain_plan.specs.Lined.{SpellsLined};
 ghost use Rattle.explain_plan.specs.Values.{lined_of};
@@ -11,7 +11,7 @@ ghost use Rattle.plan_io.specs.Fetches.{FailedLast};
 ghost use Rattle.plan_rules.specs.Plans.{IsPlanOf};
 ghost use Rattle.plan_rules.specs.Readings.{HasPlanFault};
 ghost use Rattle.sexpr_text.specs.Passes.{IfFault};
-ghost use Rattle.std.specs.Prelude.{◌≡◌, ◌≤◌, ◌⊎◌, IfErr, IfOk, List, OnOk, length, ℕ};
+ghost use Rattle.std.specs.Prelude.{◌≡◌, ◌≤◌, ◌⊎◌, IfErr, IfOk, length};
 ghost use Rattle.task_core.specs.Tasks.{action_count, action_names, fluent_count, fluent_names};
 
 use command_base::{Refusal, fetch, misread};
@@ -47,12 +47,7 @@ pub(crate) fn read_lined<S: Shelf>(
         (IsFaultyPlan (fluent_names task.now) (action_names task.now)) name.now
         (refusal_of refusal)) }
     ensures fetch { S.fetched shelf.old name.now shelf.new }
-    ensures quiet { OnOk result (S.faults shelf.new ≡ S.faults shelf.old) }
-    ensures quiet_at { IfErr result
-        (λ refusal. IsQuietAt (refused (refusal_of refusal)) (S.faults shelf.old)
-        (S.faults shelf.new)) }
-    ensures kept { (file : List ℕ) → S.held shelf.new file ≡ S.held shelf.old file }
-    ensures later { S.faults shelf.old ≤ S.faults shelf.new }
+    ensures shelf { ReadsShelf S.held S.faults result shelf.old shelf.new }
 {
     let bytes = fetch(alloc, shelf, name)?;
     match lined_plan(alloc, &bytes, task) {

@@ -15,15 +15,13 @@ use Rattle.task_core.specs.Vectors.{value_of}
 use Rattle.task_core.specs.declared.tasks.Task.{Task}
 use Rattle.task_core.proofs.TaskSystem.{is_system}
 use Rattle.fair_plan.specs.Boards.{IsThere, Origin, Scene, set_in, states_in, sys_of}
-use Rattle.fair_plan.specs.Found.{CanBeHad, IfNoPlan, IfPlan, IsAnswer}
+use Rattle.fair_plan.specs.Found.{CanBeHad, IsFairPlannersAnswer}
 use Rattle.ctl_syntax.specs.declared.context_goals.ContextGoal.{ContextGoal}
 use Rattle.ctl_syntax.specs.declared.context_goals.ContextGoal.TheVariants.{Until, Patrol}
 use Rattle.plan_rules.specs.Plans.{IsContextOf, most_contexts}
-use Rattle.plan_rules.specs.declared.rules.AutoPlan.{AutoPlan}
 use Rattle.fair_plan.specs.Goals.{IsFairGoalOver, contexts_of}
 use Rattle.fair_plan.specs.Places.{place_count}
-use Rattle.fair_plan.specs.declared.found.FairFound.{FairFound}
-use Rattle.fair_plan.specs.declared.found.FairFound.TheVariants.{NoPlan, Plan}
+use Rattle.fair_plan.specs.declared.found.FairFound.TheVariants.{NoPlan}
 use Rattle.fair_plan.proofs.Boards.{small}
 
 powers : (n : ℕ) → n + 1 ≤ 2 ^ n
@@ -50,7 +48,7 @@ won_ends origin x now goal place win (Ok covered) is wins stayed answer =
 won_ends origin x now goal place win (Err e) is wins left answer = left
 
 -- what is said of what was found
-pub none_answer : (origin : Origin) (y : Scene) (goal : SetGoal) (won : Bool) → Won origin y goal won → won ≡ false → IsAnswer origin.start.task goal NoPlan
+pub none_answer : (origin : Origin) (y : Scene) (goal : SetGoal) (won : Bool) → Won origin y goal won → won ≡ false → IsFairPlannersAnswer origin.start.task goal NoPlan
 none_answer origin y goal won w lost = none_without_cover (sys_of origin) goal w.1 (is_system origin.start.task) w.2 (sym w.3 ∙ lost)
 
 pub can_be_had : (origin : Origin) (y : Scene) (goal : SetGoal) (won : Bool) → Won origin y goal won → won ≡ true → CanBeHad (sys_of origin) goal
@@ -87,17 +85,6 @@ origin_of task enc made places count are = record {
   count = count;
   places = are;
 }
-
--- of the answer, what each clause says
-pub answer_plan : (task : Task) (goal : SetGoal) (P : AutoPlan → Type 0) (result : Result FairFound SetErr) → ((plan : AutoPlan) → IsAnswer task goal (Plan plan) → P plan) → IfOk result (IsAnswer task goal) → IfOk result (λ found. IfPlan found P)
-answer_plan task goal P (Ok (Plan plan)) each is = each plan is
-answer_plan task goal P (Ok NoPlan) each is = tt
-answer_plan task goal P (Err e) each is = tt
-
-pub answer_none : (task : Task) (goal : SetGoal) (Q : Type 0) (result : Result FairFound SetErr) → (IsAnswer task goal NoPlan → Q) → IfOk result (IsAnswer task goal) → IfOk result (λ found. IfNoPlan found Q)
-answer_none task goal Q (Ok (Plan plan)) f is = tt
-answer_none task goal Q (Ok NoPlan) f is = f is
-answer_none task goal Q (Err e) f is = tt
 
 -- how many contexts a plan has
 pub contexts_fit : (fluents : ℕ) (goal : ContextGoal) (n : ℕ) → IsFairGoalOver fluents goal → n ≡ contexts_of goal → IsContextOf most_contexts n

@@ -4,16 +4,16 @@ ghost use Rattle.std.specs.Prelude.{◌≡◌, ◌≤◌, ℕ, [], IfOk, IsErrOf
 ghost use Rattle.dd_sets.specs.Frames.{Owns};
 ghost use Rattle.dd_sets.specs.Rooms.{IsAtLimit};
 ghost use Rattle.encode_task.specs.Made.{MadeOf};
-ghost use Rattle.fair_theory.specs.FairPlans.{HasNoFairPlan, sets_of_goal};
+ghost use Rattle.fair_theory.specs.FairPlans.{sets_of_goal};
 ghost use Rattle.plan_rules.specs.Plans.{IsAutomatonOf};
 ghost use Rattle.plan_rules.specs.Rules.{context_rules_of};
-ghost use Rattle.task_core.specs.Tasks.{action_count, fluent_count, system_of};
+ghost use Rattle.task_core.specs.Tasks.{fluent_count};
 ghost use Rattle.task_core.specs.declared.tasks.Task.{Task as TaskOf};
 ghost use Rattle.fair_theory.specs.FairSets.{IsFairWin, covers_initial};
 ghost use Rattle.slot_board.specs.Board.{At, Ends};
 ghost use Rattle.task_core.specs.Cubes.{SetOfVectors};
 ghost use Rattle.fair_plan.specs.Boards.{IsThere, Origin, actions_of, sys_of};
-ghost use Rattle.fair_plan.specs.Found.{CanBeHad, IfNoPlan, IfPlan, IsAnswer};
+ghost use Rattle.fair_plan.specs.Found.{IsFairPlannersAnswer};
 ghost use Rattle.fair_plan.specs.Goals.{IsFairGoalOver, contexts_of, count_of, most_stages};
 
 use crate::found::FairFound;
@@ -140,7 +140,7 @@ fn search_goal(
     ensures { (origin : Origin) → At origin.start enc.old board.old.slots.items
         → origin.count ≡ sizes.count → Ends origin.start enc.new board.new.slots.items
         (λ found. IsThere origin (enc.new, board.new.slots.items)
-        × IsAnswer origin.start.task (sets_of_goal goal.now) found) result }
+        × IsFairPlannersAnswer origin.start.task (sets_of_goal goal.now) found) result }
 {
     if !wins(enc, board, sizes.actions, goal, sizes.count)? {
         return Ok(FairFound::NoPlan);
@@ -158,7 +158,7 @@ fn find_fair(
 ) -> Result<FairFound, SetErr>
     requires made { MadeOf task.now enc.old }
     requires goal { IsFairGoalOver (fluent_count task.now) goal.now }
-    ensures answer { IfOk result (IsAnswer task.now (sets_of_goal goal.now)) }
+    ensures answer { IfOk result (IsFairPlannersAnswer task.now (sets_of_goal goal.now)) }
     ensures full { IsErrOf result SetErr.Full → IsAtLimit enc.new.sets }
     ensures slots { Owns enc.old.sets enc.new.sets [] }
     ensures same_slots { enc.new ≡ record enc.old { sets = enc.new.sets } }
@@ -198,12 +198,7 @@ pub fn fair_plan(
 ) -> Result<FairFound, SetErr>
     requires made { MadeOf task.now enc.old }
     requires goal { IsFairGoalOver (fluent_count task.now) goal.now }
-    ensures none { IfOk result (λ found. IfNoPlan found (HasNoFairPlan (system_of task.now)
-        (sets_of_goal goal.now))) }
-    ensures had { IfOk result (λ found. IfPlan found (λ plan. CanBeHad (system_of task.now)
-        (sets_of_goal goal.now))) }
-    ensures in_task { IfOk result (λ found. IfPlan found (λ plan. IsAutomatonOf
-        (fluent_count task.now) (action_count task.now) plan.contexts (context_rules_of plan))) }
+    ensures answer { IfOk result (IsFairPlannersAnswer task.now (sets_of_goal goal.now)) }
     ensures full { IsErrOf result SetErr.Full → IsAtLimit enc.new.sets }
     ensures slots { Owns enc.old.sets enc.new.sets [] }
     ensures same_slots { enc.new ≡ record enc.old { sets = enc.new.sets } }

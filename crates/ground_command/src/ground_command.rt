@@ -1,34 +1,15 @@
 //! The command `ground`.
 
 ghost use Rattle.command_base.specs.Answers.{no_memory, refused};
-ghost use Rattle.command_base.specs.Faults.{IsQuietAt};
+ghost use Rattle.command_base.specs.Shelves.{KeepsShelf};
 ghost use Rattle.command_base.specs.Values.{answer_of, ground_words_of};
-ghost use Rattle.ground_command.specs.GroundCommand.{
-  FetchesToGround,
-  IsGroundAnswer,
-  IsListed,
-  action_line,
-  fluent_line,
-  listing,
-};
+ghost use Rattle.ground_command.specs.GroundCommand.{FetchesToGround, IsGroundAnswer, IsListed, action_line, fluent_line, listing};
 ghost use Rattle.pddl_ast.specs.Fits.{FitsDomain, FitsProblem};
 ghost use Rattle.pddl_ast.specs.Values.{domain_value, problem_value};
 ghost use Rattle.pddl_system.specs.Names.{NamesAreWords};
 ghost use Rattle.plan_io.specs.Fetches.{FailedLast};
 ghost use Rattle.std.specs.List.{flat_map};
-ghost use Rattle.std.specs.Prelude.{
-  ◌≡◌,
-  ◌++◌,
-  ◌≤◌,
-  ◌⊎◌,
-  IfOk,
-  List,
-  OnOk,
-  length,
-  map,
-  string_bytes,
-  ℕ,
-};
+ghost use Rattle.std.specs.Prelude.{◌≡◌, ◌++◌, ◌⊎◌, IfOk, OnOk, length, map, string_bytes};
 ghost use Rattle.task_core.specs.Initial.{entries_of};
 ghost use Rattle.task_core.specs.Names.{name_bytes, name_of};
 ghost use Rattle.task_core.specs.Tasks.{fluent_names};
@@ -54,9 +35,7 @@ pub fn ground_files<S: Shelf>(
     ensures fetches { let failed = FailedLast S.fetched S.faults shelf.old shelf.new in
         FetchesToGround (S.held shelf.old) failed S.fetched (ground_words_of asked.now)
         (answer_of result) shelf.old shelf.new }
-    ensures quiet_at { IsQuietAt (answer_of result) (S.faults shelf.old) (S.faults shelf.new) }
-    ensures kept { (file : List ℕ) → S.held shelf.new file ≡ S.held shelf.old file }
-    ensures later { S.faults shelf.old ≤ S.faults shelf.new }
+    ensures shelf { KeepsShelf S.held S.faults (answer_of result) shelf.old shelf.new }
 {
     let (domain, problem) = read_both(alloc, shelf, asked.domain, asked.problem)?;
     list_grounded(alloc, &domain, &problem)

@@ -1,13 +1,13 @@
 //! From the words to the answer.
 
-ghost use Rattle.command_base.specs.Faults.{IsQuietAt};
+ghost use Rattle.command_base.specs.Shelves.{KeepsShelf};
 ghost use Rattle.command_base.specs.Values.{answer_of};
 ghost use Rattle.command_base.specs.Words.{Command as SaidCommand, SayNothing, Says};
 ghost use Rattle.mbp_top.specs.Causes.{HasCause};
 ghost use Rattle.mbp_top.specs.Fetching.{FetchesFiles};
 ghost use Rattle.plan_io.specs.Fetches.{FailedLast};
 ghost use Rattle.run_replay.specs.TraceTexts.{tallies_of};
-ghost use Rattle.std.specs.Prelude.{◌≡◌, ◌≤◌, All, List, map, string_bytes, ℕ};
+ghost use Rattle.std.specs.Prelude.{◌≡◌, All, map, string_bytes};
 
 use check_command::check_files;
 use command_base::{Command, Refusal, Shown, read_words};
@@ -38,9 +38,7 @@ pub(crate) fn answer<S: Shelf>(
         → FetchesFiles (S.held shelf.old) failed S.fetched command (answer_of result)
         shelf.old shelf.new }
     ensures no_fetch { SayNothing (map string_bytes words.now) → shelf.new ≡ shelf.old }
-    ensures quiet_at { IsQuietAt (answer_of result) (S.faults shelf.old) (S.faults shelf.new) }
-    ensures kept { (file : List ℕ) → S.held shelf.new file ≡ S.held shelf.old file }
-    ensures later { S.faults shelf.old ≤ S.faults shelf.new }
+    ensures shelf { KeepsShelf S.held S.faults (answer_of result) shelf.old shelf.new }
 {
     match read_words(words) {
         Command::Plan(asked) => plan_files(alloc, shelf, &asked),

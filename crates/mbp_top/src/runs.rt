@@ -11,20 +11,27 @@ use plan_io::{Shelf, Sink};
 use run_replay::{Monitor, World};
 use std::alloc::Global;
 
+/// What is handed to a run besides the shelf and the sinks: the words, and the world and the monitors of
+/// a replay.
+#[derive(Drop)]
+pub(crate) struct Handed<'a> {
+    pub(crate) words: &'a [String],
+    pub(crate) world: Box<dyn World>,
+    pub(crate) monitors: Vec<Box<dyn Monitor>>,
+}
+
 /// Does what the words say, writes the answer, and gives the exit status.
 pub(crate) fn carry_out<S: Shelf, O: Sink, E: Sink>(
     alloc: Global,
-    words: &[String],
+    handed: &mut Handed<'_>,
     shelf: &mut S,
     out: &mut O,
     err: &mut E,
-    world: &mut Box<dyn World>,
-    monitors: &mut Vec<Box<dyn Monitor>>,
 ) -> u8
-    requires untold { All (λ monitor. (shown monitor).counted ≡ 0) monitors.old.items }
+    requires untold { All (λ monitor. (shown monitor).counted ≡ 0) handed.old.monitors.items }
     ensures { HasRun S.held S.faults S.fetched (record {
-      words = map string_bytes words.now;
-      handed = tallies_of (map (λ monitor. shown monitor) monitors.old.items);
+      words = map string_bytes handed.old.words.now;
+      handed = tallies_of (map (λ monitor. shown monitor) handed.old.monitors.items);
       shelf = shelf.old;
       shelf_after = shelf.new;
       out = seen (O.written out.old) (O.faults out.old);
@@ -34,6 +41,12 @@ pub(crate) fn carry_out<S: Shelf, O: Sink, E: Sink>(
       status = result;
     }) }
 {
-    let found = answer(alloc, words, shelf, world, monitors);
+    let found = answer(
+        alloc,
+        handed.words,
+        shelf,
+        &mut handed.world,
+        &mut handed.monitors,
+    );
     deliver(alloc, &found, out, err)
 }

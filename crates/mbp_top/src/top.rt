@@ -28,7 +28,7 @@ ghost use Rattle.run_replay.specs.TraceTexts.{tallies_of};
 ghost use Rattle.std.specs.Io.KnownBytes.{append_known};
 ghost use Rattle.std.specs.Prelude.{◌≡◌, ◌≢◌, ◌⊎◌, [], All, None, map, string_bytes, true};
 
-use crate::runs::carry_out;
+use crate::runs::{Handed, carry_out};
 use command_base::texts_are_read_one_way;
 use plan_check::yes_is_solution;
 use plan_io::{Shelf, Sink};
@@ -184,7 +184,10 @@ pub fn run<S: Shelf, O: Sink, E: Sink>(
     // promise.
     texts_are_read_one_way();
     yes_is_solution();
-    let mut world = world;
-    let mut monitors = monitors;
-    carry_out(alloc, words, shelf, out, err, &mut world, &mut monitors)
+    let mut handed = Handed {
+        words,
+        world,
+        monitors,
+    };
+    carry_out(alloc, &mut handed, shelf, out, err)
 }

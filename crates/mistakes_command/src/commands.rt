@@ -1,19 +1,15 @@
 //! From the words to the answer.
 
 ghost use Rattle.command_base.specs.Answers.{no_memory, refused};
-ghost use Rattle.command_base.specs.Faults.{IsQuietAt};
 ghost use Rattle.command_base.specs.Fetching.{FetchesBoth};
+ghost use Rattle.command_base.specs.Shelves.{KeepsShelf};
 ghost use Rattle.command_base.specs.Values.{answer_of};
 ghost use Rattle.mistakes_command.specs.Mistakes.{IsMistakesAnswer};
 ghost use Rattle.mistakes_command.specs.Runs.{HasMistakesCause};
 ghost use Rattle.mistakes_command.specs.Values.{mistakes_words_of};
-ghost use Rattle.mistakes_command.specs.Words.{
-  AskNothing,
-  MistakesWords as AskedMistakes,
-  SaysMistakes,
-};
+ghost use Rattle.mistakes_command.specs.Words.{AskNothing, MistakesWords as AskedMistakes, SaysMistakes};
 ghost use Rattle.plan_io.specs.Fetches.{FailedLast, FetchesNothing};
-ghost use Rattle.std.specs.Prelude.{◌≡◌, ◌≤◌, ◌⊎◌, List, map, string_bytes, ℕ};
+ghost use Rattle.std.specs.Prelude.{◌≡◌, ◌⊎◌, map, string_bytes};
 
 use crate::files::read_texts;
 use crate::found::shown;
@@ -34,9 +30,7 @@ pub(crate) fn answer<S: Shelf>(
         → FetchesBoth (S.held shelf.old) S.fetched asked.names.domain asked.names.problem
         FetchesNothing shelf.old shelf.new }
     ensures no_fetch { AskNothing (map string_bytes words.now) → shelf.new ≡ shelf.old }
-    ensures quiet_at { IsQuietAt (answer_of result) (S.faults shelf.old) (S.faults shelf.new) }
-    ensures kept { (file : List ℕ) → S.held shelf.new file ≡ S.held shelf.old file }
-    ensures later { S.faults shelf.old ≤ S.faults shelf.new }
+    ensures shelf { KeepsShelf S.held S.faults (answer_of result) shelf.old shelf.new }
 {
     match read_words(words) {
         Some(asked) => mistakes_in_files(alloc, shelf, &asked),
@@ -56,9 +50,7 @@ fn mistakes_in_files<S: Shelf>(
         (answer_of result) }
     ensures fetches { FetchesBoth (S.held shelf.old) S.fetched asked.now.names.domain.now
         asked.now.names.problem.now FetchesNothing shelf.old shelf.new }
-    ensures quiet_at { IsQuietAt (answer_of result) (S.faults shelf.old) (S.faults shelf.new) }
-    ensures kept { (file : List ℕ) → S.held shelf.new file ≡ S.held shelf.old file }
-    ensures later { S.faults shelf.old ≤ S.faults shelf.new }
+    ensures shelf { KeepsShelf S.held S.faults (answer_of result) shelf.old shelf.new }
 {
     let read = read_texts(alloc, shelf, &asked.names)?;
     shown(alloc, asked, &read)

@@ -1,10 +1,10 @@
 //! The two files, read with their texts.
 
 ghost use Rattle.command_base.specs.Answers.{no_memory, refused};
-ghost use Rattle.command_base.specs.Faults.{IsQuietAt};
 ghost use Rattle.command_base.specs.Fetching.{FetchesBoth, RefusesBoth};
 ghost use Rattle.command_base.specs.PddlTexts.{IsFaultyDomain};
 ghost use Rattle.command_base.specs.Reading.{Holds, IsFile, IsRefusedFile};
+ghost use Rattle.command_base.specs.Shelves.{ReadsShelf};
 ghost use Rattle.command_base.specs.Values.{refusal_of};
 ghost use Rattle.domain_read.specs.Domains.{SpellsDomain};
 ghost use Rattle.mistake_notices.specs.Values.{names_value};
@@ -15,7 +15,7 @@ ghost use Rattle.pddl_ast.specs.Values.{domain_value, problem_value};
 ghost use Rattle.pddl_domain.specs.WordNames.{HasWordNames};
 ghost use Rattle.pddl_system.specs.Names.{NamesAreWords};
 ghost use Rattle.plan_io.specs.Fetches.{FailedLast, Fetches, FetchesNothing};
-ghost use Rattle.std.specs.Prelude.{◌≡◌, ◌≤◌, ◌⊎◌, [], ◌∷◌, IfErr, IfOk, List, OnOk, ℕ};
+ghost use Rattle.std.specs.Prelude.{◌≡◌, ◌⊎◌, [], ◌∷◌, IfErr, IfOk, OnOk};
 
 use command_base::{Refusal, domain_in, fetch, problem_in};
 use mistake_notices::FileNames;
@@ -54,12 +54,7 @@ fn read_domain_file<S: Shelf>(
         IfErr result (λ refusal. (refusal_of refusal ≡ no_memory)
         ⊎ IsRefusedFile (S.held shelf.old) failed IsFaultyDomain name.now (refusal_of refusal)) }
     ensures fetch { S.fetched shelf.old name.now shelf.new }
-    ensures quiet { OnOk result (S.faults shelf.new ≡ S.faults shelf.old) }
-    ensures quiet_at { IfErr result
-        (λ refusal. IsQuietAt (refused (refusal_of refusal)) (S.faults shelf.old)
-        (S.faults shelf.new)) }
-    ensures kept { (file : List ℕ) → S.held shelf.new file ≡ S.held shelf.old file }
-    ensures later { S.faults shelf.old ≤ S.faults shelf.new }
+    ensures shelf { ReadsShelf S.held S.faults result shelf.old shelf.new }
 {
     let text = fetch(alloc, shelf, name)?;
     let domain = domain_in(alloc, name, &text)?;
@@ -88,12 +83,7 @@ fn fetch_both<S: Shelf>(
         names.now.problem.now FetchesNothing shelf.old shelf.new }
     ensures fetched { OnOk result (Fetches S.fetched
         (names.now.domain.now ∷ names.now.problem.now ∷ []) shelf.old shelf.new) }
-    ensures quiet { OnOk result (S.faults shelf.new ≡ S.faults shelf.old) }
-    ensures quiet_at { IfErr result
-        (λ refusal. IsQuietAt (refused (refusal_of refusal)) (S.faults shelf.old)
-        (S.faults shelf.new)) }
-    ensures kept { (file : List ℕ) → S.held shelf.new file ≡ S.held shelf.old file }
-    ensures later { S.faults shelf.old ≤ S.faults shelf.new }
+    ensures shelf { ReadsShelf S.held S.faults result shelf.old shelf.new }
 {
     let domain = read_domain_file(alloc, shelf, names.domain)?;
     let bytes = fetch(alloc, shelf, names.problem)?;
@@ -118,12 +108,7 @@ pub(crate) fn read_texts<S: Shelf>(
         names.now.problem.now (refused (refusal_of refusal))) }
     ensures fetches { FetchesBoth (S.held shelf.old) S.fetched names.now.domain.now
         names.now.problem.now FetchesNothing shelf.old shelf.new }
-    ensures quiet { OnOk result (S.faults shelf.new ≡ S.faults shelf.old) }
-    ensures quiet_at { IfErr result
-        (λ refusal. IsQuietAt (refused (refusal_of refusal)) (S.faults shelf.old)
-        (S.faults shelf.new)) }
-    ensures kept { (file : List ℕ) → S.held shelf.new file ≡ S.held shelf.old file }
-    ensures later { S.faults shelf.old ≤ S.faults shelf.new }
+    ensures shelf { ReadsShelf S.held S.faults result shelf.old shelf.new }
 {
     // This does nothing: `names` rests on what it promises.
     read_names_are_words();

@@ -1,36 +1,17 @@
 //! From the words to the answer.
 
 ghost use Rattle.command_base.specs.Answers.{no_memory, refused};
-ghost use Rattle.command_base.specs.Faults.{IsQuietAt};
 ghost use Rattle.command_base.specs.Fetching.{HoldsSomePlan, RefusesPlan, Stops};
 ghost use Rattle.command_base.specs.Grounding.{GroundThen};
+ghost use Rattle.command_base.specs.Shelves.{KeepsShelf};
 ghost use Rattle.command_base.specs.Values.{answer_of, refusal_of};
 ghost use Rattle.pddl_ast.specs.Fits.{FitsDomain, FitsProblem};
 ghost use Rattle.pddl_ast.specs.Values.{domain_value, problem_value};
 ghost use Rattle.pddl_system.specs.Names.{NamesAreWords};
 ghost use Rattle.pddl_system.specs.Sizes.{first_passed};
-ghost use Rattle.pddl_system.specs.Systems.{
-  action_names as names_of_actions,
-  fluent_names as names_of_fluents,
-};
+ghost use Rattle.pddl_system.specs.Systems.{action_names as names_of_actions, fluent_names as names_of_fluents};
 ghost use Rattle.picture_plan.specs.Fetching.{FetchPlan, FetchesRun, FetchesToPicture};
-ghost use Rattle.picture_plan.specs.Pictures.{
-  DrawnOf,
-  ExplanationThen,
-  IsLongFor,
-  IsPictureAnswer,
-  IsPictured,
-  IsStray,
-  RunThen,
-  ShowsEdges,
-  ShowsText,
-  TaskThen,
-  edges_of as edges_of_shown,
-  edges_told,
-  file_of as file_of_form,
-  most_for,
-  shown_text as text_of,
-};
+ghost use Rattle.picture_plan.specs.Pictures.{DrawnOf, ExplanationThen, IsLongFor, IsPictureAnswer, IsPictured, IsStray, RunThen, ShowsEdges, ShowsText, TaskThen, edges_of as edges_of_shown, edges_told, file_of as file_of_form, most_for, shown_text as text_of};
 ghost use Rattle.picture_plan.specs.Runs.{HasPictureCause};
 ghost use Rattle.picture_plan.specs.Values.{form_value, picture_words_of};
 ghost use Rattle.picture_plan.specs.Words.{AskNothing, PictureWords as AskedPicture, SaysPicture};
@@ -43,32 +24,8 @@ ghost use Rattle.plan_rules.specs.Plans.{IsPlanOf};
 ghost use Rattle.plan_rules.specs.Rules.{plain_of};
 ghost use Rattle.rule_picture.specs.Texts.{rules_text as text_by_rules};
 ghost use Rattle.std.specs.Option.{option_map};
-ghost use Rattle.std.specs.Prelude.{
-  ◌≡◌,
-  ◌≤◌,
-  ◌<◌,
-  ◌⊎◌,
-  ◌↔◌,
-  ◌∷◌,
-  [],
-  None,
-  IfOk,
-  IsErrOf,
-  IsTrue,
-  List,
-  OnOk,
-  length,
-  map,
-  string_bytes,
-  ℕ,
-};
-ghost use Rattle.task_core.specs.Tasks.{
-  action_count,
-  action_names,
-  fluent_count,
-  fluent_names,
-  system_of,
-};
+ghost use Rattle.std.specs.Prelude.{◌≡◌, ◌≤◌, ◌<◌, ◌⊎◌, ◌↔◌, ◌∷◌, [], None, IfOk, IsErrOf, IsTrue, OnOk, length, map, string_bytes};
+ghost use Rattle.task_core.specs.Tasks.{action_count, action_names, fluent_count, fluent_names, system_of};
 
 use crate::run_files::read_explanation_file;
 use crate::words::{PictureForm, PictureWords, read_words};
@@ -102,9 +59,7 @@ pub(crate) fn answer<S: Shelf>(
         → FetchesToPicture (S.held shelf.old) failed S.fetched asked (answer_of result)
         shelf.old shelf.new }
     ensures no_fetch { AskNothing (map string_bytes words.now) → shelf.new ≡ shelf.old }
-    ensures quiet_at { IsQuietAt (answer_of result) (S.faults shelf.old) (S.faults shelf.new) }
-    ensures kept { (file : List ℕ) → S.held shelf.new file ≡ S.held shelf.old file }
-    ensures later { S.faults shelf.old ≤ S.faults shelf.new }
+    ensures shelf { KeepsShelf S.held S.faults (answer_of result) shelf.old shelf.new }
 {
     match read_words(words) {
         Some(asked) => picture_files(alloc, shelf, &asked),
@@ -125,9 +80,7 @@ fn picture_files<S: Shelf>(
     ensures fetches { let failed = FailedLast S.fetched S.faults shelf.old shelf.new in
         FetchesToPicture (S.held shelf.old) failed S.fetched (picture_words_of asked.now)
         (answer_of result) shelf.old shelf.new }
-    ensures quiet_at { IsQuietAt (answer_of result) (S.faults shelf.old) (S.faults shelf.new) }
-    ensures kept { (file : List ℕ) → S.held shelf.new file ≡ S.held shelf.old file }
-    ensures later { S.faults shelf.old ≤ S.faults shelf.new }
+    ensures shelf { KeepsShelf S.held S.faults (answer_of result) shelf.old shelf.new }
 {
     let (domain, problem) = read_both(alloc, shelf, asked.domain, asked.problem)?;
     picture_problem(alloc, shelf, asked, &domain, &problem)
@@ -160,9 +113,7 @@ fn picture_problem<S: Shelf>(
         (RefusesPlan (S.held shelf.old) failed fluents actions asked.now.plan.now)
         (HoldsSomePlan (S.held shelf.old) fluents actions asked.now.plan.now)
         (answer_of result) shelf.old shelf.new) }
-    ensures quiet_at { IsQuietAt (answer_of result) (S.faults shelf.old) (S.faults shelf.new) }
-    ensures kept { (file : List ℕ) → S.held shelf.new file ≡ S.held shelf.old file }
-    ensures later { S.faults shelf.old ≤ S.faults shelf.new }
+    ensures shelf { KeepsShelf S.held S.faults (answer_of result) shelf.old shelf.new }
 {
     let task = grounded(alloc, domain, problem)?;
     picture_task(alloc, shelf, asked, problem, &task)
@@ -186,9 +137,7 @@ fn picture_task<S: Shelf>(
         asked.now.plan.now)
         (HoldsSomePlan (S.held shelf.old) (fluent_names task.now) (action_names task.now)
         asked.now.plan.now) (answer_of result) shelf.old shelf.new }
-    ensures quiet_at { IsQuietAt (answer_of result) (S.faults shelf.old) (S.faults shelf.new) }
-    ensures kept { (file : List ℕ) → S.held shelf.new file ≡ S.held shelf.old file }
-    ensures later { S.faults shelf.old ≤ S.faults shelf.new }
+    ensures shelf { KeepsShelf S.held S.faults (answer_of result) shelf.old shelf.new }
 {
     let read = read_plan_file(alloc, shelf, asked.plan, task)?;
     let wanted = Wanted {
@@ -222,9 +171,7 @@ fn picture_plan<S: Shelf>(
         (DrawnOf (picture_words_of asked.now) (problem_value wanted.now.problem.now)
         wanted.now.task.now (plain_of wanted.now.plan.now)) (answer_of result) }
     ensures fetches { FetchesRun S.fetched (form_value asked.now.form) shelf.old shelf.new }
-    ensures quiet_at { IsQuietAt (answer_of result) (S.faults shelf.old) (S.faults shelf.new) }
-    ensures kept { (file : List ℕ) → S.held shelf.new file ≡ S.held shelf.old file }
-    ensures later { S.faults shelf.old ≤ S.faults shelf.new }
+    ensures shelf { KeepsShelf S.held S.faults (answer_of result) shelf.old shelf.new }
 {
     match asked.form {
         PictureForm::Graph => drawn(alloc, asked, wanted, None),
@@ -251,9 +198,7 @@ fn explained<S: Shelf>(
         (DrawnOf (picture_words_of asked.now) (problem_value wanted.now.problem.now)
         wanted.now.task.now (plain_of wanted.now.plan.now)) (answer_of result) }
     ensures fetches { Fetches S.fetched (file.now ∷ []) shelf.old shelf.new }
-    ensures quiet_at { IsQuietAt (answer_of result) (S.faults shelf.old) (S.faults shelf.new) }
-    ensures kept { (file : List ℕ) → S.held shelf.new file ≡ S.held shelf.old file }
-    ensures later { S.faults shelf.old ≤ S.faults shelf.new }
+    ensures shelf { KeepsShelf S.held S.faults (answer_of result) shelf.old shelf.new }
 {
     let explanation = read_explanation_file(alloc, shelf, file)?;
     drawn(alloc, asked, wanted, Some(&explanation))

@@ -1,14 +1,14 @@
 //! Reading an explanation out of its file.
 
-ghost use Rattle.command_base.specs.Answers.{no_memory, refused};
-ghost use Rattle.command_base.specs.Faults.{IsQuietAt};
+ghost use Rattle.command_base.specs.Answers.{no_memory};
 ghost use Rattle.command_base.specs.Reading.{Holds, IsRefusedFile};
+ghost use Rattle.command_base.specs.Shelves.{ReadsShelf};
 ghost use Rattle.command_base.specs.Values.{refusal_of};
 ghost use Rattle.picture_plan.specs.Pictures.{IsFaultyExplanation};
 ghost use Rattle.plan_page.specs.ExplanationValues.{explanation_value};
 ghost use Rattle.plan_page.specs.Explanations.{TellsExplanation};
 ghost use Rattle.plan_io.specs.Fetches.{FailedLast};
-ghost use Rattle.std.specs.Prelude.{◌≡◌, ◌≤◌, ◌⊎◌, IfErr, IfOk, List, OnOk, ℕ};
+ghost use Rattle.std.specs.Prelude.{◌≡◌, ◌⊎◌, IfErr, IfOk};
 
 use command_base::{Refusal, fetch, misread};
 use plan_io::Shelf;
@@ -27,12 +27,7 @@ pub(crate) fn read_explanation_file<S: Shelf>(
         IfErr result (λ refusal. (refusal_of refusal ≡ no_memory)
         ⊎ IsRefusedFile (S.held shelf.old) failed IsFaultyExplanation name.now (refusal_of refusal)) }
     ensures fetch { S.fetched shelf.old name.now shelf.new }
-    ensures quiet { OnOk result (S.faults shelf.new ≡ S.faults shelf.old) }
-    ensures quiet_at { IfErr result
-        (λ refusal. IsQuietAt (refused (refusal_of refusal)) (S.faults shelf.old)
-        (S.faults shelf.new)) }
-    ensures kept { (file : List ℕ) → S.held shelf.new file ≡ S.held shelf.old file }
-    ensures later { S.faults shelf.old ≤ S.faults shelf.new }
+    ensures shelf { ReadsShelf S.held S.faults result shelf.old shelf.new }
 {
     let bytes = fetch(alloc, shelf, name)?;
     match read_explanation(alloc, &bytes) {

@@ -1,27 +1,27 @@
 -- The answer for a plan that was found, for a system and names that are equal, and for what was
 -- read.
-use Rattle.std.proofs.Common.{◌≡◌, ◌≢◌, ◌⊎◌, ℕ, List, [], Contains, subst, sym, ap, ◌∙◌, inl, inr, refl, None, IsSome, All, Bool, true, false, ◌++◌}
+use Rattle.std.proofs.Common.{◌≡◌, ◌≢◌, ◌⊎◌, ℕ, List, [], Contains, subst, sym, ap, ◌∙◌, inl, inr, refl, None, IsSome, Bool, true, false, ◌++◌}
 use Rattle.std.specs.Prelude.{IfOk, Result, Ok, Err}
 use Rattle.dd_sets.specs.declared.errors.SetErr.{SetErr}
-use Rattle.plan_theory.specs.Found.{IfNoPlan, IfPlan}
+use Rattle.plan_theory.specs.Found.{IsPlannersAnswer}
+use Rattle.plan_theory.specs.PrintedRules.{ArePrintedRules}
 use Rattle.plan_theory.specs.declared.answers.Found.{Found}
 use Rattle.plan_theory.specs.declared.answers.Found.TheVariants.{NoPlan, Plan}
-use Rattle.plan_rules.specs.Plans.{IsRuleOf}
 use Rattle.pddl_ast.specs.Trees.{DomainTree, ProblemTree}
 use Rattle.pddl_system.specs.Systems.{action_names, fluent_names, system}
 use Rattle.pddl_system.specs.Sizes.{first_passed}
-use Rattle.task_core.specs.Tasks.{action_count, fluent_count, action_names as names_of_actions, fluent_names as names_of_fluents, initial_states, system_of}
+use Rattle.task_core.specs.Tasks.{action_names as names_of_actions, fluent_names as names_of_fluents, initial_states, system_of}
 use Rattle.task_core.specs.declared.tasks.Task.{Task}
 use Rattle.task_core.specs.Systems.{IsSystem, System}
 use Rattle.task_core.specs.Tables.{IsTable, Table}
 use Rattle.task_core.specs.Vectors.{Vector}
-use Rattle.task_core.specs.Solutions.{HasNoSolution, IsSolution, IsStrongSolution}
+use Rattle.task_core.specs.Solutions.{HasNoSolution, IsStrongSolution}
 use Rattle.plan_certs.specs.Named.{plain_certificate}
 use Rattle.plan_certs.specs.Readings.{SpellsPlain as SpellsCertificate}
 use Rattle.plan_certs.specs.Texts.{certificate_text}
 use Rattle.plan_certs.specs.declared.certificates.Certificate.{Certificate}
 use Rattle.plan_io.specs.Held.{Held}
-use Rattle.plan_rules.specs.Denoted.{denoted, IsExecutable}
+use Rattle.plan_rules.specs.Denoted.{denoted}
 use Rattle.plan_rules.specs.Readings.{SpellsTable}
 use Rattle.plan_rules.specs.Rules.{PlanRule, rules_of}
 use Rattle.plan_rules.specs.Texts.{table_text}
@@ -41,7 +41,7 @@ use Rattle.command_base.specs.Grounded.{IsTaskOf}
 use Rattle.command_base.specs.Grounding.{has_goal_for}
 use Rattle.command_base.specs.InitialStates.{empty_init}
 use Rattle.command_base.specs.PddlTexts.{HoldBoth, ReadBoth}
-use Rattle.plan_command.specs.PlanCommand.{ArePrintedRules, IsPlanAnswer, IsPlanned, IsResultOf, IsShortest, MayBeTooFew, PlanThen, is_sought, no_plan_text}
+use Rattle.plan_command.specs.PlanCommand.{IsPlanAnswer, IsPlanned, IsResultOf, IsShortest, MayBeTooFew, PlanThen, is_sought, no_plan_text}
 use Rattle.command_base.specs.Words.{Bytes, PlanKind, PlanWords, of_class}
 use Rattle.command_base.proofs.TaskNames.{same_actions, same_fluents}
 use Rattle.plan_command.proofs.Meetings.{followed, of_system}
@@ -58,14 +58,14 @@ plan_is_result certified class t system p text found spelled is =
       text = text;
       shown = refl;
       rules = rules_of p;
-      spelled = subst (λ (k : Class). SpellsTable fluents actions text k (rules_of p)) found.of_class spelled;
-      table = found.table;
-      solves = found.solves;
-      executable = found.executable;
-      followed = followed (system_of t) (rules_of p) system found.executable;
+      spelled = subst (λ (k : Class). SpellsTable fluents actions text k (rules_of p)) found.answer.of_class spelled;
+      table = found.answer.table;
+      solves = found.answer.solves;
+      executable = found.answer.executable;
+      followed = followed (system_of t) (rules_of p) system found.answer.executable;
       shortest = found.shortest;
-      printed = found.printed;
-      written = is ∙ ap (λ k. table_text fluents actions k (rules_of p)) found.of_class;
+      printed = found.answer.printed;
+      written = is ∙ ap (λ k. table_text fluents actions k (rules_of p)) found.answer.of_class;
     })
 
 same_result : (certified : Bool) (class : Class) (sys sys' : System) (fluents fluents' actions actions' : List Name) (answer : Answer) → sys ≡ sys' → fluents ≡ fluents' → actions ≡ actions'
@@ -139,7 +139,7 @@ certificate_is_result class t certificate text found spelled is = inr (record {
   text = text;
   shown = refl;
   none = found.none;
-  written = record { certificate = plain_certificate certificate; printed = found.printed; spelled = spelled; written = is };
+  written = record { certificate = plain_certificate certificate; printed = found.answer.printed; spelled = spelled; written = is };
 })
 
 -- or without it
@@ -165,24 +165,10 @@ before_plan held failed asked a (inr read) = inr (inr read)
 -- what a planner found, with what the law of shortest plans says of it
 pub found_plan : (class : Class) (t : Task) (r : Result Found SetErr)
     → ((rules : List PlanRule) → ArePrintedRules class (system_of t) rules → IsShortest class (system_of t) (denoted (system_of t) rules))
-    → IfOk r (λ found. IfPlan found (λ plan. plan.class ≡ class))
-    → IfOk r (λ found. IfPlan found (λ plan. ArePrintedRules class (system_of t) (rules_of plan)))
-    → IfOk r (λ found. IfPlan found (λ plan. All (IsRuleOf (fluent_count t) (action_count t)) (rules_of plan)))
-    → IfOk r (λ found. IfPlan found (λ plan. IsTable (system_of t) (denoted (system_of t) (rules_of plan))))
-    → IfOk r (λ found. IfPlan found (λ plan. IsSolution class (system_of t) (denoted (system_of t) (rules_of plan))))
-    → IfOk r (λ found. IfPlan found (λ plan. IsExecutable (system_of t) (rules_of plan)))
-    → IfOk r (λ found. IfNoPlan found (HasNoSolution class (system_of t))) → IsSearched class t r
-found_plan class t (Err e) shortest is_class printed in_task table solves executable none = tt
-found_plan class t (Ok NoPlan) shortest is_class printed in_task table solves executable none = none
-found_plan class t (Ok (Plan p)) shortest is_class printed in_task table solves executable none = record {
-  of_class = is_class;
-  in_task = in_task;
-  printed = printed;
-  table = table;
-  solves = solves;
-  executable = executable;
-  shortest = shortest (rules_of p) printed;
-}
+    → IfOk r (IsPlannersAnswer class t) → IsSearched class t r
+found_plan class t (Err e) shortest answer = tt
+found_plan class t (Ok NoPlan) shortest answer = answer
+found_plan class t (Ok (Plan p)) shortest answer = record { answer = answer; shortest = shortest (rules_of p) answer.printed }
 
 -- once the goal and the limits are found to be as they are wanted, what follows is the answer
 pub planned_then : (asked : PlanWords) (d : DomainTree) (p : ProblemTree) (a : Answer) → has_goal_for asked.kind p ≡ true → first_passed d p ≡ None

@@ -22,7 +22,8 @@ use Rattle.plan_command.specs.GoalSets.{goal_sets}
 use Rattle.command_base.specs.Grounding.{GroundThen}
 use Rattle.command_base.specs.PddlTexts.{ReadBoth}
 use Rattle.command_base.specs.InitialStates.{empty_init}
-use Rattle.plan_command.specs.PlanCommand.{ArePrintedRules, AreRulesOfLayers, IsPrintedPlan, IsPrintedText, IsNoTableText, IsPlanResult, IsPlanned, IsResultFrom, IsResultOf, PlanThen, no_plan_text, text_for}
+use Rattle.plan_theory.specs.PrintedRules.{ArePrintedRules, AreRulesOfLayers}
+use Rattle.plan_command.specs.PlanCommand.{IsPrintedPlan, IsPrintedText, IsNoTableText, IsPlanResult, IsPlanned, IsResultFrom, IsResultOf, PlanThen, no_plan_text, text_for}
 use Rattle.command_base.specs.Words.{Bytes, PlanKind, PlanWords, of_class, with_contexts}
 use Rattle.command_base.proofs.Deciding.{Decides}
 use Rattle.command_base.proofs.Initials.{initial_decides}

@@ -1,5 +1,5 @@
 -- Private: what is known of what a search for a plan of a task found.
-use Rattle.std.specs.Prelude.{◌≡◌, ◌≢◌, ◌⊎◌, ⊤, All, Bool, true, false, List, [], Option, Some}
+use Rattle.std.specs.Prelude.{◌≡◌, ◌≢◌, ◌⊎◌, ⊤, Bool, true, false, List, [], Option, Some}
 use Rattle.std.specs.Prelude.{None, Result, Ok, Err}
 use Rattle.dd_sets.specs.declared.errors.SetErr.{SetErr}
 use Rattle.plan_certs.specs.Named.{IsCertificateOf, plain_certificate}
@@ -7,22 +7,23 @@ use Rattle.plan_certs.specs.Printed.{IsPrinted}
 use Rattle.plan_certs.specs.declared.certificates.Certificate.{Certificate}
 use Rattle.plan_check.specs.Verdicts.{CanFollowRules}
 use Rattle.plan_rules.specs.Denoted.{denoted, IsExecutable}
-use Rattle.plan_rules.specs.Plans.{IsRuleOf}
 use Rattle.plan_rules.specs.Readings.{SpellsTable}
 use Rattle.plan_rules.specs.Rules.{PlanRule, rules_of}
 use Rattle.plan_rules.specs.Texts.{table_text}
 use Rattle.plan_rules.specs.declared.rules.TablePlan.{TablePlan}
+use Rattle.plan_theory.specs.Found.{IsPlanOfClass}
+use Rattle.plan_theory.specs.PrintedRules.{ArePrintedRules}
 use Rattle.plan_theory.specs.declared.answers.Found.{Found}
 use Rattle.plan_theory.specs.declared.answers.Found.TheVariants.{NoPlan, Plan}
 use Rattle.task_core.specs.Names.{Name}
 use Rattle.task_core.specs.Solutions.{HasNoSolution, IsSolution}
 use Rattle.task_core.specs.Systems.{System}
 use Rattle.task_core.specs.Tables.{IsTable, Table}
-use Rattle.task_core.specs.Tasks.{action_count, fluent_count, initial_states, system_of}
+use Rattle.task_core.specs.Tasks.{fluent_count, initial_states, system_of}
 use Rattle.task_core.specs.declared.classes.Class.{Class}
 use Rattle.task_core.specs.declared.tasks.Task.{Task}
 use Rattle.command_base.specs.Answers.{Answer, affirmed, denied}
-use Rattle.plan_command.specs.PlanCommand.{ArePrintedRules, IsNoTableText, IsShortest}
+use Rattle.plan_command.specs.PlanCommand.{IsNoTableText, IsShortest}
 use Rattle.command_base.specs.Words.{Bytes}
 use Rattle.plan_command.specs.declared.class_search.Sought.{Sought}
 use Rattle.plan_command.specs.declared.class_search.Sought.TheVariants.{Certified, Missing}
@@ -30,12 +31,7 @@ use Rattle.plan_command.specs.declared.class_search.Sought.TheVariants.{Table as
 
 -- the plan is the one that is printed, and a solution; a weak or a strong one is a shortest
 pub record IsFoundPlan (class : Class) (task : Task) (plan : TablePlan) : Type 0 where
-  pub of_class : plan.class ≡ class
-  pub in_task : All (IsRuleOf (fluent_count task) (action_count task)) (rules_of plan)
-  pub printed : ArePrintedRules class (system_of task) (rules_of plan)
-  pub table : IsTable (system_of task) (denoted (system_of task) (rules_of plan))
-  pub solves : IsSolution class (system_of task) (denoted (system_of task) (rules_of plan))
-  pub executable : IsExecutable (system_of task) (rules_of plan)
+  pub answer : IsPlanOfClass class task plan
   pub shortest : IsShortest class (system_of task) (denoted (system_of task) (rules_of plan))
 
 -- what a search for a plan of the class found: such a plan, or that there is none

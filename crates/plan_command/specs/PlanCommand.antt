@@ -19,11 +19,7 @@ use Rattle.task_core.specs.Names.{Name}
 use Rattle.task_core.specs.declared.classes.Class.{Class}
 use Rattle.task_core.specs.declared.classes.Class.TheVariants.{Weak, Strong, Cyclic}
 use Rattle.plan_theory.specs.Bounds.{PathsAreWithin, ReachesGoalWithin}
-use Rattle.plan_theory.specs.Layers.{IsLastLayer}
-use Rattle.plan_theory.specs.LayerPlans.{printed_rules}
-use Rattle.plan_theory.specs.LargestSets.{IsLargestSet}
-use Rattle.plan_theory.specs.Pairs.{Pairs}
-use Rattle.plan_theory.specs.CyclicPlans.{cyclic_rules}
+use Rattle.plan_theory.specs.PrintedRules.{ArePrintedRules}
 use Rattle.task_core.specs.Solutions.{IsStrongSolution}
 use Rattle.task_core.specs.Systems.{System}
 use Rattle.task_core.specs.Tables.{IsTable, Table}
@@ -83,24 +79,6 @@ pub record IsShortestText (class : Class) (sys : System) (fluents actions : List
   pub rules : List PlanRule
   pub spelled : SpellsTable fluents actions text class rules
   pub shortest : IsShortest class sys (denoted sys rules)
-
--- the rules are those of the layers from the goal up to the first that holds every initial state
-abbrev pub AreRulesOfLayers : Class → System → List PlanRule → Type 0
-AreRulesOfLayers class sys rules =
-    (last : ℕ) × IsLastLayer class sys last × (rules ≡ printed_rules class sys last)
-
--- the rules are those of the largest set of pairs of a state and an action from which the goal is
--- always still reached: for each state the least-numbered action of its pairs that leads a step
--- nearer to the goal
-abbrev pub AreRulesOfPairs : System → List PlanRule → Type 0
-AreRulesOfPairs sys rules =
-    (pairs : Pairs) × IsLargestSet sys pairs × (rules ≡ cyclic_rules sys pairs)
-
--- the rules are those that are printed, by the class
-abbrev pub ArePrintedRules : Class → System → List PlanRule → Type 0
-ArePrintedRules Weak sys rules = AreRulesOfLayers Weak sys rules
-ArePrintedRules Strong sys rules = AreRulesOfLayers Strong sys rules
-ArePrintedRules Cyclic sys rules = AreRulesOfPairs sys rules
 
 -- the text is the one that is printed
 pub record IsPrintedText (class : Class) (sys : System) (fluents actions : List Name)

@@ -1,9 +1,9 @@
 //! The command `plan`.
 
 ghost use Rattle.command_base.specs.Answers.{full, no_memory, refused};
-ghost use Rattle.command_base.specs.Faults.{IsQuietAt};
 ghost use Rattle.command_base.specs.Grounded.{IsGroundedOf, IsTaskOf};
 ghost use Rattle.command_base.specs.Grounding.{has_goal_for};
+ghost use Rattle.command_base.specs.Shelves.{KeepsShelf};
 ghost use Rattle.command_base.specs.Values.{answer_of, bytes_of, kind_of, plan_words_of, shown_of};
 ghost use Rattle.command_base.specs.Words.{IsNodeLimit, of_class};
 ghost use Rattle.pddl_ast.specs.Fits.{FitsDomain, FitsProblem};
@@ -14,41 +14,12 @@ ghost use Rattle.plan_certs.specs.Readings.{SpellsPlain as SpellsCertificate};
 ghost use Rattle.plan_certs.specs.Texts.{certificate_text};
 ghost use Rattle.plan_command.specs.Enough.{IsTightForClass};
 ghost use Rattle.plan_command.specs.FoundPlans.{IsTableResult};
-ghost use Rattle.plan_command.specs.PlanCommand.{
-  FetchesToPlan,
-  IsPlanAnswer,
-  IsPlanned,
-  MayBeTooFew,
-  PlanThen,
-  no_plan_text,
-};
+ghost use Rattle.plan_command.specs.PlanCommand.{FetchesToPlan, IsPlanAnswer, IsPlanned, MayBeTooFew, PlanThen, no_plan_text};
 ghost use Rattle.plan_io.specs.Fetches.{FailedLast};
 ghost use Rattle.plan_rules.specs.Plans.{IsPlanOf, plan_text};
 ghost use Rattle.plan_rules.specs.Readings.{SpellsPlan};
-ghost use Rattle.std.specs.Prelude.{
-  ◌≡◌,
-  ◌≢◌,
-  ◌≤◌,
-  ◌⊎◌,
-  ◌++◌,
-  [],
-  IfOk,
-  IfSome,
-  IsErrOf,
-  IsSome,
-  List,
-  None,
-  length,
-  true,
-  ℕ,
-};
-ghost use Rattle.task_core.specs.Tasks.{
-  action_names,
-  fluent_count,
-  fluent_names,
-  initial_states,
-  system_of,
-};
+ghost use Rattle.std.specs.Prelude.{◌≡◌, ◌≢◌, ◌⊎◌, ◌++◌, [], IfOk, IfSome, IsErrOf, IsSome, None, length, true};
+ghost use Rattle.task_core.specs.Tasks.{action_names, fluent_count, fluent_names, initial_states, system_of};
 ghost use Rattle.task_sets.specs.FullTables.{IsTightToEncode};
 
 use crate::class_search::{ClassSearch, Sought, search_task};
@@ -86,9 +57,7 @@ pub fn plan_files<S: Shelf>(
     ensures fetches { let failed = FailedLast S.fetched S.faults shelf.old shelf.new in
         FetchesToPlan (S.held shelf.old) failed S.fetched (plan_words_of asked.now)
         (answer_of result) shelf.old shelf.new }
-    ensures quiet_at { IsQuietAt (answer_of result) (S.faults shelf.old) (S.faults shelf.new) }
-    ensures kept { (file : List ℕ) → S.held shelf.new file ≡ S.held shelf.old file }
-    ensures later { S.faults shelf.old ≤ S.faults shelf.new }
+    ensures shelf { KeepsShelf S.held S.faults (answer_of result) shelf.old shelf.new }
 {
     let (domain, problem) = read_both(alloc, shelf, asked.domain, asked.problem)?;
     plan_problem(alloc, asked, &domain, &problem)

@@ -7,6 +7,7 @@ pub mod Pairs
 pub mod LargestSets
 pub mod PairRounds
 pub mod CyclicPlans
+pub mod PrintedRules
 pub mod Safe
 pub mod StageSets
 pub mod GuardedSets

@@ -16,19 +16,22 @@ use Rattle.encode_task.specs.Made.{HoldsGoal, MadeOf}
 use Rattle.encode_task.specs.Slots.{Encoded}
 use Rattle.plan_rules.specs.Denoted.{denoted, IsExecutable}
 use Rattle.plan_rules.specs.Plans.{IsRuleOf}
-use Rattle.plan_rules.specs.Rules.{PlanRule}
+use Rattle.plan_rules.specs.Rules.{PlanRule, rules_of}
+use Rattle.plan_rules.specs.declared.rules.TablePlan.{TablePlan}
 use Rattle.slot_board.specs.Board.{At, Ends, HasNoRoom, Start, Working, set_at, slot_at}
 use Rattle.task_core.specs.Cubes.{cubes_of}
 use Rattle.task_core.specs.Solutions.{HasNoSolution, IsSolution}
 use Rattle.task_core.specs.Systems.{System}
-use Rattle.task_core.specs.Tables.{IsTable}
 use Rattle.task_core.specs.Tasks.{action_count, fluent_count, system_of}
 use Rattle.task_core.specs.Vectors.{value_of}
 use Rattle.task_core.specs.declared.classes.Class.{Class}
+use Rattle.task_core.specs.declared.classes.Class.TheVariants.{Cyclic, Strong, Weak}
 use Rattle.task_core.specs.declared.conditions.Cond.{Cond}
 use Rattle.task_core.specs.declared.tasks.Task.{Task}
 use Rattle.task_core.proofs.TaskSystem.{is_system}
 use Rattle.plan_theory.specs.Classes.{IsFoundByLayers}
+use Rattle.plan_theory.specs.Found.{IsPlanOfClass}
+use Rattle.plan_theory.specs.PrintedRules.{ArePrintedRules}
 use Rattle.plan_theory.specs.Layers.{IsLastLayer}
 use Rattle.plan_theory.specs.LayerPlans.{printed_rules, rules_of_action, takers}
 use Rattle.reach_plan.specs.Searches.{HasProgress, MayRetrace, SearchLeft}
@@ -62,22 +65,25 @@ not_none class by_layers task K last none =
     let sys = system_of task in
     none (denoted sys (printed_rules class sys K)) (denoted-table sys (is_system task) (printed_rules class sys K)) (solves_by_class class by_layers sys K (is_system task) last)
 
--- what the printed rules do
-pub record Solved (class : Class) (sys : System) (rules : List PlanRule) : Type 0 where
-  pub table : IsTable sys (denoted sys rules)
-  pub solves : IsSolution class sys (denoted sys rules)
-  pub executable : IsExecutable sys rules
-  pub within : All (IsRuleOf sys.fluents sys.actions) rules
+-- the rules of the layers are those that are printed of a class that is found by layers
+by_layers_printed : (class : Class) → IsFoundByLayers class → (sys : System) (K : ℕ) (rules : List PlanRule) → IsLastLayer class sys K → rules ≡ printed_rules class sys K → ArePrintedRules class sys rules
+by_layers_printed Weak by_layers sys K rules last is = (K, last, is)
+by_layers_printed Strong by_layers sys K rules last is = (K, last, is)
+by_layers_printed Cyclic by_layers sys K rules last is = absurd by_layers
 
-pub solved : (class : Class) → IsFoundByLayers class → (task : Task) (K : ℕ) (rules : List PlanRule) → IsLastLayer class (system_of task) K → rules ≡ printed_rules class (system_of task) K → Solved class (system_of task) rules
-solved class by_layers task K rules last is =
+-- and so a plan has them
+pub planned : (class : Class) → IsFoundByLayers class → (task : Task) (K : ℕ) (plan : TablePlan) → IsLastLayer class (system_of task) K → plan.class ≡ class → rules_of plan ≡ printed_rules class (system_of task) K → IsPlanOfClass class task plan
+planned class by_layers task K plan last of_class is =
     let sys = system_of task in
-    subst (Solved class sys) (sym is) (record {
-      table = denoted-table sys (is_system task) (printed_rules class sys K);
-      solves = solves_by_class class by_layers sys K (is_system task) last;
-      executable = printed_executable class sys K;
-      within = printed_within class sys K (IsRuleOf sys.fluents sys.actions) (λ cube a below lt. record { cube = below; action = lt });
-    })
+    record {
+      of_class = of_class;
+      printed = by_layers_printed class by_layers sys K (rules_of plan) last is;
+      in_task = subst (λ (rules : List PlanRule). All (IsRuleOf (fluent_count task) (action_count task)) rules) (sym is)
+          (printed_within class sys K (IsRuleOf (fluent_count task) (action_count task)) (λ cube a below lt. record { cube = below; action = lt }));
+      table = denoted-table sys (is_system task) (rules_of plan);
+      solves = subst (λ (rules : List PlanRule). IsSolution class sys (denoted sys rules)) (sym is) (solves_by_class class by_layers sys K (is_system task) last);
+      executable = subst (IsExecutable sys) (sym is) (printed_executable class sys K);
+    }
 
 -- the rules of the places' sets are the printed rules
 pub printed_by_places : (class : Class) (task : Task) (enc : Encoded) (slots : List SetId) → MadeOf task enc → (has : HoldTakers class task enc.sets slots) → flat_map (rules_of_place enc.sets slots) (range_with_len 0 (action_count task)) ≡ printed_rules class (system_of task) has.layers

@@ -1,21 +1,14 @@
 //! The weak and the strong planner, on sets of states.
 
-ghost use Rattle.std.specs.Prelude.{◌≡◌, ℕ, ◌+◌, [], All, IfOk, IsErrOf, IsSome};
+ghost use Rattle.std.specs.Prelude.{◌≡◌, ℕ, ◌+◌, [], IfOk, IsErrOf, IsSome};
 ghost use Rattle.dd_sets.specs.Frames.{Owns};
 ghost use Rattle.dd_sets.specs.Rooms.{NoRoom};
 ghost use Rattle.encode_task.specs.Made.{MadeOf};
-ghost use Rattle.plan_rules.specs.Denoted.{denoted, IsExecutable};
-ghost use Rattle.plan_rules.specs.Plans.{IsRuleOf};
-ghost use Rattle.plan_rules.specs.Rules.{rules_of};
-ghost use Rattle.task_core.specs.Solutions.{HasNoSolution, IsSolution};
-ghost use Rattle.task_core.specs.Tables.{IsTable};
-ghost use Rattle.task_core.specs.Tasks.{action_count, fluent_count, system_of};
+ghost use Rattle.task_core.specs.Tasks.{action_count};
 ghost use Rattle.task_core.specs.declared.classes.Class.TheVariants.{Strong, Weak};
 ghost use Rattle.task_core.specs.declared.tasks.Task.{Task};
 ghost use Rattle.plan_theory.specs.Classes.{IsFoundByLayers};
-ghost use Rattle.plan_theory.specs.Found.{IfNoPlan, IfPlan};
-ghost use Rattle.plan_theory.specs.Layers.{IsLastLayer};
-ghost use Rattle.plan_theory.specs.LayerPlans.{printed_rules};
+ghost use Rattle.plan_theory.specs.Found.{IsPlannersAnswer};
 ghost use Rattle.reach_plan.specs.WorkingSets.{BoundsReachSets};
 
 use crate::set_rules::write_rules;
@@ -42,22 +35,7 @@ use task_core::Task;
 pub fn plan_weak(alloc: Global, task: &Task, enc: &mut Enc) -> Result<Found, SetErr>
     requires made { MadeOf task.now enc.old }
     requires goal { IsSome task.now.goal }
-    ensures class { IfOk result (λ found. IfPlan found (λ plan. plan.class ≡ Weak)) }
-    ensures printed { let sys = system_of task.now in
-        IfOk result (λ found. IfPlan found (λ plan. (K : ℕ) × IsLastLayer Weak sys K
-        × (rules_of plan ≡ printed_rules Weak sys K))) }
-    ensures in_task { IfOk result
-        (λ found. IfPlan found
-        (λ plan. All (IsRuleOf (fluent_count task.now) (action_count task.now)) (rules_of plan))) }
-    ensures table { let sys = system_of task.now in
-        IfOk result (λ found. IfPlan found (λ plan. IsTable sys (denoted sys (rules_of plan)))) }
-    ensures solves { let sys = system_of task.now in
-        IfOk result (λ found. IfPlan found
-        (λ plan. IsSolution Weak sys (denoted sys (rules_of plan)))) }
-    ensures executable { let sys = system_of task.now in
-        IfOk result (λ found. IfPlan found (λ plan. IsExecutable sys (rules_of plan))) }
-    ensures no_plan { IfOk result
-        (λ found. IfNoPlan found (HasNoSolution Weak (system_of task.now))) }
+    ensures answer { IfOk result (IsPlannersAnswer Weak task.now) }
     ensures full { IsErrOf result SetErr.Full → (width : ℕ) → BoundsReachSets width Weak task.now
         → NoRoom width (action_count task.now + 24) 16 enc.old.sets enc.new.sets }
     ensures slots { Owns enc.old.sets enc.new.sets [] }
@@ -82,22 +60,7 @@ pub fn plan_weak(alloc: Global, task: &Task, enc: &mut Enc) -> Result<Found, Set
 pub fn plan_strong(alloc: Global, task: &Task, enc: &mut Enc) -> Result<Found, SetErr>
     requires made { MadeOf task.now enc.old }
     requires goal { IsSome task.now.goal }
-    ensures class { IfOk result (λ found. IfPlan found (λ plan. plan.class ≡ Strong)) }
-    ensures printed { let sys = system_of task.now in
-        IfOk result (λ found. IfPlan found (λ plan. (K : ℕ) × IsLastLayer Strong sys K
-        × (rules_of plan ≡ printed_rules Strong sys K))) }
-    ensures in_task { IfOk result
-        (λ found. IfPlan found
-        (λ plan. All (IsRuleOf (fluent_count task.now) (action_count task.now)) (rules_of plan))) }
-    ensures table { let sys = system_of task.now in
-        IfOk result (λ found. IfPlan found (λ plan. IsTable sys (denoted sys (rules_of plan)))) }
-    ensures solves { let sys = system_of task.now in
-        IfOk result (λ found. IfPlan found
-        (λ plan. IsSolution Strong sys (denoted sys (rules_of plan)))) }
-    ensures executable { let sys = system_of task.now in
-        IfOk result (λ found. IfPlan found (λ plan. IsExecutable sys (rules_of plan))) }
-    ensures no_plan { IfOk result
-        (λ found. IfNoPlan found (HasNoSolution Strong (system_of task.now))) }
+    ensures answer { IfOk result (IsPlannersAnswer Strong task.now) }
     ensures full { IsErrOf result SetErr.Full → (width : ℕ) → BoundsReachSets width Strong task.now
         → NoRoom width (action_count task.now + 24) 16 enc.old.sets enc.new.sets }
     ensures slots { Owns enc.old.sets enc.new.sets [] }
@@ -112,22 +75,7 @@ fn plan(alloc: Global, task: &Task, enc: &mut Enc, class: Class) -> Result<Found
     requires class { IsFoundByLayers class }
     requires made { MadeOf task.now enc.old }
     requires goal { IsSome task.now.goal }
-    ensures class { IfOk result (λ found. IfPlan found (λ plan. plan.class ≡ class)) }
-    ensures printed { let sys = system_of task.now in
-        IfOk result (λ found. IfPlan found (λ plan. (K : ℕ) × IsLastLayer class sys K
-        × (rules_of plan ≡ printed_rules class sys K))) }
-    ensures in_task { IfOk result
-        (λ found. IfPlan found
-        (λ plan. All (IsRuleOf (fluent_count task.now) (action_count task.now)) (rules_of plan))) }
-    ensures table { let sys = system_of task.now in
-        IfOk result (λ found. IfPlan found (λ plan. IsTable sys (denoted sys (rules_of plan)))) }
-    ensures solves { let sys = system_of task.now in
-        IfOk result (λ found. IfPlan found
-        (λ plan. IsSolution class sys (denoted sys (rules_of plan)))) }
-    ensures executable { let sys = system_of task.now in
-        IfOk result (λ found. IfPlan found (λ plan. IsExecutable sys (rules_of plan))) }
-    ensures no_plan { IfOk result
-        (λ found. IfNoPlan found (HasNoSolution class (system_of task.now))) }
+    ensures answer { IfOk result (IsPlannersAnswer class task.now) }
     ensures full { IsErrOf result SetErr.Full → (width : ℕ) → BoundsReachSets width class task.now
         → NoRoom width (action_count task.now + 24) 16 enc.old.sets enc.new.sets }
     ensures slots { Owns enc.old.sets enc.new.sets [] }

@@ -1,13 +1,13 @@
 //! Reading a certificate out of its file.
 
-ghost use Rattle.command_base.specs.Answers.{no_memory, refused};
-ghost use Rattle.command_base.specs.Faults.{IsQuietAt};
+ghost use Rattle.command_base.specs.Answers.{no_memory};
 ghost use Rattle.command_base.specs.Reading.{IsRefusedFile};
+ghost use Rattle.command_base.specs.Shelves.{ReadsShelf};
 ghost use Rattle.command_base.specs.Values.{refusal_of};
 ghost use Rattle.plan_certs.specs.Named.{IsCertificateOf, plain_certificate};
 ghost use Rattle.plan_io.specs.Fetches.{FailedLast};
 ghost use Rattle.refute_command.specs.RefuteCommand.{HoldsCertificate, IsFaultyCertificate};
-ghost use Rattle.std.specs.Prelude.{◌≡◌, ◌≤◌, ◌⊎◌, IfErr, IfOk, List, OnOk, ℕ};
+ghost use Rattle.std.specs.Prelude.{◌≡◌, ◌⊎◌, IfErr, IfOk};
 ghost use Rattle.task_core.specs.Tasks.{fluent_count, fluent_names};
 
 use command_base::{Refusal, fetch, misread};
@@ -32,12 +32,7 @@ pub(crate) fn read_certificate_file<S: Shelf>(
         ⊎ IsRefusedFile (S.held shelf.old) failed
         (IsFaultyCertificate (fluent_names task.now)) name.now (refusal_of refusal)) }
     ensures fetch { S.fetched shelf.old name.now shelf.new }
-    ensures quiet { OnOk result (S.faults shelf.new ≡ S.faults shelf.old) }
-    ensures quiet_at { IfErr result
-        (λ refusal. IsQuietAt (refused (refusal_of refusal)) (S.faults shelf.old)
-        (S.faults shelf.new)) }
-    ensures kept { (file : List ℕ) → S.held shelf.new file ≡ S.held shelf.old file }
-    ensures later { S.faults shelf.old ≤ S.faults shelf.new }
+    ensures shelf { ReadsShelf S.held S.faults result shelf.old shelf.new }
 {
     let bytes = fetch(alloc, shelf, name)?;
     match read_cert(alloc, &bytes, task) {

@@ -1,10 +1,10 @@
 //! The command `refute`.
 
 ghost use Rattle.command_base.specs.Answers.{full, no_memory, refused};
-ghost use Rattle.command_base.specs.Faults.{IsQuietAt};
 ghost use Rattle.command_base.specs.Fetching.{Stops};
 ghost use Rattle.command_base.specs.Grounding.{GoalThen, GroundThen, for_tables, has_goal_for};
 ghost use Rattle.command_base.specs.InitialStates.{InitialThen, empty_init};
+ghost use Rattle.command_base.specs.Shelves.{KeepsShelf};
 ghost use Rattle.command_base.specs.Values.{answer_of, refute_words_of, shown_of};
 ghost use Rattle.command_base.specs.Words.{IsNodeLimit};
 ghost use Rattle.pddl_ast.specs.Fits.{FitsDomain, FitsProblem};
@@ -14,27 +14,9 @@ ghost use Rattle.pddl_system.specs.Sizes.{first_passed};
 ghost use Rattle.plan_certs.specs.Named.{IsCertificateOf, plain_certificate};
 ghost use Rattle.plan_io.specs.Fetches.{FailedLast, Fetches};
 ghost use Rattle.refute_command.specs.FoundVerdicts.{IsJudgedFrom, IsRefutedOrFull};
-ghost use Rattle.refute_command.specs.RefuteCommand.{
-  IsRefuteAnswer,
-  IsTightToJudge,
-  IsToBeJudged,
-  ShowsJudged,
-  judged_answer,
-};
+ghost use Rattle.refute_command.specs.RefuteCommand.{IsRefuteAnswer, IsTightToJudge, IsToBeJudged, ShowsJudged, judged_answer};
 ghost use Rattle.refute_command.specs.RefuteFetches.{FetchesToRefute};
-ghost use Rattle.std.specs.Prelude.{
-  ◌≡◌,
-  ◌≤◌,
-  ◌⊎◌,
-  [],
-  ◌∷◌,
-  IsErrOf,
-  IsSome,
-  List,
-  None,
-  true,
-  ℕ,
-};
+ghost use Rattle.std.specs.Prelude.{◌≡◌, ◌⊎◌, [], ◌∷◌, IsErrOf, IsSome, None, true};
 ghost use Rattle.task_core.specs.Tasks.{fluent_count, initial_states, system_of};
 ghost use Rattle.task_sets.specs.FullTables.{IsTightToEncode};
 
@@ -67,9 +49,7 @@ pub fn refute_files<S: Shelf>(
     ensures fetches { let failed = FailedLast S.fetched S.faults shelf.old shelf.new in
         FetchesToRefute (S.held shelf.old) failed S.fetched (refute_words_of asked.now)
         (answer_of result) shelf.old shelf.new }
-    ensures quiet_at { IsQuietAt (answer_of result) (S.faults shelf.old) (S.faults shelf.new) }
-    ensures kept { (file : List ℕ) → S.held shelf.new file ≡ S.held shelf.old file }
-    ensures later { S.faults shelf.old ≤ S.faults shelf.new }
+    ensures shelf { KeepsShelf S.held S.faults (answer_of result) shelf.old shelf.new }
 {
     let (domain, problem) = read_both(alloc, shelf, asked.domain, asked.problem)?;
     refute_problem(alloc, shelf, asked, &domain, &problem)
@@ -97,9 +77,7 @@ fn refute_problem<S: Shelf>(
         ⊎ (((has_goal_for for_tables (problem_value problem.now) ≡ true)
         × (first_passed (domain_value domain.now) (problem_value problem.now) ≡ None))
         × Fetches S.fetched (asked.certificate ∷ []) shelf.old shelf.new) }
-    ensures quiet_at { IsQuietAt (answer_of result) (S.faults shelf.old) (S.faults shelf.new) }
-    ensures kept { (file : List ℕ) → S.held shelf.new file ≡ S.held shelf.old file }
-    ensures later { S.faults shelf.old ≤ S.faults shelf.new }
+    ensures shelf { KeepsShelf S.held S.faults (answer_of result) shelf.old shelf.new }
 {
     check_goal(alloc, PlanKind::Class(Class::Weak), asked.problem, problem)?;
     let grounded = ground_both(alloc, domain, problem)?;

@@ -1,61 +1,28 @@
 //! The command `replay`.
 
 ghost use Rattle.command_base.specs.Answers.{no_memory, refused};
-ghost use Rattle.command_base.specs.Faults.{IsQuietAt};
 ghost use Rattle.command_base.specs.Fetching.{HoldsSomePlan, RefusesPlan, Stops};
 ghost use Rattle.command_base.specs.Following.{most_followed};
 ghost use Rattle.command_base.specs.Grounding.{GroundThen};
 ghost use Rattle.command_base.specs.InitialStates.{empty_init};
+ghost use Rattle.command_base.specs.Shelves.{KeepsShelf};
 ghost use Rattle.command_base.specs.Values.{answer_of, refusal_of, replay_words_of};
 ghost use Rattle.exec_graph.specs.Initials.{HasTooManyInitial};
 ghost use Rattle.pddl_ast.specs.Fits.{FitsDomain, FitsProblem};
 ghost use Rattle.pddl_ast.specs.Values.{domain_value, problem_value};
 ghost use Rattle.pddl_system.specs.Names.{NamesAreWords};
 ghost use Rattle.pddl_system.specs.Sizes.{first_passed};
-ghost use Rattle.pddl_system.specs.Systems.{
-  action_names as names_of_actions,
-  fluent_names as names_of_fluents,
-};
+ghost use Rattle.pddl_system.specs.Systems.{action_names as names_of_actions, fluent_names as names_of_fluents};
 ghost use Rattle.plan_io.specs.Fetches.{FailedLast, Fetches};
 ghost use Rattle.plan_rules.specs.Plans.{IsPlanOf};
 ghost use Rattle.plan_rules.specs.Rules.{plain_of};
-ghost use Rattle.replay_command.specs.ReplayCommand.{
-  FirstThen,
-  IsFirstState,
-  IsReplay,
-  IsReplayAnswer,
-  IsReplayed,
-  RecordThen,
-  ReplayThen,
-  trace_under,
-};
+ghost use Rattle.replay_command.specs.ReplayCommand.{FirstThen, IsFirstState, IsReplay, IsReplayAnswer, IsReplayed, RecordThen, ReplayThen, trace_under};
 ghost use Rattle.replay_command.specs.RunFetches.{FetchRecord, FetchesToReplay};
 ghost use Rattle.run_replay.specs.Records.{record_value};
 ghost use Rattle.run_replay.specs.TraceTexts.{tallies_of};
-ghost use Rattle.std.specs.Prelude.{
-  ◌≡◌,
-  ◌≤◌,
-  ◌⊎◌,
-  [],
-  ◌∷◌,
-  All,
-  IfErr,
-  IfOk,
-  List,
-  None,
-  OnOk,
-  map,
-  ℕ,
-};
+ghost use Rattle.std.specs.Prelude.{◌≡◌, ◌⊎◌, [], ◌∷◌, All, IfErr, IfOk, None, OnOk, map};
 ghost use Rattle.task_core.specs.States.{IsWithin, vector};
-ghost use Rattle.task_core.specs.Tasks.{
-  action_count,
-  action_names,
-  fluent_count,
-  fluent_names,
-  initial_states,
-  system_of,
-};
+ghost use Rattle.task_core.specs.Tasks.{action_count, action_names, fluent_count, fluent_names, initial_states, system_of};
 
 use crate::record_files::read_record_file;
 use command_base::{
@@ -67,6 +34,7 @@ use plan_io::Shelf;
 use plan_rules::Plan;
 use run_replay::{Monitor, Recorded, RunErr, Start, World, execute, write_trace};
 use sexpr_text::{FaultKind, InputFault};
+use short_conditions::short_task;
 use std::alloc::{AllocError, Global};
 use task_core::{InitErr, State, Task};
 
@@ -116,9 +84,7 @@ pub fn replay_files<S: Shelf>(
     ensures fetches { let failed = FailedLast S.fetched S.faults shelf.old shelf.new in
         FetchesToReplay (S.held shelf.old) failed S.fetched (replay_words_of asked.now)
         (answer_of result) shelf.old shelf.new }
-    ensures quiet_at { IsQuietAt (answer_of result) (S.faults shelf.old) (S.faults shelf.new) }
-    ensures kept { (file : List ℕ) → S.held shelf.new file ≡ S.held shelf.old file }
-    ensures later { S.faults shelf.old ≤ S.faults shelf.new }
+    ensures shelf { KeepsShelf S.held S.faults (answer_of result) shelf.old shelf.new }
 {
     let (domain, problem) = read_both(alloc, shelf, asked.domain, asked.problem)?;
     let sought = ReplayProblem {
@@ -162,9 +128,7 @@ fn replay_problem<S: Shelf>(
         (RefusesPlan (S.held shelf.old) failed fluents actions sought.now.asked.now.plan.now)
         (HoldsSomePlan (S.held shelf.old) fluents actions sought.now.asked.now.plan.now)
         (answer_of result) shelf.old shelf.new) }
-    ensures quiet_at { IsQuietAt (answer_of result) (S.faults shelf.old) (S.faults shelf.new) }
-    ensures kept { (file : List ℕ) → S.held shelf.new file ≡ S.held shelf.old file }
-    ensures later { S.faults shelf.old ≤ S.faults shelf.new }
+    ensures shelf { KeepsShelf S.held S.faults (answer_of result) shelf.old shelf.new }
 {
     let ReplayProblem {
         asked,
@@ -207,9 +171,7 @@ fn replay_task<S: Shelf>(
         asked.plan.now)
         (HoldsSomePlan (S.held shelf.old) (fluent_names task) (action_names task) asked.plan.now)
         (answer_of result) shelf.old shelf.new }
-    ensures quiet_at { IsQuietAt (answer_of result) (S.faults shelf.old) (S.faults shelf.new) }
-    ensures kept { (file : List ℕ) → S.held shelf.new file ≡ S.held shelf.old file }
-    ensures later { S.faults shelf.old ≤ S.faults shelf.new }
+    ensures shelf { KeepsShelf S.held S.faults (answer_of result) shelf.old shelf.new }
 {
     let read = read_plan_file(alloc, shelf, request.asked.plan, request.task)?;
     let run = RunRequest {
@@ -242,9 +204,7 @@ fn replay_plan<S: Shelf>(
         (empty_init asked.problem.now (problem_value request.now.problem.now))
         (system_of task) (plain_of request.now.plan.now) (answer_of result) }
     ensures fetches { Fetches S.fetched (request.now.asked.now.recorded.now ∷ []) shelf.old shelf.new }
-    ensures quiet_at { IsQuietAt (answer_of result) (S.faults shelf.old) (S.faults shelf.new) }
-    ensures kept { (file : List ℕ) → S.held shelf.new file ≡ S.held shelf.old file }
-    ensures later { S.faults shelf.old ≤ S.faults shelf.new }
+    ensures shelf { KeepsShelf S.held S.faults (answer_of result) shelf.old shelf.new }
 {
     let recorded = read_record_file(alloc, shelf, request.asked.recorded)?;
     replay_record(alloc, request, recorded, world, monitors)
@@ -326,6 +286,35 @@ fn load_world(alloc: Global, world: &mut Box<dyn World>, words: Vec<u32>) -> Res
 
 /// The run of a plan of the task from a state, with the outcome numbers that the world has.
 fn show_run(
+    alloc: Global,
+    start: &Start<'_>,
+    world: &mut Box<dyn World>,
+    monitors: &mut Vec<Box<dyn Monitor>>,
+) -> Result<Shown, Refusal>
+    requires in_task { IsPlanOf (fluent_count start.now.task.now) (action_count start.now.task.now)
+        start.now.plan.now }
+    requires within { IsWithin (fluent_count start.now.task.now) start.now.first }
+    requires untold { All (λ monitor. (shown monitor).counted ≡ 0) monitors.old.items }
+    ensures { (answer_of result ≡ refused no_memory)
+        ⊎ IsReplayed
+        (tallies_of (map (λ monitor. shown monitor) monitors.old.items))
+        (system_of start.now.task.now) (action_names start.now.task.now)
+        (trace_under (system_of start.now.task.now) (plain_of start.now.plan.now)
+        (vector (fluent_count start.now.task.now) start.now.first) (left world.old))
+        (answer_of result) }
+{
+    // Conditions are asked in each step, so short ones are made once.
+    let short = short_task(alloc, start.task)?;
+    let run = Start {
+        task: &short,
+        plan: start.plan,
+        first: start.first,
+    };
+    show_steps(alloc, &run, world, monitors)
+}
+
+/// The same, by the conditions of the task as they are.
+fn show_steps(
     alloc: Global,
     start: &Start<'_>,
     world: &mut Box<dyn World>,

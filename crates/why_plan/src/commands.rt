@@ -1,10 +1,10 @@
 //! From the words to the answer.
 
 ghost use Rattle.command_base.specs.Answers.{full, no_memory, refused};
-ghost use Rattle.command_base.specs.Faults.{IsQuietAt};
 ghost use Rattle.command_base.specs.Fetching.{FetchesBoth};
 ghost use Rattle.command_base.specs.Grounded.{IsGroundedOf};
 ghost use Rattle.command_base.specs.Grounding.{has_goal_for};
+ghost use Rattle.command_base.specs.Shelves.{KeepsShelf};
 ghost use Rattle.command_base.specs.Values.{answer_of, kind_of, plan_words_of};
 ghost use Rattle.command_base.specs.Words.{IsNodeLimit, PlanWords as AskedPlan, of_class};
 ghost use Rattle.pddl_ast.specs.Fits.{FitsDomain, FitsProblem};
@@ -12,7 +12,7 @@ ghost use Rattle.pddl_ast.specs.Values.{domain_value, problem_value};
 ghost use Rattle.pddl_system.specs.Names.{NamesAreWords};
 ghost use Rattle.plan_command.specs.PlanCommand.{MayBeTooFew};
 ghost use Rattle.plan_io.specs.Fetches.{FailedLast, FetchesNothing};
-ghost use Rattle.std.specs.Prelude.{◌≡◌, ◌≤◌, ◌⊎◌, List, map, string_bytes, true, ℕ};
+ghost use Rattle.std.specs.Prelude.{◌≡◌, ◌⊎◌, map, string_bytes, true};
 ghost use Rattle.why_plan.specs.Runs.{HasWhyCause};
 ghost use Rattle.why_plan.specs.Whys.{IsWhy, IsWhyAnswer, WhyThen};
 ghost use Rattle.why_plan.specs.Words.{AskNothing, SaysWhy};
@@ -39,9 +39,7 @@ pub(crate) fn answer<S: Shelf>(
         → FetchesBoth (S.held shelf.old) S.fetched asked.domain asked.problem
         FetchesNothing shelf.old shelf.new }
     ensures no_fetch { AskNothing (map string_bytes words.now) → shelf.new ≡ shelf.old }
-    ensures quiet_at { IsQuietAt (answer_of result) (S.faults shelf.old) (S.faults shelf.new) }
-    ensures kept { (file : List ℕ) → S.held shelf.new file ≡ S.held shelf.old file }
-    ensures later { S.faults shelf.old ≤ S.faults shelf.new }
+    ensures shelf { KeepsShelf S.held S.faults (answer_of result) shelf.old shelf.new }
 {
     match read_words(words) {
         Some(asked) => why_files(alloc, shelf, &asked),
@@ -57,9 +55,7 @@ fn why_files<S: Shelf>(alloc: Global, shelf: &mut S, asked: &PlanWords) -> Resul
         ⊎ IsWhyAnswer (S.held shelf.old) failed (plan_words_of asked.now) (answer_of result) }
     ensures fetches { FetchesBoth (S.held shelf.old) S.fetched asked.now.domain.now
         asked.now.problem.now FetchesNothing shelf.old shelf.new }
-    ensures quiet_at { IsQuietAt (answer_of result) (S.faults shelf.old) (S.faults shelf.new) }
-    ensures kept { (file : List ℕ) → S.held shelf.new file ≡ S.held shelf.old file }
-    ensures later { S.faults shelf.old ≤ S.faults shelf.new }
+    ensures shelf { KeepsShelf S.held S.faults (answer_of result) shelf.old shelf.new }
 {
     let (domain, problem) = read_both(alloc, shelf, asked.domain, asked.problem)?;
     why_problem(alloc, asked, &domain, &problem)

@@ -10,4 +10,4 @@ returns-in_err-bytes-clause-refused g c =
     let read = c.in_ok-domain.ensures in
     rw (p.1, p.2) (problem_unread (g.S.Shelf.held c.args.shelf.now) g.S.Shelf.fetched g.S.Shelf.faults c.args.domain_name.now c.args.problem_name.now _
     (domain_value c.in_ok-domain.domain) (refusal_of c.in_err-bytes.field-0.0) c.args.shelf.now _ _
-    read.holds read.kept read.fetch read.quiet c.in_err-bytes.ensures.refused)
+    read.holds read.shelf.kept read.fetch read.shelf.quiet c.in_err-bytes.ensures.refused)

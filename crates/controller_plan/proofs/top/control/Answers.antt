@@ -21,5 +21,5 @@ returns g c =
     let told = told_after held failed fetched words answer before after c.requires found.cause found.fetches found.no_fetch in
     let given = c.deliver_helped.ensures told in
     let helps = subst (λ (wrong : WrongWords). IsHelpFor (held_by held after) wrong given.0 given.1) c.wrong_control.ensures given.3 in
-    has_controlled (held_by held) (faults_by faults) (KeepsAfter held fetched) _ answer given.0 given.1 found.cause found.fetches found.no_fetch found.quiet_at found.kept found.later
+    has_controlled (held_by held) (faults_by faults) (KeepsAfter held fetched) _ answer given.0 given.1 found.cause found.fetches found.no_fetch found.shelf.quiet_at found.shelf.kept found.shelf.later
     given.2 helps given.4

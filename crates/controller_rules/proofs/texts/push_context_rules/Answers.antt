@@ -12,11 +12,11 @@ use Rattle.controller_rules.proofs.texts.push_context_rules.Goals as goal
 
 pub push_context_rule-requires-clause-cube : goal.push_context_rule-requires-clause-cube
 push_context_rule-requires-clause-cube c =
-    (mapped_item (IsContextRuleOf (fluent_count c.args.task.now) (action_count c.args.task.now) c.args.contexts) context_rule_of c.args.rules.now c.loop-place.place c.index-rules-place.result c.requires.in_task c.loop-place-test.true c.index-rules-place.is).cube
+    (mapped_item (IsContextRuleOf (fluent_count c.args.task.now) (action_count c.args.task.now) c.requires.in_task.0) context_rule_of c.args.rules.now c.loop-place.place c.index-rules-place.result c.requires.in_task.1 c.loop-place-test.true c.index-rules-place.is).cube
 
 pub push_context_rule-requires-clause-action : goal.push_context_rule-requires-clause-action
 push_context_rule-requires-clause-action c =
-    (mapped_item (IsContextRuleOf (fluent_count c.args.task.now) (action_count c.args.task.now) c.args.contexts) context_rule_of c.args.rules.now c.loop-place.place c.index-rules-place.result c.requires.in_task c.loop-place-test.true c.index-rules-place.is).action
+    (mapped_item (IsContextRuleOf (fluent_count c.args.task.now) (action_count c.args.task.now) c.requires.in_task.0) context_rule_of c.args.rules.now c.loop-place.place c.index-rules-place.result c.requires.in_task.1 c.loop-place-test.true c.index-rules-place.is).action
 
 pub push_context_rule-requires-clause-next : goal.push_context_rule-requires-clause-next
 push_context_rule-requires-clause-next c =

@@ -16,7 +16,7 @@ returns-in-Ok-clause-line c =
     let counted : c.len-count.result ≡ length rules = omega (arith, c.len-count.ensures, count_is c.args.table, c.args.table.rules.ok.0) in
     record {
       few_initial = c.in-Ok.ensures.few_initial;
-      few = subst (λ (k : Class). ReachesMoreThan sys (table k rules) most_followed → ⊥) c.requires.found.of_class c.in-Ok.ensures.few;
+      few = subst (λ (k : Class). ReachesMoreThan sys (table k rules) most_followed → ⊥) c.requires.found.answer.of_class c.in-Ok.ensures.few;
       verdict = w.0;
       judged = w.1;
       written = w.2 ∙ ap (λ (n : ℕ). rules_line c.args.class n w.0) counted;

@@ -25,9 +25,9 @@ returns-clause-answer g c =
     let failed' = FailedLast g.S.Shelf.fetched g.S.Shelf.faults c.read_both.new.shelf c.explain_problem.new.shelf in
     let asked = explain_words_of c.args.asked.now in
     let over = failed_after_two g.S.Shelf.fetched g.S.Shelf.faults asked.check.domain asked.check.problem c.args.shelf.now c.read_both.new.shelf c.explain_problem.new.shelf asked.check.plan
-    c.in_ok-domain.ensures.fetched c.in_ok-domain.ensures.quiet in
+    c.in_ok-domain.ensures.fetched c.in_ok-domain.ensures.shelf.quiet in
     after_both held failed asked.check.domain asked.check.problem (IsExplained held failed asked) _ _ _ c.in_ok-domain.ensures.holds
-    (explained_later held held' failed failed' asked _ _ _ c.in_ok-domain.ensures.kept over c.explain_problem.ensures.answer)
+    (explained_later held held' failed failed' asked _ _ _ c.in_ok-domain.ensures.shelf.kept over c.explain_problem.ensures.answer)
 
 pub returns-in_err-domain-clause-fetches : goal.returns-in_err-domain-clause-fetches
 returns-in_err-domain-clause-fetches g c =

@@ -49,4 +49,4 @@ returns c origin at count =
     let y : Scene = (c.wins.new.enc, c.wins.new.board.slots.items) in
     let won = found_of origin.start c.wins.new.enc c.wins.new.board.slots.items _ c.wins.result _ c.in_ok-wins.was (c.wins.ensures origin at count) in
     let plan = found_of origin.start c.write_plan.new.enc c.write_plan.new.board.slots.items _ c.write_plan.result _ c.in_ok-plan.was (c.write_plan.ensures origin won.0 count) in
-    (plan.0, (can_be_had origin y (sets_of_goal c.args.goal.now) _ won (let f = c.if-not-branch.false in cc), plan.1))
+    (plan.0, record { had = can_be_had origin y (sets_of_goal c.args.goal.now) _ won (let f = c.if-not-branch.false in cc); in_task = plan.1 })

@@ -10,4 +10,4 @@ returns-in_err-bytes-clause-refused g c =
     let read = c.in_ok-domain.ensures in
     rw (p.1, p.2) (problem_unread (g.S.Shelf.held c.args.shelf.now) g.S.Shelf.fetched g.S.Shelf.faults c.args.names.now.domain.now c.args.names.now.problem.now _
     (domain_value c.in_ok-domain.domain.domain) (refusal_of c.in_err-bytes.field-0.0) c.args.shelf.now _ _
-    (record { bytes = c.in_ok-domain.domain.text.items; file = read.file; spelled = read.spells }) read.kept read.fetch read.quiet c.in_err-bytes.ensures.refused)
+    (record { bytes = c.in_ok-domain.domain.text.items; file = read.file; spelled = read.spells }) read.shelf.kept read.fetch read.shelf.quiet c.in_err-bytes.ensures.refused)

@@ -25,9 +25,9 @@ returns-clause-answer g c =
     let failed' = FailedLast g.S.Shelf.fetched g.S.Shelf.faults c.read_both.new.shelf c.picture_problem.new.shelf in
     let asked = picture_words_of c.args.asked.now in
     after_both held failed asked.domain asked.problem (IsPictured held failed asked) _ _ _ c.in_ok-domain.ensures.holds
-    (pictured_later held held' failed failed' asked _ _ _ c.in_ok-domain.ensures.kept
+    (pictured_later held held' failed failed' asked _ _ _ c.in_ok-domain.ensures.shelf.kept
     (λ file. failed_after_two g.S.Shelf.fetched g.S.Shelf.faults asked.domain asked.problem c.args.shelf.now c.read_both.new.shelf c.picture_problem.new.shelf file
-    c.in_ok-domain.ensures.fetched c.in_ok-domain.ensures.quiet)
+    c.in_ok-domain.ensures.fetched c.in_ok-domain.ensures.shelf.quiet)
     c.picture_problem.ensures.answer)
 
 pub returns-in_err-domain-clause-fetches : goal.returns-in_err-domain-clause-fetches
@@ -45,5 +45,5 @@ returns-clause-fetches g c =
     let asked = picture_words_of c.args.asked.now in
     let both = c.in_ok-domain.ensures in
     picture_fetched held held' g.S.Shelf.fetched g.S.Shelf.faults asked _ _ _ c.args.shelf.now c.read_both.new.shelf c.picture_problem.new.shelf
-    both.holds both.kept (λ late. failed_after_two g.S.Shelf.fetched g.S.Shelf.faults asked.domain asked.problem c.args.shelf.now c.read_both.new.shelf c.picture_problem.new.shelf asked.plan
-    both.fetched both.quiet late) both.fetched c.picture_problem.ensures.fetches
+    both.holds both.shelf.kept (λ late. failed_after_two g.S.Shelf.fetched g.S.Shelf.faults asked.domain asked.problem c.args.shelf.now c.read_both.new.shelf c.picture_problem.new.shelf asked.plan
+    both.fetched both.shelf.quiet late) both.fetched c.picture_problem.ensures.fetches

@@ -35,9 +35,9 @@ returns-clause-answer g c =
     let answer = answer_of c.picture_plan.result in
     next_answer held failed asked.plan (SpellsPlaced (fluent_names task) (action_names task)) (IsFaultyPlan (fluent_names task) (action_names task))
     (λ placed. RunThen held failed asked.form (DrawnOf asked problem task placed.plan)) (placed_of c.in_ok-read.read) answer c.in_ok-read.ensures.holds
-    (run_later_or held held' failed failed' asked.form (DrawnOf asked problem task (plain_of c.in_ok-read.read.plan)) answer c.in_ok-read.ensures.kept
+    (run_later_or held held' failed failed' asked.form (DrawnOf asked problem task (plain_of c.in_ok-read.read.plan)) answer c.in_ok-read.ensures.shelf.kept
     (λ file. failed_over g.S.Shelf.fetched g.S.Shelf.faults c.args.shelf.now c.read_plan_file.new.shelf c.picture_plan.new.shelf asked.plan file
-    c.in_ok-read.ensures.fetch c.in_ok-read.ensures.quiet) c.picture_plan.ensures.answer)
+    c.in_ok-read.ensures.fetch c.in_ok-read.ensures.shelf.quiet) c.picture_plan.ensures.answer)
 
 pub returns-in_err-read-clause-fetches : goal.returns-in_err-read-clause-fetches
 returns-in_err-read-clause-fetches g c =

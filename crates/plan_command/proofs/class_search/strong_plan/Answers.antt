@@ -6,7 +6,5 @@ use Rattle.plan_command.proofs.class_search.strong_plan.Goals as goal
 pub returns-clause-found : goal.returns-clause-found
 returns-clause-found c =
     let sys = system_of c.args.task.now in
-    let e = c.plan_strong.ensures in
     found_plan Strong c.args.task.now c.plan_strong.result
-    (λ rules is. shortest_strong sys is.0 rules (c.printed_plan_is_shortest.ensures.strong sys) c.tasks_have_systems.ensures.system is.2)
-    e.class e.printed e.in_task e.table e.solves e.executable e.no_plan
+    (λ rules is. shortest_strong sys is.0 rules (c.printed_plan_is_shortest.ensures.strong sys) c.tasks_have_systems.ensures.system is.2) c.plan_strong.ensures.answer

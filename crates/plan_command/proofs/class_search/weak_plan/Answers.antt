@@ -6,7 +6,5 @@ use Rattle.plan_command.proofs.class_search.weak_plan.Goals as goal
 pub returns-clause-found : goal.returns-clause-found
 returns-clause-found c =
     let sys = system_of c.args.task.now in
-    let e = c.plan_weak.ensures in
     found_plan Weak c.args.task.now c.plan_weak.result
-    (λ rules is. shortest_weak sys is.0 rules (c.printed_plan_is_shortest.ensures.weak sys) c.tasks_have_systems.ensures.system is.1 is.2)
-    e.class e.printed e.in_task e.table e.solves e.executable e.no_plan
+    (λ rules is. shortest_weak sys is.0 rules (c.printed_plan_is_shortest.ensures.weak sys) c.tasks_have_systems.ensures.system is.1 is.2) c.plan_weak.ensures.answer

@@ -1,5 +1,5 @@
 -- What the rules do, and what is left.
-use Rattle.std.proofs.Common.{◌≡◌, ◌∙◌, [], Err, ap, inl, subst, sym}
+use Rattle.std.proofs.Common.{◌≡◌, ◌∙◌, [], Err, ap, inl, refl, subst, sym}
 use Rattle.std.specs.List.{flat_map, range_with_len}
 use Rattle.std.proofs.lemmas.Result.{err_from_is_err_and}
 use Rattle.dd_sets.specs.declared.errors.SetErr.TheVariants.{Full}
@@ -11,7 +11,7 @@ use Rattle.task_core.specs.Tasks.{action_count, fluent_count}
 use Rattle.reach_plan.specs.SetRules.{rules_of_place}
 use Rattle.reach_plan.specs.Takers.{AreFound, slots_of}
 use Rattle.reach_plan.specs.declared.takers.Takers.{Takers}
-use Rattle.reach_plan.proofs.PlanSteps.{printed_by_places, solved, start_of}
+use Rattle.reach_plan.proofs.PlanSteps.{planned, printed_by_places, start_of}
 use Rattle.reach_plan.proofs.SmallSets.{wide_enough}
 use Rattle.reach_plan.proofs.planner.plan.Goals as goal
 
@@ -21,8 +21,8 @@ returns-in_err-find_takers-clause-full c full width wide =
     let same : p.0 ≡ Full = cc in
     c.in_err-find_takers.ensures.full (ap Err (sym p.2 ∙ same)) width wide
 
-pub returns-in-NoPlan-clause-no_plan : goal.returns-in-NoPlan-clause-no_plan
-returns-in-NoPlan-clause-no_plan c = subst (AreFound c.args.class c.args.task.now c.find_takers.new.enc.sets) c.in-NoPlan.is c.in_ok-find_takers.ensures.found
+pub returns-in-NoPlan-clause-answer : goal.returns-in-NoPlan-clause-answer
+returns-in-NoPlan-clause-answer c = subst (AreFound c.args.class c.args.task.now c.find_takers.new.enc.sets) c.in-NoPlan.is c.in_ok-find_takers.ensures.found
 
 pub returns-in-NoPlan-clause-slots : goal.returns-in-NoPlan-clause-slots
 returns-in-NoPlan-clause-slots c =
@@ -54,52 +54,12 @@ returns-in_ok-rules-in-Board-clause-made c task made =
     made_now task c.args.enc.now c.write_rules.new.enc (same_chain c.args.enc.now c.find_takers.new.enc c.write_rules.new.enc c.find_takers.ensures.same_slots c.write_rules.ensures.same_slots)
     (c.write_rules.ensures.slots c.args.enc.now.sets work).kept made
 
-pub returns-in_ok-rules-in-Board-clause-printed : goal.returns-in_ok-rules-in-Board-clause-printed
-returns-in_ok-rules-in-Board-clause-printed c =
+pub returns-in_ok-rules-in-Board-clause-answer : goal.returns-in_ok-rules-in-Board-clause-answer
+returns-in_ok-rules-in-Board-clause-answer c =
     let mid = c.find_takers.new.enc in
     let task = c.args.task.now in
     let made = c.find_takers.ensures.made task c.requires.made in
     let slots = c.in-Board.board.slots.items in
     let found = subst (AreFound c.args.class task mid.sets) c.in-Board.is c.in_ok-find_takers.ensures.found in
     let is = c.in_ok-rules-in-Board.ensures.rules ∙ ap (λ n. flat_map (rules_of_place mid.sets slots) (range_with_len 0 n)) found.long ∙ printed_by_places c.args.class task mid slots made found in
-    (found.layers, found.last, is)
-
-pub returns-in_ok-rules-in-Board-clause-in_task : goal.returns-in_ok-rules-in-Board-clause-in_task
-returns-in_ok-rules-in-Board-clause-in_task c =
-    let mid = c.find_takers.new.enc in
-    let task = c.args.task.now in
-    let made = c.find_takers.ensures.made task c.requires.made in
-    let slots = c.in-Board.board.slots.items in
-    let found = subst (AreFound c.args.class task mid.sets) c.in-Board.is c.in_ok-find_takers.ensures.found in
-    let is = c.in_ok-rules-in-Board.ensures.rules ∙ ap (λ n. flat_map (rules_of_place mid.sets slots) (range_with_len 0 n)) found.long ∙ printed_by_places c.args.class task mid slots made found in
-    (solved c.args.class c.requires.class task found.layers _ found.last is).within
-
-pub returns-in_ok-rules-in-Board-clause-table : goal.returns-in_ok-rules-in-Board-clause-table
-returns-in_ok-rules-in-Board-clause-table c =
-    let mid = c.find_takers.new.enc in
-    let task = c.args.task.now in
-    let made = c.find_takers.ensures.made task c.requires.made in
-    let slots = c.in-Board.board.slots.items in
-    let found = subst (AreFound c.args.class task mid.sets) c.in-Board.is c.in_ok-find_takers.ensures.found in
-    let is = c.in_ok-rules-in-Board.ensures.rules ∙ ap (λ n. flat_map (rules_of_place mid.sets slots) (range_with_len 0 n)) found.long ∙ printed_by_places c.args.class task mid slots made found in
-    (solved c.args.class c.requires.class task found.layers _ found.last is).table
-
-pub returns-in_ok-rules-in-Board-clause-solves : goal.returns-in_ok-rules-in-Board-clause-solves
-returns-in_ok-rules-in-Board-clause-solves c =
-    let mid = c.find_takers.new.enc in
-    let task = c.args.task.now in
-    let made = c.find_takers.ensures.made task c.requires.made in
-    let slots = c.in-Board.board.slots.items in
-    let found = subst (AreFound c.args.class task mid.sets) c.in-Board.is c.in_ok-find_takers.ensures.found in
-    let is = c.in_ok-rules-in-Board.ensures.rules ∙ ap (λ n. flat_map (rules_of_place mid.sets slots) (range_with_len 0 n)) found.long ∙ printed_by_places c.args.class task mid slots made found in
-    (solved c.args.class c.requires.class task found.layers _ found.last is).solves
-
-pub returns-in_ok-rules-in-Board-clause-executable : goal.returns-in_ok-rules-in-Board-clause-executable
-returns-in_ok-rules-in-Board-clause-executable c =
-    let mid = c.find_takers.new.enc in
-    let task = c.args.task.now in
-    let made = c.find_takers.ensures.made task c.requires.made in
-    let slots = c.in-Board.board.slots.items in
-    let found = subst (AreFound c.args.class task mid.sets) c.in-Board.is c.in_ok-find_takers.ensures.found in
-    let is = c.in_ok-rules-in-Board.ensures.rules ∙ ap (λ n. flat_map (rules_of_place mid.sets slots) (range_with_len 0 n)) found.long ∙ printed_by_places c.args.class task mid slots made found in
-    (solved c.args.class c.requires.class task found.layers _ found.last is).executable
+    planned c.args.class c.requires.class task found.layers _ found.last refl is

@@ -27,8 +27,8 @@ returns-clause-answer g c =
     let failed' = FailedLast g.S.Shelf.fetched g.S.Shelf.faults c.read_both.new.shelf c.refute_problem.new.shelf in
     let asked = refute_words_of c.args.asked.now in
     let over = failed_after_two g.S.Shelf.fetched g.S.Shelf.faults asked.domain asked.problem c.args.shelf.now c.read_both.new.shelf c.refute_problem.new.shelf asked.certificate
-    c.in_ok-domain.ensures.fetched c.in_ok-domain.ensures.quiet in
-    after_refute held held' failed failed' asked _ _ _ c.in_ok-domain.ensures.holds c.in_ok-domain.ensures.kept over c.refute_problem.ensures.answer
+    c.in_ok-domain.ensures.fetched c.in_ok-domain.ensures.shelf.quiet in
+    after_refute held held' failed failed' asked _ _ _ c.in_ok-domain.ensures.holds c.in_ok-domain.ensures.shelf.kept over c.refute_problem.ensures.answer
 
 pub returns-in_err-domain-clause-fetches : goal.returns-in_err-domain-clause-fetches
 returns-in_err-domain-clause-fetches g c =

@@ -28,9 +28,9 @@ returns-clause-answer g c =
     let tallies : Tallies = tallies_of (map (λ monitor. (goal.Monitor-dyn g (monitor.vtable, monitor.value)).shown monitor.value) c.args.monitors.now.items) in
     let asked = replay_words_of c.args.asked.now in
     after_both held failed asked.domain asked.problem (IsReplay held failed tallies asked) _ _ _ c.in_ok-domain.ensures.holds
-    (replay_later held held' failed failed' tallies asked _ _ _ c.in_ok-domain.ensures.kept
+    (replay_later held held' failed failed' tallies asked _ _ _ c.in_ok-domain.ensures.shelf.kept
     (λ file. failed_after_two g.S.Shelf.fetched g.S.Shelf.faults asked.domain asked.problem c.args.shelf.now c.read_both.new.shelf c.replay_problem.new.shelf file
-    c.in_ok-domain.ensures.fetched c.in_ok-domain.ensures.quiet)
+    c.in_ok-domain.ensures.fetched c.in_ok-domain.ensures.shelf.quiet)
     c.replay_problem.ensures.answer)
 
 pub returns-in_err-domain-clause-fetches : goal.returns-in_err-domain-clause-fetches
@@ -48,5 +48,5 @@ returns-clause-fetches g c =
     let asked = replay_words_of c.args.asked.now in
     let both = c.in_ok-domain.ensures in
     replay_fetched held held' g.S.Shelf.fetched g.S.Shelf.faults asked _ _ _ c.args.shelf.now c.read_both.new.shelf c.replay_problem.new.shelf
-    both.holds both.kept (λ late. failed_after_two g.S.Shelf.fetched g.S.Shelf.faults asked.domain asked.problem c.args.shelf.now c.read_both.new.shelf c.replay_problem.new.shelf asked.plan
-    both.fetched both.quiet late) both.fetched c.replay_problem.ensures.fetches
+    both.holds both.shelf.kept (λ late. failed_after_two g.S.Shelf.fetched g.S.Shelf.faults asked.domain asked.problem c.args.shelf.now c.read_both.new.shelf c.replay_problem.new.shelf asked.plan
+    both.fetched both.shelf.quiet late) both.fetched c.replay_problem.ensures.fetches

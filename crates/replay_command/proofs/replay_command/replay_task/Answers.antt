@@ -37,12 +37,12 @@ returns-clause-answer g c =
     let tallies : Tallies = tallies_of (map (λ monitor. (goal.Monitor-dyn g (monitor.vtable, monitor.value)).shown monitor.value) c.args.monitors.now.items) in
     let name = c.args.request.now.asked.now.recorded.now in
     let over = failed_over g.S.Shelf.fetched g.S.Shelf.faults c.args.shelf.now c.read_plan_file.new.shelf c.replay_plan.new.shelf c.args.request.now.asked.now.plan.now name
-    c.in_ok-read.ensures.fetch c.in_ok-read.ensures.quiet in
+    c.in_ok-read.ensures.fetch c.in_ok-read.ensures.shelf.quiet in
     let sys = system_of task in
     let actions = action_names task in
     let many = HasTooManyInitial task most_followed in
     plan_answer held failed tallies (replay_words_of c.args.request.now.asked.now) (fluent_names task) actions many empty sys (placed_of c.in_ok-read.read) (answer_of c.replay_plan.result) c.in_ok-read.ensures.holds
-    (record_later held held' failed failed' tallies name actions many empty sys (plain_of c.in_ok-read.read.plan) (answer_of c.replay_plan.result) c.in_ok-read.ensures.kept over c.replay_plan.ensures.answer)
+    (record_later held held' failed failed' tallies name actions many empty sys (plain_of c.in_ok-read.read.plan) (answer_of c.replay_plan.result) c.in_ok-read.ensures.shelf.kept over c.replay_plan.ensures.answer)
 
 pub returns-in_err-read-clause-fetches : goal.returns-in_err-read-clause-fetches
 returns-in_err-read-clause-fetches g c =

@@ -1,12 +1,22 @@
-use Rattle.std.proofs.Common.{inr, map}
-use Rattle.task_core.specs.Tasks.{action_names, system_of}
-use Rattle.replay_command.proofs.ReplayRuns.{ended_run}
+use Rattle.std.proofs.Common.{subst, sym}
+use Rattle.plan_rules.specs.Plans.{IsPlanOf}
+use Rattle.task_core.specs.States.{IsWithin}
+use Rattle.task_core.specs.Systems.{System}
+use Rattle.task_core.specs.Tasks.{system_of}
+use Rattle.replay_command.proofs.ReplayRuns.{same_replay}
 use Rattle.replay_command.proofs.replay_command.show_run.Goals as goal
 
-pub returns-in_ok-write_trace-in-Ok : goal.returns-in_ok-write_trace-in-Ok
-returns-in_ok-write_trace-in-Ok g c =
-    let task = c.args.start.now.task.now in
-    let shown = map (λ monitor. (goal.Monitor-dyn g (monitor.vtable, monitor.value)).shown monitor.value) c.args.monitors.now.items in
-    let now = map (λ monitor. (goal.Monitor-dyn g (monitor.vtable, monitor.value)).shown monitor.value) c.execute.new.monitors.items in
-    inr (ended_run shown now (system_of task) (action_names task) _ c.in-Ok.trace.steps.items c.in-Ok.trace.end _ c.in_ok-write_trace-in-Ok.field-0.items
-    c.in-Ok.ensures.trace c.in-Ok.ensures.in_task c.in-Ok.ensures.tallies (rw c.deref.ensures.value at c.in_ok-write_trace-in-Ok.ensures))
+pub show_steps-requires-clause-in_task : goal.show_steps-requires-clause-in_task
+show_steps-requires-clause-in_task g c =
+    let P : System → Type 0 = λ sys. IsPlanOf sys.fluents sys.actions c.args.start.now.plan.now in
+    subst P (sym c.in_ok-short.ensures.system) c.requires.in_task
+
+pub show_steps-requires-clause-within : goal.show_steps-requires-clause-within
+show_steps-requires-clause-within g c =
+    let P : System → Type 0 = λ sys. IsWithin sys.fluents c.args.start.now.first in
+    subst P (sym c.in_ok-short.ensures.system) c.requires.within
+
+pub returns : goal.returns
+returns g c =
+    same_replay _ (system_of c.in_ok-short.short) (system_of c.args.start.now.task.now) _ _ _ c.args.start.now.first _ _
+    c.in_ok-short.ensures.system c.in_ok-short.ensures.actions c.show_steps.ensures
