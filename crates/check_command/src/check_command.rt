@@ -1,6 +1,13 @@
 //! The command `check`.
 
-ghost use Rattle.check_command.specs.CheckCommand.{ExploreThen, IsCheckAnswer, IsChecked, ShowsVerdict, verdict_answer, FetchesToCheck};
+ghost use Rattle.check_command.specs.CheckCommand.{
+  ExploreThen,
+  IsCheckAnswer,
+  IsChecked,
+  ShowsVerdict,
+  verdict_answer,
+  FetchesToCheck,
+};
 ghost use Rattle.check_command.specs.Judged.{HasGoalIn, IsTaskVerdict};
 ghost use Rattle.command_base.specs.Answers.{no_memory, refused};
 ghost use Rattle.command_base.specs.Fetching.{Stops};
@@ -9,7 +16,13 @@ ghost use Rattle.command_base.specs.Grounding.{GoalThen, GroundThen, has_goal_fo
 ghost use Rattle.command_base.specs.InitialStates.{InitialThen, empty_init};
 ghost use Rattle.command_base.specs.PlanFiles.{KindThen, is_of_kind};
 ghost use Rattle.command_base.specs.Shelves.{KeepsShelf};
-ghost use Rattle.command_base.specs.Values.{answer_of, check_words_of, kind_of, placed_of, shown_of};
+ghost use Rattle.command_base.specs.Values.{
+  answer_of,
+  check_words_of,
+  kind_of,
+  placed_of,
+  shown_of,
+};
 ghost use Rattle.command_base.specs.Words.{with_contexts};
 ghost use Rattle.ctl_syntax.specs.Values.{NamesBelow, ctl_value};
 ghost use Rattle.exec_graph.specs.Graphs.{IsGraphOf};

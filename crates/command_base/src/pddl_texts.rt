@@ -2,7 +2,12 @@
 
 ghost use Rattle.command_base.specs.Answers.{no_memory, refused};
 ghost use Rattle.command_base.specs.Fetching.{FetchDomain, FetchesBoth, RefusesBoth};
-ghost use Rattle.command_base.specs.PddlTexts.{HoldBoth, IsFaultyDomain, IsFaultyProblem, SpellsProblemOf};
+ghost use Rattle.command_base.specs.PddlTexts.{
+  HoldBoth,
+  IsFaultyDomain,
+  IsFaultyProblem,
+  SpellsProblemOf,
+};
 ghost use Rattle.command_base.specs.Reading.{Holds, IsFile, IsRefusedFile, file_limit};
 ghost use Rattle.command_base.specs.Shelves.{ReadsShelf};
 ghost use Rattle.command_base.specs.Values.{refusal_for, refusal_of};

@@ -5,7 +5,13 @@ ghost use Rattle.controller_plan.specs.Controllers.{IsControlAnswer, IsControlle
 ghost use Rattle.controller_plan.specs.Runs.{HasControlCause};
 ghost use Rattle.controller_plan.specs.Sought.{IsAnswerFor, IsAnswerIn, IsReady};
 ghost use Rattle.controller_words.specs.Values.{control_words_of};
-ghost use Rattle.controller_words.specs.FairWords.{AskNothing, ControlRequest as AskedControl, SaysRequest, domain_of, problem_of};
+ghost use Rattle.controller_words.specs.FairWords.{
+  AskNothing,
+  ControlRequest as AskedControl,
+  SaysRequest,
+  domain_of,
+  problem_of,
+};
 ghost use Rattle.command_base.specs.Answers.{no_memory, refused};
 ghost use Rattle.command_base.specs.Fetching.{FetchesBoth};
 ghost use Rattle.command_base.specs.Values.{answer_of};

@@ -7,7 +7,13 @@ ghost use Rattle.command_base.specs.Values.{answer_of, limit_of};
 ghost use Rattle.command_base.specs.Words.{IsNodeLimit};
 ghost use Rattle.controller_plan.specs.FairControllers.{IsFairAnswer, IsTried};
 ghost use Rattle.controller_plan.specs.FairJudged.{most_fair_of, with_goal as grounded_with};
-ghost use Rattle.controller_plan.specs.FairSought.{IsFairAnswerFor, IsFairGoal, IsFairlyGrounded, StandsFor, StandsForNone};
+ghost use Rattle.controller_plan.specs.FairSought.{
+  IsFairAnswerFor,
+  IsFairGoal,
+  IsFairlyGrounded,
+  StandsFor,
+  StandsForNone,
+};
 ghost use Rattle.controller_words.specs.Values.{fair_words_of};
 ghost use Rattle.ctl_syntax.specs.GoalValues.{GoalIsAtMostDeep, GoalNamesBelow};
 ghost use Rattle.ctl_syntax.specs.Values.{IsAtMostDeep, NamesBelow, ctl_value};

@@ -1,7 +1,20 @@
 //! Conjunction, disjunction and difference. They are questions with a constant in one place, and look
 //! at their two operands alone. Each has a recursion of its own, so that no call asks which it is.
 //! The constant tells their keys in the cache apart.
-ghost use Rattle.std.specs.Prelude.{◌≡◌, ℕ, ◌<◌, List, [], ◌∷◌, IfOk, IfErr, IfSome, IfNone, IsErrOf, IsTrue};
+ghost use Rattle.std.specs.Prelude.{
+  ◌≡◌,
+  ℕ,
+  ◌<◌,
+  List,
+  [],
+  ◌∷◌,
+  IfOk,
+  IfErr,
+  IfSome,
+  IfNone,
+  IsErrOf,
+  IsTrue,
+};
 ghost use Rattle.dd_nodes.specs.declared.node.Node.{Node};
 ghost use Rattle.dd_nodes.specs.Table.{IsNodeTable};
 ghost use Rattle.dd_ops.specs.Answers.{IsAsked, IsAnswer, IsHalved, AreHalfAnswers, IsRestated};

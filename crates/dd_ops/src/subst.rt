@@ -1,5 +1,16 @@
 //! Functions with several variables replaced at once.
-ghost use Rattle.std.specs.Prelude.{◌≡◌, ◌<◌, All, IfOk, IfErr, IfSome, IfNone, IsErrOf, IsTrue, Some};
+ghost use Rattle.std.specs.Prelude.{
+  ◌≡◌,
+  ◌<◌,
+  All,
+  IfOk,
+  IfErr,
+  IfSome,
+  IfNone,
+  IsErrOf,
+  IsTrue,
+  Some,
+};
 ghost use Rattle.std.specs.Prelude.{Option};
 ghost use Rattle.dd_nodes.specs.NodeList.{Values, IsNumber, node_at, function, StandsBelow};
 ghost use Rattle.dd_nodes.specs.Table.{IsNodeTable};

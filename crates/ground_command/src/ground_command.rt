@@ -3,7 +3,14 @@
 ghost use Rattle.command_base.specs.Answers.{no_memory, refused};
 ghost use Rattle.command_base.specs.Shelves.{KeepsShelf};
 ghost use Rattle.command_base.specs.Values.{answer_of, ground_words_of};
-ghost use Rattle.ground_command.specs.GroundCommand.{FetchesToGround, IsGroundAnswer, IsListed, action_line, fluent_line, listing};
+ghost use Rattle.ground_command.specs.GroundCommand.{
+  FetchesToGround,
+  IsGroundAnswer,
+  IsListed,
+  action_line,
+  fluent_line,
+  listing,
+};
 ghost use Rattle.pddl_ast.specs.Fits.{FitsDomain, FitsProblem};
 ghost use Rattle.pddl_ast.specs.Values.{domain_value, problem_value};
 ghost use Rattle.pddl_system.specs.Names.{NamesAreWords};

@@ -7,7 +7,11 @@ ghost use Rattle.command_base.specs.Values.{answer_of};
 ghost use Rattle.mistakes_command.specs.Mistakes.{IsMistakesAnswer};
 ghost use Rattle.mistakes_command.specs.Runs.{HasMistakesCause};
 ghost use Rattle.mistakes_command.specs.Values.{mistakes_words_of};
-ghost use Rattle.mistakes_command.specs.Words.{AskNothing, MistakesWords as AskedMistakes, SaysMistakes};
+ghost use Rattle.mistakes_command.specs.Words.{
+  AskNothing,
+  MistakesWords as AskedMistakes,
+  SaysMistakes,
+};
 ghost use Rattle.plan_io.specs.Fetches.{FailedLast, FetchesNothing};
 ghost use Rattle.std.specs.Prelude.{◌≡◌, ◌⊎◌, map, string_bytes};
 

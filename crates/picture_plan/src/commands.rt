@@ -9,9 +9,28 @@ ghost use Rattle.pddl_ast.specs.Fits.{FitsDomain, FitsProblem};
 ghost use Rattle.pddl_ast.specs.Values.{domain_value, problem_value};
 ghost use Rattle.pddl_system.specs.Names.{NamesAreWords};
 ghost use Rattle.pddl_system.specs.Sizes.{first_passed};
-ghost use Rattle.pddl_system.specs.Systems.{action_names as names_of_actions, fluent_names as names_of_fluents};
+ghost use Rattle.pddl_system.specs.Systems.{
+  action_names as names_of_actions,
+  fluent_names as names_of_fluents,
+};
 ghost use Rattle.picture_plan.specs.Fetching.{FetchPlan, FetchesRun, FetchesToPicture};
-ghost use Rattle.picture_plan.specs.Pictures.{DrawnOf, ExplanationThen, IsLongFor, IsPictureAnswer, IsPictured, IsStray, RunThen, ShowsEdges, ShowsText, TaskThen, edges_of as edges_of_shown, edges_told, file_of as file_of_form, most_for, shown_text as text_of};
+ghost use Rattle.picture_plan.specs.Pictures.{
+  DrawnOf,
+  ExplanationThen,
+  IsLongFor,
+  IsPictureAnswer,
+  IsPictured,
+  IsStray,
+  RunThen,
+  ShowsEdges,
+  ShowsText,
+  TaskThen,
+  edges_of as edges_of_shown,
+  edges_told,
+  file_of as file_of_form,
+  most_for,
+  shown_text as text_of,
+};
 ghost use Rattle.picture_plan.specs.Runs.{HasPictureCause};
 ghost use Rattle.picture_plan.specs.Values.{form_value, picture_words_of};
 ghost use Rattle.picture_plan.specs.Words.{AskNothing, PictureWords as AskedPicture, SaysPicture};
@@ -24,8 +43,30 @@ ghost use Rattle.plan_rules.specs.Plans.{IsPlanOf};
 ghost use Rattle.plan_rules.specs.Rules.{plain_of};
 ghost use Rattle.rule_picture.specs.Texts.{rules_text as text_by_rules};
 ghost use Rattle.std.specs.Option.{option_map};
-ghost use Rattle.std.specs.Prelude.{◌≡◌, ◌≤◌, ◌<◌, ◌⊎◌, ◌↔◌, ◌∷◌, [], None, IfOk, IsErrOf, IsTrue, OnOk, length, map, string_bytes};
-ghost use Rattle.task_core.specs.Tasks.{action_count, action_names, fluent_count, fluent_names, system_of};
+ghost use Rattle.std.specs.Prelude.{
+  ◌≡◌,
+  ◌≤◌,
+  ◌<◌,
+  ◌⊎◌,
+  ◌↔◌,
+  ◌∷◌,
+  [],
+  None,
+  IfOk,
+  IsErrOf,
+  IsTrue,
+  OnOk,
+  length,
+  map,
+  string_bytes,
+};
+ghost use Rattle.task_core.specs.Tasks.{
+  action_count,
+  action_names,
+  fluent_count,
+  fluent_names,
+  system_of,
+};
 
 use crate::run_files::read_explanation_file;
 use crate::words::{PictureForm, PictureWords, read_words};

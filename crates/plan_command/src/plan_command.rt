@@ -14,12 +14,38 @@ ghost use Rattle.plan_certs.specs.Readings.{SpellsPlain as SpellsCertificate};
 ghost use Rattle.plan_certs.specs.Texts.{certificate_text};
 ghost use Rattle.plan_command.specs.Enough.{IsTightForClass};
 ghost use Rattle.plan_command.specs.FoundPlans.{IsTableResult};
-ghost use Rattle.plan_command.specs.PlanCommand.{FetchesToPlan, IsPlanAnswer, IsPlanned, MayBeTooFew, PlanThen, no_plan_text};
+ghost use Rattle.plan_command.specs.PlanCommand.{
+  FetchesToPlan,
+  IsPlanAnswer,
+  IsPlanned,
+  MayBeTooFew,
+  PlanThen,
+  no_plan_text,
+};
 ghost use Rattle.plan_io.specs.Fetches.{FailedLast};
 ghost use Rattle.plan_rules.specs.Plans.{IsPlanOf, plan_text};
 ghost use Rattle.plan_rules.specs.Readings.{SpellsPlan};
-ghost use Rattle.std.specs.Prelude.{◌≡◌, ◌≢◌, ◌⊎◌, ◌++◌, [], IfOk, IfSome, IsErrOf, IsSome, None, length, true};
-ghost use Rattle.task_core.specs.Tasks.{action_names, fluent_count, fluent_names, initial_states, system_of};
+ghost use Rattle.std.specs.Prelude.{
+  ◌≡◌,
+  ◌≢◌,
+  ◌⊎◌,
+  ◌++◌,
+  [],
+  IfOk,
+  IfSome,
+  IsErrOf,
+  IsSome,
+  None,
+  length,
+  true,
+};
+ghost use Rattle.task_core.specs.Tasks.{
+  action_names,
+  fluent_count,
+  fluent_names,
+  initial_states,
+  system_of,
+};
 ghost use Rattle.task_sets.specs.FullTables.{IsTightToEncode};
 
 use crate::class_search::{ClassSearch, Sought, search_task};

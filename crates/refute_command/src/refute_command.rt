@@ -14,7 +14,13 @@ ghost use Rattle.pddl_system.specs.Sizes.{first_passed};
 ghost use Rattle.plan_certs.specs.Named.{IsCertificateOf, plain_certificate};
 ghost use Rattle.plan_io.specs.Fetches.{FailedLast, Fetches};
 ghost use Rattle.refute_command.specs.FoundVerdicts.{IsJudgedFrom, IsRefutedOrFull};
-ghost use Rattle.refute_command.specs.RefuteCommand.{IsRefuteAnswer, IsTightToJudge, IsToBeJudged, ShowsJudged, judged_answer};
+ghost use Rattle.refute_command.specs.RefuteCommand.{
+  IsRefuteAnswer,
+  IsTightToJudge,
+  IsToBeJudged,
+  ShowsJudged,
+  judged_answer,
+};
 ghost use Rattle.refute_command.specs.RefuteFetches.{FetchesToRefute};
 ghost use Rattle.std.specs.Prelude.{◌≡◌, ◌⊎◌, [], ◌∷◌, IsErrOf, IsSome, None, true};
 ghost use Rattle.task_core.specs.Tasks.{fluent_count, initial_states, system_of};

@@ -12,17 +12,36 @@ ghost use Rattle.pddl_ast.specs.Fits.{FitsDomain, FitsProblem};
 ghost use Rattle.pddl_ast.specs.Values.{domain_value, problem_value};
 ghost use Rattle.pddl_system.specs.Names.{NamesAreWords};
 ghost use Rattle.pddl_system.specs.Sizes.{first_passed};
-ghost use Rattle.pddl_system.specs.Systems.{action_names as names_of_actions, fluent_names as names_of_fluents};
+ghost use Rattle.pddl_system.specs.Systems.{
+  action_names as names_of_actions,
+  fluent_names as names_of_fluents,
+};
 ghost use Rattle.plan_io.specs.Fetches.{FailedLast, Fetches};
 ghost use Rattle.plan_rules.specs.Plans.{IsPlanOf};
 ghost use Rattle.plan_rules.specs.Rules.{plain_of};
-ghost use Rattle.replay_command.specs.ReplayCommand.{FirstThen, IsFirstState, IsReplay, IsReplayAnswer, IsReplayed, RecordThen, ReplayThen, trace_under};
+ghost use Rattle.replay_command.specs.ReplayCommand.{
+  FirstThen,
+  IsFirstState,
+  IsReplay,
+  IsReplayAnswer,
+  IsReplayed,
+  RecordThen,
+  ReplayThen,
+  trace_under,
+};
 ghost use Rattle.replay_command.specs.RunFetches.{FetchRecord, FetchesToReplay};
 ghost use Rattle.run_replay.specs.Records.{record_value};
 ghost use Rattle.run_replay.specs.TraceTexts.{tallies_of};
 ghost use Rattle.std.specs.Prelude.{◌≡◌, ◌⊎◌, [], ◌∷◌, All, IfErr, IfOk, None, OnOk, map};
 ghost use Rattle.task_core.specs.States.{IsWithin, vector};
-ghost use Rattle.task_core.specs.Tasks.{action_count, action_names, fluent_count, fluent_names, initial_states, system_of};
+ghost use Rattle.task_core.specs.Tasks.{
+  action_count,
+  action_names,
+  fluent_count,
+  fluent_names,
+  initial_states,
+  system_of,
+};
 
 use crate::record_files::read_record_file;
 use command_base::{
