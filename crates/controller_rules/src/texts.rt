@@ -40,6 +40,7 @@ ghost use Rattle.std.specs.Prelude.{
   map,
   slice_get,
   string_bytes,
+  ℕ,
 };
 ghost use Rattle.task_core.specs.Tasks.{action_count, action_names, fluent_count, fluent_names};
 
