@@ -139,7 +139,7 @@ certificate_is_result class t certificate text found spelled is = inr (record {
   text = text;
   shown = refl;
   none = found.none;
-  written = record { certificate = plain_certificate certificate; printed = found.answer.printed; spelled = spelled; written = is };
+  written = record { certificate = plain_certificate certificate; printed = found.printed; spelled = spelled; written = is };
 })
 
 -- or without it
