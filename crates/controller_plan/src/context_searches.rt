@@ -20,7 +20,7 @@ use ctl_syntax::{ContextGoal, Ctl, UntilChain, as_context_goal};
 use dd_sets::SetErr;
 use encode_task::Enc;
 use ground_task::Grounded;
-use patrol_plan::{FoundAuto, plan_patrol, rule_place, rule_sets, until_takers};
+use patrol_plan::{Advance, Chain, FoundAuto, plan_patrol, rule_place, rule_sets, until_takers};
 use plan_rules::Plan;
 use slot_board::Board;
 use std::alloc::Global;
@@ -282,7 +282,11 @@ fn choose_rules(
     ensures live { OnOk result (AreSlotsLive enc.new.sets board.new.slots.items) }
 {
     let StageContext { stages, number } = turn.from;
-    rule_sets(enc, board, actions, stages, number, turn.next)
+    let advance = Advance {
+        stage: number,
+        next: turn.next,
+    };
+    rule_sets(enc, board, Chain { actions, stages }, advance)
 }
 
 /// What the plan with contexts for a patrol goal reaches, if there is one, over the task's sets.

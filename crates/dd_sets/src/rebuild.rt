@@ -40,7 +40,22 @@ pub fn rebuild(
     }
     let lo = rebuild(from, order, to, memo, node.lo)?;
     let hi = rebuild(from, order, to, memo, node.hi)?;
-    join(from, order, to, memo, number, node, lo, hi)
+    let rebuilt = Rebuilt {
+        number,
+        node,
+        lo,
+        hi,
+    };
+    join(from, order, to, memo, rebuilt)
+}
+
+/// A node and its number, and the numbers that the sets of its children have in the other table.
+#[derive(Clone, Copy)]
+struct Rebuilt {
+    number: Ref,
+    node: Node,
+    lo: Ref,
+    hi: Ref,
 }
 
 /// The number of a node's set, by those of its children, which is remembered.
@@ -49,24 +64,23 @@ fn join(
     order: &Order,
     to: &mut Ops,
     memo: &mut Cache,
-    number: Ref,
-    node: Node,
-    lo: Ref,
-    hi: Ref,
+    rebuilt: Rebuilt,
 ) -> Result<Ref, DdErr>
     requires table { IsNodeTable from.now }
-    requires node { node_at from.now.nodes number.0 ≡ Some node }
+    requires node { node_at from.now.nodes rebuilt.number.0 ≡ Some rebuilt.node }
     requires order { StaysWithin from.now.vars order.now.fluents to.old.vars }
     requires memo { IsMemo from.now.nodes order.now.fluents to.old.nodes memo.old.pairs }
-    requires lo { IsRebuilt from.now.nodes order.now.fluents to.old.nodes node.lo.0 lo.0 }
-    requires hi { IsRebuilt from.now.nodes order.now.fluents to.old.nodes node.hi.0 hi.0 }
+    requires lo { IsRebuilt from.now.nodes order.now.fluents to.old.nodes rebuilt.node.lo.0
+        rebuilt.lo.0 }
+    requires hi { IsRebuilt from.now.nodes order.now.fluents to.old.nodes rebuilt.node.hi.0
+        rebuilt.hi.0 }
     ensures rebuilt { IfOk result (λ r. IsRebuilt from.now.nodes order.now.fluents to.new.nodes
-        number.0 r.0) }
+        rebuilt.number.0 r.0) }
     ensures memo { IsMemo from.now.nodes order.now.fluents to.new.nodes memo.new.pairs }
     ensures kept { KeepsFunctions to.old to.new }
 {
-    let r = choose(to, order.fluent(node.var), lo, hi)?;
-    remember(memo, number, r);
+    let r = choose(to, order.fluent(rebuilt.node.var), rebuilt.lo, rebuilt.hi)?;
+    remember(memo, rebuilt.number, r);
     Ok(r)
 }
 

@@ -112,19 +112,26 @@ enum Step {
     Wrong,
 }
 
+/// A join of the sets at two places, or the complement of the first of them.
+#[derive(Clone, Copy)]
+struct Growth {
+    is_join: bool,
+    places: (usize, usize),
+}
+
 /// Adds a set to a list, and its subfunctions to theirs, if there is room.
 #[tactic(auto, using(dd_sets::proofs::FrameLemmas::all_kept))]
 fn grow(
     sets: &mut Sets,
     known: &mut Vec<Known>,
     parts: &mut Vec<u16>,
-    is_join: bool,
-    places: (usize, usize),
+    growth: Growth,
     limit: u32,
 ) -> Result<Step, Fail>
     requires { All (λ k. IsLive sets.old k.0.0) known.old.items }
     ensures { OnOk result (All (λ k. IsLive sets.new k.0.0) known.new.items) }
 {
+    let Growth { is_join, places } = growth;
     let f = pick(sets, known, places.0).ok_or("a set is missing")?;
     let g = pick(sets, known, places.1).ok_or("a set is missing")?;
     let table = if is_join { f.1 | g.1 } else { !f.1 };
@@ -169,8 +176,11 @@ fn fill(alloc: Global, sets: &mut Sets, limit: u32) -> Result<Option<u32>, Fail>
     let mut seed = 1u32;
     for step in 0..200u32 {
         seed = next(seed);
-        let at = places(seed, known.len());
-        match grow(sets, &mut known, &mut parts, step % 2 == 0, at, limit)? {
+        let growth = Growth {
+            is_join: step % 2 == 0,
+            places: places(seed, known.len()),
+        };
+        match grow(sets, &mut known, &mut parts, growth, limit)? {
             Step::Answered => {}
             Step::Refused => refusals = refusals.saturating_add(1),
             Step::Wrong => return Ok(None),
@@ -265,18 +275,25 @@ fn kind_of(step: u32) -> Kind {
     }
 }
 
+/// An operation on the sets at two places.
+#[derive(Clone, Copy)]
+struct Operation {
+    kind: Kind,
+    places: (usize, usize),
+}
+
 /// Tries an operation on two sets of a list, and asks for each set of the list afterwards.
 fn work(
     alloc: Global,
     sets: &mut Sets,
     known: &[Known],
-    kind: Kind,
-    places: (usize, usize),
+    operation: Operation,
     limit: u32,
 ) -> Result<Step, Fail>
     requires { All (λ k. IsLive sets.old k.0.0) known.now }
     ensures { OnOk result (KeepsSets sets.old sets.new) }
 {
+    let Operation { kind, places } = operation;
     let f = pick(sets, known, places.0).ok_or("a set is missing")?;
     let g = pick(sets, known, places.1).ok_or("a set is missing")?;
     let mut parts = parts_of(alloc, known)?;
@@ -307,8 +324,11 @@ fn run(alloc: Global, sets: &mut Sets, limit: u32) -> Result<Option<u32>, Fail>
     let mut seed = 1u32;
     for step in 0..200u32 {
         seed = next(seed);
-        let at = places(seed, known.len());
-        match work(alloc, sets, &known, kind_of(step), at, limit)? {
+        let operation = Operation {
+            kind: kind_of(step),
+            places: places(seed, known.len()),
+        };
+        match work(alloc, sets, &known, operation, limit)? {
             Step::Answered => answers = answers.saturating_add(1),
             Step::Refused => {}
             Step::Wrong => return Ok(None),

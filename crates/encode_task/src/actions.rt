@@ -40,7 +40,7 @@ ghost use Rattle.task_core.specs.declared.actions.GroundAction.{GroundAction as 
 ghost use Rattle.task_core.specs.declared.actions.Outcome.{Outcome as ActionOutcome};
 
 use crate::action_sets::ActionSets;
-use crate::landing::{encode_lands, exec_states};
+use crate::landing::{States, encode_lands, exec_states};
 use crate::outcomes::next_value;
 use crate::slots::{put, slot_for};
 use dd_sets::{SetErr, SetId, Sets};
@@ -117,7 +117,8 @@ fn encode_action(
         (length action.now.outcomes.items * (sets.old.vars + 1)) w sets.old sets.new }
 {
     let outcomes = encode_outcomes(alloc, sets, &action.outcomes)?;
-    let lands = encode_lands(alloc, sets, invariant, space, action, &outcomes)?;
+    let states = States { invariant, space };
+    let lands = encode_lands(alloc, sets, &states, action, &outcomes)?;
     let exec = exec_states(sets, invariant, space, action, &lands)?;
     Ok(ActionSets {
         exec,

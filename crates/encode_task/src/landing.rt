@@ -23,40 +23,46 @@ use dd_sets::{SetErr, SetId, Sets};
 use std::alloc::Global;
 use task_core::{Cond, GroundAction};
 
+/// An invariant, and the set of the states, in which it holds.
+#[derive(Clone, Copy)]
+pub struct States<'a> {
+    pub invariant: &'a Cond,
+    pub space: SetId,
+}
+
 /// The slots of what the outcomes of an action lead to states, given the fluents that they change;
 /// none where the invariant always holds.
 pub fn encode_lands(
     alloc: Global,
     sets: &mut Sets,
-    invariant: &Cond,
-    space: SetId,
+    states: &States,
     action: &GroundAction,
     outcomes: &[Changed],
 ) -> Result<Vec<SetId>, SetErr>
-    requires space { Holds sets.old space (holds invariant.now) }
+    requires space { Holds sets.old states.now.space (holds states.now.invariant.now) }
     requires made { AllPaired (OutcomeMade sets.old)
         (map (λ changed. changed.items) outcomes.now) action.now.outcomes.items }
     ensures made { IfOk result (λ lands.
-        LandsMade sets.new invariant.now lands.items action.now.outcomes.items) }
+        LandsMade sets.new states.now.invariant.now lands.items action.now.outcomes.items) }
     ensures kept { KeepsSets sets.old sets.new }
     ensures only { IfOk result (λ lands.
         AddsOnly sets.old sets.new (λ slot. is_one_of slot lands.items)) }
     ensures few { IfOk result (λ lands.
         live_count sets.new ≤ live_count sets.old + length action.now.outcomes.items) }
     ensures adds { OnOk result (AddsSets
-        (Contains (map (lands_of invariant.now) action.now.outcomes.items)) sets.old sets.new) }
+        (Contains (map (lands_of states.now.invariant.now) action.now.outcomes.items)) sets.old sets.new) }
     ensures full { IsErrOf result SetErr.Full → (w : ℕ) → sets.old.vars + 2 ≤ w
-        → Small sets.old.vars w (holds invariant.now)
-        → AreSmall sets.old.vars w (IsMadeForAction sets.old.vars invariant.now action.now)
-        → NoRoomKept (Contains (map (lands_of invariant.now) action.now.outcomes.items))
+        → Small sets.old.vars w (holds states.now.invariant.now)
+        → AreSmall sets.old.vars w (IsMadeForAction sets.old.vars states.now.invariant.now action.now)
+        → NoRoomKept (Contains (map (lands_of states.now.invariant.now) action.now.outcomes.items))
         (length action.now.outcomes.items) w sets.old sets.new }
 {
     let mut lands = Vec::new(alloc);
-    if always_holds(invariant) {
+    if always_holds(states.invariant) {
         return Ok(lands);
     }
     for changed in outcomes {
-        let slot = sets.subst(space, changed)?;
+        let slot = sets.subst(states.space, changed)?;
         put(&mut lands, slot)?;
     }
     Ok(lands)

@@ -26,4 +26,5 @@ pub use found::FoundAuto;
 pub use patrol::plan_patrol;
 pub use places::rule_place;
 pub use rule_states::rule_sets;
+pub use rules::{Advance, Chain};
 pub use until::{plan_until, until_takers};

@@ -75,17 +75,16 @@ fn search_visits(
     board: &mut Board,
     actions: u32,
     visits: &[Cond],
-    count: u32,
 ) -> Result<FoundAuto, SetErr>
     requires ready { (start : Start) × (start.stages ≡ length visits.now)
         × HasNothing start (enc.old, board.old.slots.items) × PatrolFits start visits.now }
     requires actions { actions ≡ length enc.old.actions }
     requires visits { IsPatrolOver enc.old.sets.vars visits.now }
-    requires count { count ≡ length visits.now }
     ensures { (start : Start) → start.stages ≡ length visits.now
         → HasNothing start (enc.old, board.old.slots.items) → PatrolFits start visits.now
         → PatrolEnds start (enc.new, board.new.slots.items) (visit_sets visits.now) result }
 {
+    let count = count_of(visits);
     let lost = find_left(enc, board, actions, visits)?;
     if lost {
         return Ok(FoundAuto::NoPlan);
@@ -124,7 +123,7 @@ fn find_patrol(
     let actions = task.actions.len() as u32;
     let count = count_of(visits);
     let mut board = Board::new(alloc, enc, places(actions, count))?;
-    let found = search_visits(alloc, enc, &mut board, actions, visits, count);
+    let found = search_visits(alloc, enc, &mut board, actions, visits);
     board.close(enc);
     found
 }

@@ -12,7 +12,7 @@ ghost use Rattle.patrol_plan.specs.PatrolSteps.{visit_place};
 ghost use Rattle.patrol_plan.specs.Scenes.{Left, Start, sys_of, takers_place};
 
 use crate::places::{HITS, takers_at};
-use crate::rules::{Move, list_at};
+use crate::rules::{Move, Taken, list_at};
 use crate::visits::visit_at;
 use dd_sets::SetErr;
 use encode_task::Enc;
@@ -45,6 +45,13 @@ pub(crate) struct Turn {
     pub(crate) visit: u32,
     pub(crate) part: Part,
     pub(crate) next: u32,
+}
+
+/// Two turns from a context, the next contexts in rising number.
+#[derive(Clone, Copy, Debug)]
+struct TwoTurns {
+    first: Turn,
+    second: Turn,
 }
 
 /// Puts a part of the states that take an action.
@@ -80,29 +87,28 @@ fn list_taken(
     board: &mut Board,
     rules: &mut Vec<AutoRule>,
     turn: Turn,
-    takers: usize,
-    action: ActionId,
+    taken: Taken,
 ) -> Result<(), SetErr>
     requires ready { (start : Start) × (conds : List CondOf) × (turn.visit < start.stages)
-        × (takers ≡ takers_place (action_count start.task) start.stages turn.visit)
+        × (taken.takers ≡ takers_place (action_count start.task) start.stages turn.visit)
         × HasPatrolTable start conds (enc.old, board.old.slots.items) }
     requires few { turn.visit < most_visits }
-    requires action { action.0 < length enc.old.actions }
+    requires action { taken.action.0 < length enc.old.actions }
     ensures { (start : Start) (conds : List CondOf) → turn.visit < start.stages
-        → takers ≡ takers_place (action_count start.task) start.stages turn.visit
+        → taken.takers ≡ takers_place (action_count start.task) start.stages turn.visit
         → GoesOn (visit_sets conds) turn.part (suc turn.visit) turn.next
         → HasPatrolTable start conds (enc.old, board.old.slots.items)
         → Left start (enc.new, board.new.slots.items)
         (ListsPatrol start conds (enc.new, board.new.slots.items)
         (map context_rule_of rules.old.items) (map context_rule_of rules.new.items)
         (action_rules (sys_of start) (patrol_states (sys_of start) (visit_sets conds))
-        (suc turn.visit) turn.next action.0)) result }
+        (suc turn.visit) turn.next taken.action.0)) result }
 {
-    let taker = takers + action.0 as usize;
+    let taker = taken.takers + taken.action.0 as usize;
     put_part(enc, board, turn.part, taker, visit_at(turn.visit))?;
     let given = Move {
         context: turn.visit + 1,
-        action,
+        action: taken.action,
         next: turn.next,
     };
     list_at(enc, board, rules, given, HITS)
@@ -133,7 +139,11 @@ fn list_part(
 {
     let takers = takers_at(patrol.actions, patrol.visits, turn.visit);
     for a in 0..patrol.actions {
-        list_taken(enc, board, rules, turn, takers, ActionId(a))?;
+        let taken = Taken {
+            takers,
+            action: ActionId(a),
+        };
+        list_taken(enc, board, rules, turn, taken)?;
     }
     Ok(())
 }
@@ -144,30 +154,29 @@ fn list_two(
     board: &mut Board,
     rules: &mut Vec<AutoRule>,
     patrol: Patrol,
-    first: Turn,
-    second: Turn,
+    turns: TwoTurns,
 ) -> Result<(), SetErr>
     requires ready { (start : Start) × (conds : List CondOf) × (start.stages ≡ patrol.visits)
-        × GoesOn (visit_sets conds) first.part (suc first.visit) first.next
-        × GoesOn (visit_sets conds) second.part (suc second.visit) second.next
+        × GoesOn (visit_sets conds) turns.first.part (suc turns.first.visit) turns.first.next
+        × GoesOn (visit_sets conds) turns.second.part (suc turns.second.visit) turns.second.next
         × HasPatrolTable start conds (enc.old, board.old.slots.items) }
     requires actions { patrol.actions ≡ length enc.old.actions }
     requires few { patrol.visits ≤ most_visits }
-    requires visit { first.visit < patrol.visits }
-    requires same { second.visit ≡ first.visit }
+    requires visit { turns.first.visit < patrol.visits }
+    requires same { turns.second.visit ≡ turns.first.visit }
     ensures { (start : Start) (conds : List CondOf) → start.stages ≡ patrol.visits
-        → GoesOn (visit_sets conds) first.part (suc first.visit) first.next
-        → GoesOn (visit_sets conds) second.part (suc second.visit) second.next
-        → patrol_nexts patrol.visits (suc first.visit) ≡ first.next ∷ second.next ∷ []
+        → GoesOn (visit_sets conds) turns.first.part (suc turns.first.visit) turns.first.next
+        → GoesOn (visit_sets conds) turns.second.part (suc turns.second.visit) turns.second.next
+        → patrol_nexts patrol.visits (suc turns.first.visit) ≡ turns.first.next ∷ turns.second.next ∷ []
         → HasPatrolTable start conds (enc.old, board.old.slots.items)
         → Left start (enc.new, board.new.slots.items)
         (ListsPatrol start conds (enc.new, board.new.slots.items)
         (map context_rule_of rules.old.items) (map context_rule_of rules.new.items)
         (rules_in_context (sys_of start) (patrol_states (sys_of start) (visit_sets conds))
-        (patrol_nexts patrol.visits) (suc first.visit))) result }
+        (patrol_nexts patrol.visits) (suc turns.first.visit))) result }
 {
-    list_part(enc, board, rules, patrol, first)?;
-    list_part(enc, board, rules, patrol, second)
+    list_part(enc, board, rules, patrol, turns.first)?;
+    list_part(enc, board, rules, patrol, turns.second)
 }
 
 /// The rules of a context, the next contexts in rising number.
@@ -203,7 +212,11 @@ fn list_visit(
             part: Part::Made,
             next: context + 1,
         };
-        return list_two(enc, board, rules, patrol, others, made);
+        let turns = TwoTurns {
+            first: others,
+            second: made,
+        };
+        return list_two(enc, board, rules, patrol, turns);
     }
     if patrol.visits == 1 {
         let whole = Turn {
@@ -223,7 +236,11 @@ fn list_visit(
         part: Part::Others,
         next: context,
     };
-    list_two(enc, board, rules, patrol, made, others)
+    let turns = TwoTurns {
+        first: made,
+        second: others,
+    };
+    list_two(enc, board, rules, patrol, turns)
 }
 
 /// The rules of all contexts, in rising number.

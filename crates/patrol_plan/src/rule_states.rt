@@ -9,13 +9,13 @@ ghost use Rattle.patrol_plan.specs.Steps.{Chooses};
 ghost use Rattle.patrol_plan.specs.Tables.{HasRuleStates, HasTable};
 
 use crate::places::{NEW, takers_at};
-use crate::rules::turn_states;
+use crate::rules::{Advance, Chain, turn_states};
 use dd_sets::SetErr;
 use encode_task::Enc;
 use slot_board::{Board, Operation};
 
 /// Puts at its place, for each action, the states in which the printed plan takes it in a context
-/// and goes on in a next one. Both are counted from 0, and the next one is not before the context.
+/// and goes on in a next one, which is not before the context.
 ///
 /// `rule_place` tells the place of an action. The board is that of `until_takers`, and stays it. The
 /// sets are the meets of two, and as many as there are actions: the width of the search has to be one
@@ -23,26 +23,25 @@ use slot_board::{Board, Operation};
 pub fn rule_sets(
     enc: &mut Enc,
     board: &mut Board,
-    actions: u32,
-    stages: u32,
-    context: u32,
-    next: u32,
+    counts: Chain,
+    advance: Advance,
 ) -> Result<(), SetErr>
-    requires ready { (start : Start) × (chain : UntilSets) × (start.stages ≡ stages)
+    requires ready { (start : Start) × (chain : UntilSets) × (start.stages ≡ counts.stages)
         × HasTable start (enc.old, board.old.slots.items) chain × EverySetIsSmall start }
-    requires actions { actions ≡ length enc.old.actions }
-    requires few { stages ≤ most_stages }
-    requires context { context ≤ next }
-    requires next { next ≤ stages }
-    ensures { (start : Start) (chain : UntilSets) → start.stages ≡ stages
+    requires actions { counts.actions ≡ length enc.old.actions }
+    requires few { counts.stages ≤ most_stages }
+    requires context { advance.stage ≤ advance.next }
+    requires next { advance.next ≤ counts.stages }
+    ensures { (start : Start) (chain : UntilSets) → start.stages ≡ counts.stages
         → HasTable start (enc.old, board.old.slots.items) chain → EverySetIsSmall start
         → Left start (enc.new, board.new.slots.items)
-        (HasRuleStates start (enc.new, board.new.slots.items) chain context next) result }
+        (HasRuleStates start (enc.new, board.new.slots.items) chain advance.stage advance.next)
+        result }
 {
-    let takers = takers_at(actions, stages, next);
-    let place = takers_at(actions, stages, stages + 1);
-    turn_states(enc, board, stages, context, next)?;
-    choose_all(enc, board, actions, takers, place)
+    let takers = takers_at(counts.actions, counts.stages, advance.next);
+    let place = takers_at(counts.actions, counts.stages, counts.stages + 1);
+    turn_states(enc, board, counts.stages, advance.stage, advance.next)?;
+    choose_all(enc, board, counts.actions, takers, place)
 }
 
 /// Puts at a place, for each action, the chosen states that take it.

@@ -31,16 +31,30 @@ pub(crate) struct Move {
 
 /// How many actions a task has, and how many stages a chain.
 #[derive(Clone, Copy, Debug)]
-pub(crate) struct Chain {
-    pub(crate) actions: u32,
-    pub(crate) stages: u32,
+pub struct Chain {
+    pub actions: u32,
+    pub stages: u32,
 }
 
 /// From the context of a stage to that of a next one. Stages are counted from 0.
 #[derive(Clone, Copy, Debug)]
-pub(crate) struct Advance {
-    pub(crate) stage: u32,
-    pub(crate) next: u32,
+pub struct Advance {
+    pub stage: u32,
+    pub next: u32,
+}
+
+/// How many actions a task has, and the first of the places of the states that take each.
+#[derive(Clone, Copy, Debug)]
+struct TakerPlaces {
+    actions: u32,
+    first: usize,
+}
+
+/// An action, and the first of the places of the states that take each action.
+#[derive(Clone, Copy, Debug)]
+pub(crate) struct Taken {
+    pub(crate) takers: usize,
+    pub(crate) action: ActionId,
 }
 
 /// A rule for each cube.
@@ -140,30 +154,29 @@ fn list_action(
     enc: &mut Enc,
     board: &mut Board,
     rules: &mut Vec<AutoRule>,
-    takers: usize,
+    taken: Taken,
     advance: Advance,
-    action: ActionId,
 ) -> Result<(), SetErr>
     requires ready { (start : Start) × (chain : UntilSets)
-        × (takers ≡ takers_place (action_count start.task) start.stages advance.next)
+        × (taken.takers ≡ takers_place (action_count start.task) start.stages advance.next)
         × HasTurning start (enc.old, board.old.slots.items) chain advance.stage advance.next }
-    requires action { action.0 < length enc.old.actions }
+    requires action { taken.action.0 < length enc.old.actions }
     requires stage { advance.stage ≤ advance.next }
     requires next { advance.next ≤ most_stages }
     ensures { (start : Start) (chain : UntilSets)
-        → takers ≡ takers_place (action_count start.task) start.stages advance.next
+        → taken.takers ≡ takers_place (action_count start.task) start.stages advance.next
         → HasTurning start (enc.old, board.old.slots.items) chain advance.stage advance.next
         → Left start (enc.new, board.new.slots.items)
         (ListsTurning start (enc.new, board.new.slots.items) chain
         (map context_rule_of rules.old.items) (map context_rule_of rules.new.items)
         advance.stage advance.next (action_rules (sys_of start) (until_states (sys_of start) chain)
-        (suc advance.stage) (suc advance.next) action.0)) result }
+        (suc advance.stage) (suc advance.next) taken.action.0)) result }
 {
-    let place = takers + action.0 as usize;
+    let place = taken.takers + taken.action.0 as usize;
     board.combine(enc, HITS, Operation::Meet, NEW, place)?;
     let given = Move {
         context: advance.stage + 1,
-        action,
+        action: taken.action,
         next: advance.next + 1,
     };
     list_at(enc, board, rules, given, HITS)
@@ -174,18 +187,17 @@ fn list_actions(
     enc: &mut Enc,
     board: &mut Board,
     rules: &mut Vec<AutoRule>,
-    actions: u32,
-    takers: usize,
+    takers: TakerPlaces,
     advance: Advance,
 ) -> Result<(), SetErr>
     requires ready { (start : Start) × (chain : UntilSets)
-        × (takers ≡ takers_place (action_count start.task) start.stages advance.next)
+        × (takers.first ≡ takers_place (action_count start.task) start.stages advance.next)
         × HasTurning start (enc.old, board.old.slots.items) chain advance.stage advance.next }
-    requires actions { actions ≡ length enc.old.actions }
+    requires actions { takers.actions ≡ length enc.old.actions }
     requires stage { advance.stage ≤ advance.next }
     requires next { advance.next ≤ most_stages }
     ensures { (start : Start) (chain : UntilSets)
-        → takers ≡ takers_place (action_count start.task) start.stages advance.next
+        → takers.first ≡ takers_place (action_count start.task) start.stages advance.next
         → HasTurning start (enc.old, board.old.slots.items) chain advance.stage advance.next
         → Left start (enc.new, board.new.slots.items)
         (ListsTurning start (enc.new, board.new.slots.items) chain
@@ -193,8 +205,12 @@ fn list_actions(
         advance.stage advance.next (next_rules (sys_of start) (until_states (sys_of start) chain)
         (suc advance.stage) (suc advance.next))) result }
 {
-    for a in 0..actions {
-        list_action(enc, board, rules, takers, advance, ActionId(a))?;
+    for a in 0..takers.actions {
+        let taken = Taken {
+            takers: takers.first,
+            action: ActionId(a),
+        };
+        list_action(enc, board, rules, taken, advance)?;
     }
     Ok(())
 }
@@ -224,7 +240,11 @@ fn list_stage(
 {
     let takers = takers_at(counts.actions, counts.stages, advance.next);
     turn_states(enc, board, counts.stages, advance.stage, advance.next)?;
-    list_actions(enc, board, rules, counts.actions, takers, advance)
+    let places = TakerPlaces {
+        actions: counts.actions,
+        first: takers,
+    };
+    list_actions(enc, board, rules, places, advance)
 }
 
 /// The rules of a context, the next contexts in rising number.

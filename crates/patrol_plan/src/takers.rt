@@ -208,35 +208,50 @@ pub(crate) fn climb(
     Ok(())
 }
 
+/// The places of the states that actions are to lead into, and of those that are to take them, and
+/// the first of the places of the states that take each action.
+#[derive(Clone, Copy, Debug)]
+pub(crate) struct SharePlaces {
+    pub(crate) near: usize,
+    pub(crate) rest: usize,
+    pub(crate) takers: usize,
+}
+
 /// Gives each of the states at a place the least-numbered action that leads into those at another.
 pub(crate) fn take_first(
     enc: &mut Enc,
     board: &mut Board,
     actions: u32,
-    near: usize,
-    rest: usize,
-    takers: usize,
+    at: SharePlaces,
 ) -> Result<(), SetErr>
     requires ready { (start : Start) × IsGuarded start (enc.old, board.old.slots.items)
-        × ShareFits start (states_at (enc.old, board.old.slots.items) near)
-        (states_at (enc.old, board.old.slots.items) rest)
-        (λ k. states_at (enc.old, board.old.slots.items) (takers + k)) }
+        × ShareFits start (states_at (enc.old, board.old.slots.items) at.near)
+        (states_at (enc.old, board.old.slots.items) at.rest)
+        (λ k. states_at (enc.old, board.old.slots.items) (at.takers + k)) }
     requires actions { actions ≡ length enc.old.actions }
-    requires places { takers + actions ≤ length board.old.slots.items }
-    requires near { 8 ≤ near }
-    requires rest { 8 ≤ rest }
-    requires apart { (near < takers) × (rest < takers) }
+    requires places { at.takers + actions ≤ length board.old.slots.items }
+    requires near { 8 ≤ at.near }
+    requires rest { 8 ≤ at.rest }
+    requires apart { (at.near < at.takers) × (at.rest < at.takers) }
     ensures { (start : Start) → IsGuarded start (enc.old, board.old.slots.items)
-        → ShareFits start (states_at (enc.old, board.old.slots.items) near)
-        (states_at (enc.old, board.old.slots.items) rest)
-        (λ k. states_at (enc.old, board.old.slots.items) (takers + k))
+        → ShareFits start (states_at (enc.old, board.old.slots.items) at.near)
+        (states_at (enc.old, board.old.slots.items) at.rest)
+        (λ k. states_at (enc.old, board.old.slots.items) (at.takers + k))
         → Left start (enc.new, board.new.slots.items)
-        (FirstTaken start (enc.old, board.old.slots.items) (enc.new, board.new.slots.items) near
-        rest takers) result }
+        (FirstTaken start (enc.old, board.old.slots.items) (enc.new, board.new.slots.items)
+        at.near at.rest at.takers) result }
 {
-    board.copy_of(enc, NEAR, near)?;
-    board.copy_of(enc, REST, rest)?;
-    share(enc, board, actions, takers)
+    board.copy_of(enc, NEAR, at.near)?;
+    board.copy_of(enc, REST, at.rest)?;
+    share(enc, board, actions, at.takers)
+}
+
+/// The place of the states in which a stage is met, and the first of those of the states that take
+/// each action towards it.
+#[derive(Clone, Copy, Debug)]
+struct StagePlaces {
+    met: usize,
+    takers: usize,
 }
 
 /// Has the actions towards a stage taken.
@@ -245,30 +260,29 @@ fn take_stage(
     board: &mut Board,
     actions: u32,
     guard: &Cond,
-    met: usize,
-    takers: usize,
+    at: StagePlaces,
 ) -> Result<(), SetErr>
     requires ready { (start : Start) × IsAt start (enc.old, board.old.slots.items)
         × board_specs.ConditionFits (board_of start) guard.now
         × ClimbsFit (guarded start (states_of guard.now))
-        (states_at (enc.old, board.old.slots.items) met)
-        (λ k. states_at (enc.old, board.old.slots.items) (takers + k)) }
+        (states_at (enc.old, board.old.slots.items) at.met)
+        (λ k. states_at (enc.old, board.old.slots.items) (at.takers + k)) }
     requires actions { actions ≡ length enc.old.actions }
     requires guard { IsConditionOver enc.old.sets.vars guard.now }
-    requires places { takers + actions ≤ length board.old.slots.items }
-    requires met { 8 ≤ met }
-    requires apart { met < takers }
+    requires places { at.takers + actions ≤ length board.old.slots.items }
+    requires met { 8 ≤ at.met }
+    requires apart { at.met < at.takers }
     ensures { (start : Start) → IsAt start (enc.old, board.old.slots.items)
         → board_specs.ConditionFits (board_of start) guard.now
         → ClimbsFit (guarded start (states_of guard.now))
-        (states_at (enc.old, board.old.slots.items) met)
-        (λ k. states_at (enc.old, board.old.slots.items) (takers + k))
+        (states_at (enc.old, board.old.slots.items) at.met)
+        (λ k. states_at (enc.old, board.old.slots.items) (at.takers + k))
         → Left start (enc.new, board.new.slots.items)
         (Climbed (guarded start (states_of guard.now)) (enc.old, board.old.slots.items)
-        (enc.new, board.new.slots.items) met takers) result }
+        (enc.new, board.new.slots.items) at.met at.takers) result }
 {
     board.condition(enc, GUARD, guard)?;
-    climb(enc, board, actions, met, takers)
+    climb(enc, board, actions, at.met, at.takers)
 }
 
 /// Has the actions taken that keep the condition at the end.
@@ -296,7 +310,12 @@ fn take_end(
         (enc.new, board.new.slots.items) won won takers) result }
 {
     board.whole(enc, GUARD)?;
-    take_first(enc, board, actions, won, won, takers)
+    let at = SharePlaces {
+        near: won,
+        rest: won,
+        takers,
+    };
+    take_first(enc, board, actions, at)
 }
 
 /// Has the actions towards all stages taken, and those that keep the condition.
@@ -325,8 +344,10 @@ pub(crate) fn take_all(
             board,
             actions,
             &chain.stages[i as usize].guard,
-            met_at(i),
-            takers_at(actions, stages, i),
+            StagePlaces {
+                met: met_at(i),
+                takers: takers_at(actions, stages, i),
+            },
         )?;
     }
     take_end(

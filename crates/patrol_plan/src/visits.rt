@@ -15,7 +15,7 @@ ghost use Rattle.patrol_plan.specs.Scenes.{HasNothing, Left, Start, board_of, sy
 
 use crate::places::{GUARD, NEAR, NEXT, takers_at};
 use crate::rounds::{Way, turn_all, turn_from};
-use crate::takers::{climb, take_first};
+use crate::takers::{SharePlaces, climb, take_first};
 use dd_sets::SetErr;
 use encode_task::Enc;
 use slot_board::{Board, Operation};
@@ -208,7 +208,12 @@ fn take_visit(
         → Left start (enc.new, board.new.slots.items)
         (HasPatrol start conds (enc.new, board.new.slots.items) (suc i)) result }
 {
-    take_first(enc, board, actions, LEFT, place, takers)?;
+    let at = SharePlaces {
+        near: LEFT,
+        rest: place,
+        takers,
+    };
+    take_first(enc, board, actions, at)?;
     climb(enc, board, actions, place, takers)
 }
 

@@ -12,8 +12,8 @@ use Rattle.encode_task.proofs.landing.encode_lands.Given as goal
 abbrev pub invariant-loop-changed : goal.invariant-loop-changed
 invariant-loop-changed l = record {
   kept : KeepsSets l.fn.sets l.sets;
-  adds : AddsSets (Contains (map (lands_of l.invariant') l.action.outcomes.items)) l.fn.sets l.sets;
-  made : AllPaired (λ slot o. Holds l.sets slot (lands_of l.invariant' o)) l.lands.items (take l.changed-index l.action.outcomes.items);
+  adds : AddsSets (Contains (map (lands_of l.states.invariant.now) l.action.outcomes.items)) l.fn.sets l.sets;
+  made : AllPaired (λ slot o. Holds l.sets slot (lands_of l.states.invariant.now o)) l.lands.items (take l.changed-index l.action.outcomes.items);
   only : AddsOnly l.fn.sets l.sets (λ slot. is_one_of slot l.lands.items);
   few : live_count l.sets ≤ live_count l.fn.sets + l.changed-index;
 }

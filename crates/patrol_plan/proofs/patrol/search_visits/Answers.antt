@@ -66,7 +66,7 @@ write_visits-requires-clause-ready c =
     let after = patrol_stayed start c.args.visits.now c.find_left.new.enc c.covers_initial.new.enc c.find_left.new.board.slots.items 0 p stayed in
     let answer = c.in_ok-covers_initial.ensures.answer (board_of start) p.ready.at ∙ patrol_covered start c.args.visits.now (c.find_left.new.enc, c.find_left.new.board.slots.items) p in
     let all = sym answer ∙ (let f = c.if-not-branch.false in cc) in
-    (start, c.args.visits.now, (let e : start.stages ≡ c.args.count = count ∙ sym c.requires.count in e), after, all)
+    (start, c.args.visits.now, (let e : start.stages ≡ c.count_of-count.result = count ∙ sym c.count_of-count.ensures in e), after, all)
 
 pub write_visits-requires-clause-actions : goal.write_visits-requires-clause-actions
 write_visits-requires-clause-actions c =
@@ -88,7 +88,7 @@ returns-in_err-plan c start count h fits =
     let after = patrol_stayed start c.args.visits.now c.find_left.new.enc c.covers_initial.new.enc c.find_left.new.board.slots.items 0 p stayed in
     let answer = c.in_ok-covers_initial.ensures.answer (board_of start) p.ready.at ∙ patrol_covered start c.args.visits.now (c.find_left.new.enc, c.find_left.new.board.slots.items) p in
     let all = sym answer ∙ (let f = c.if-not-branch.false in cc) in
-    patrol_ends_refused start (c.write_visits.new.enc, c.write_visits.new.board.slots.items) (visit_sets c.args.visits.now) _ c.write_visits.result c.from_residual-in_err-plan.result _ c.in_err-plan.was (err_from_is_err_and c.from_residual-in_err-plan.result c.from_residual-in_err-plan.ensures.1) (c.write_visits.ensures.left start c.args.visits.now (let e : start.stages ≡ c.args.count = count ∙ sym c.requires.count in e) after all)
+    patrol_ends_refused start (c.write_visits.new.enc, c.write_visits.new.board.slots.items) (visit_sets c.args.visits.now) _ c.write_visits.result c.from_residual-in_err-plan.result _ c.in_err-plan.was (err_from_is_err_and c.from_residual-in_err-plan.result c.from_residual-in_err-plan.ensures.1) (c.write_visits.ensures.left start c.args.visits.now (let e : start.stages ≡ c.count_of-count.result = count ∙ sym c.count_of-count.ensures in e) after all)
 
 pub returns : goal.returns
 returns c start count h fits =
@@ -98,7 +98,7 @@ returns c start count h fits =
     let after = patrol_stayed start c.args.visits.now c.find_left.new.enc c.covers_initial.new.enc c.find_left.new.board.slots.items 0 p stayed in
     let answer = c.in_ok-covers_initial.ensures.answer (board_of start) p.ready.at ∙ patrol_covered start c.args.visits.now (c.find_left.new.enc, c.find_left.new.board.slots.items) p in
     let all = sym answer ∙ (let f = c.if-not-branch.false in cc) in
-    (went (board_of start) c.write_visits.new.enc c.write_visits.new.board.slots.items _ c.write_visits.result _ c.in_ok-plan.was (c.write_visits.ensures.left start c.args.visits.now (let e : start.stages ≡ c.args.count = count ∙ sym c.requires.count in e) after all), c.in_ok-plan.ensures.plan start c.args.visits.now (let e : start.stages ≡ c.args.count = count ∙ sym c.requires.count in e) after all)
+    (went (board_of start) c.write_visits.new.enc c.write_visits.new.board.slots.items _ c.write_visits.result _ c.in_ok-plan.was (c.write_visits.ensures.left start c.args.visits.now (let e : start.stages ≡ c.count_of-count.result = count ∙ sym c.count_of-count.ensures in e) after all), c.in_ok-plan.ensures.plan start c.args.visits.now (let e : start.stages ≡ c.count_of-count.result = count ∙ sym c.count_of-count.ensures in e) after all)
 
 pub returns-then-lost : goal.returns-then-lost
 returns-then-lost c start count h fits =

@@ -50,7 +50,7 @@ returns c start conds n early late nexts h =
     let one = went (board_of start) c.list_part.new.enc c.list_part.new.board.slots.items _ c.list_part.result _ c.in_ok-list_part.was (c.list_part.ensures start conds n early h) in
     let after = subst (λ (visit : ℕ). Left start (c.list_part-2.new.enc, c.list_part-2.new.board.slots.items)
     (ListsPatrol start conds (c.list_part-2.new.enc, c.list_part-2.new.board.slots.items) (map context_rule_of c.list_part.new.rules.items) (map context_rule_of c.list_part-2.new.rules.items)
-    (next_rules (sys_of start) (patrol_states (sys_of start) (visit_sets conds)) (suc visit) c.args.second.next)) c.list_part-2.result) c.requires.same (c.list_part-2.ensures start conds n late one.table) in
+    (next_rules (sys_of start) (patrol_states (sys_of start) (visit_sets conds)) (suc visit) c.args.turns.second.next)) c.list_part-2.result) c.requires.same (c.list_part-2.ensures start conds n late one.table) in
     left_with (board_of start) c.list_part-2.new.enc c.list_part-2.new.board.slots.items _ _ c.list_part-2.result
-    (λ z. two_listed start conds (c.list_part.new.enc, c.list_part.new.board.slots.items) (c.list_part-2.new.enc, c.list_part-2.new.board.slots.items) (map context_rule_of c.args.rules.now.items) (map context_rule_of c.list_part.new.rules.items) (map context_rule_of c.list_part-2.new.rules.items) (next_rules (sys_of start) (patrol_states (sys_of start) (visit_sets conds)) (suc c.args.first.visit)) (patrol_nexts c.args.patrol.visits (suc c.args.first.visit)) c.args.first.next c.args.second.next nexts one z)
+    (λ z. two_listed start conds (c.list_part.new.enc, c.list_part.new.board.slots.items) (c.list_part-2.new.enc, c.list_part-2.new.board.slots.items) (map context_rule_of c.args.rules.now.items) (map context_rule_of c.list_part.new.rules.items) (map context_rule_of c.list_part-2.new.rules.items) (next_rules (sys_of start) (patrol_states (sys_of start) (visit_sets conds)) (suc c.args.turns.first.visit)) (patrol_nexts c.args.patrol.visits (suc c.args.turns.first.visit)) c.args.turns.first.next c.args.turns.second.next nexts one z)
     after

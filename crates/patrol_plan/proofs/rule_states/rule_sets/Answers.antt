@@ -46,7 +46,7 @@ choose_all-requires-clause-places c =
     let h = c.requires.ready.3 in
     let r = went (board_of start) c.turn_states.new.enc c.turn_states.new.board.slots.items _ c.turn_states.result _ c.in_ok-turn_states.was (c.turn_states.ensures start chain n h) in
     let e : length c.args.enc.now.actions ≡ action_count start.task = (made_at (board_of start) c.args.enc.now c.args.board.now.slots.items h.takers.ready.at).actions in
-    let place : c.takers_at-place.result ≡ rules_place (action_count start.task) start.stages = c.takers_at-place.ensures ∙ ap (λ k. takers_place k c.args.stages (c.args.stages + 1)) (c.requires.actions ∙ e) ∙ ap (λ k. takers_place (action_count start.task) k (k + 1)) (sym n) ∙ ap (takers_place (action_count start.task) start.stages) (let one : start.stages + 1 ≡ suc start.stages = omega arith in one) in
+    let place : c.takers_at-place.result ≡ rules_place (action_count start.task) start.stages = c.takers_at-place.ensures ∙ ap (λ k. takers_place k c.args.counts.stages (c.args.counts.stages + 1)) (c.requires.actions ∙ e) ∙ ap (λ k. takers_place (action_count start.task) k (k + 1)) (sym n) ∙ ap (takers_place (action_count start.task) start.stages) (let one : start.stages + 1 ≡ suc start.stages = omega arith in one) in
     let w = takers_within start (c.turn_states.new.enc, c.turn_states.new.board.slots.items) r.table.takers.ready.at (suc start.stages) (omega arith) in omega (arith, c.requires.actions)
 
 pub choose_all-requires-clause-apart : goal.choose_all-requires-clause-apart
@@ -56,9 +56,9 @@ choose_all-requires-clause-apart c =
     let n = c.requires.ready.2 in
     let h = c.requires.ready.3 in
     let e : length c.args.enc.now.actions ≡ action_count start.task = (made_at (board_of start) c.args.enc.now c.args.board.now.slots.items h.takers.ready.at).actions in
-    let takers : c.takers_at-takers.result ≡ takers_place (action_count start.task) start.stages c.args.next = c.takers_at-takers.ensures ∙ ap (λ k. takers_place k c.args.stages c.args.next) (c.requires.actions ∙ e) ∙ ap (λ k. takers_place (action_count start.task) k c.args.next) (sym n) in
-    let place : c.takers_at-place.result ≡ rules_place (action_count start.task) start.stages = c.takers_at-place.ensures ∙ ap (λ k. takers_place k c.args.stages (c.args.stages + 1)) (c.requires.actions ∙ e) ∙ ap (λ k. takers_place (action_count start.task) k (k + 1)) (sym n) ∙ ap (takers_place (action_count start.task) start.stages) (let one : start.stages + 1 ≡ suc start.stages = omega arith in one) in
-    let w = takers_apart (action_count start.task) start.stages c.args.next (suc start.stages) (omega (arith, n, c.requires.next)) in omega (arith, c.requires.actions)
+    let takers : c.takers_at-takers.result ≡ takers_place (action_count start.task) start.stages c.args.advance.next = c.takers_at-takers.ensures ∙ ap (λ k. takers_place k c.args.counts.stages c.args.advance.next) (c.requires.actions ∙ e) ∙ ap (λ k. takers_place (action_count start.task) k c.args.advance.next) (sym n) in
+    let place : c.takers_at-place.result ≡ rules_place (action_count start.task) start.stages = c.takers_at-place.ensures ∙ ap (λ k. takers_place k c.args.counts.stages (c.args.counts.stages + 1)) (c.requires.actions ∙ e) ∙ ap (λ k. takers_place (action_count start.task) k (k + 1)) (sym n) ∙ ap (takers_place (action_count start.task) start.stages) (let one : start.stages + 1 ≡ suc start.stages = omega arith in one) in
+    let w = takers_apart (action_count start.task) start.stages c.args.advance.next (suc start.stages) (omega (arith, n, c.requires.next)) in omega (arith, c.requires.actions)
 
 pub choose_all-requires-clause-high : goal.choose_all-requires-clause-high
 choose_all-requires-clause-high c =
@@ -67,15 +67,15 @@ choose_all-requires-clause-high c =
     let n = c.requires.ready.2 in
     let h = c.requires.ready.3 in
     let e : length c.args.enc.now.actions ≡ action_count start.task = (made_at (board_of start) c.args.enc.now c.args.board.now.slots.items h.takers.ready.at).actions in
-    let takers : c.takers_at-takers.result ≡ takers_place (action_count start.task) start.stages c.args.next = c.takers_at-takers.ensures ∙ ap (λ k. takers_place k c.args.stages c.args.next) (c.requires.actions ∙ e) ∙ ap (λ k. takers_place (action_count start.task) k c.args.next) (sym n) in
+    let takers : c.takers_at-takers.result ≡ takers_place (action_count start.task) start.stages c.args.advance.next = c.takers_at-takers.ensures ∙ ap (λ k. takers_place k c.args.counts.stages c.args.advance.next) (c.requires.actions ∙ e) ∙ ap (λ k. takers_place (action_count start.task) k c.args.advance.next) (sym n) in
     omega arith
 
 pub returns : goal.returns
 returns c start chain n h every =
     let r = went (board_of start) c.turn_states.new.enc c.turn_states.new.board.slots.items _ c.turn_states.result _ c.in_ok-turn_states.was (c.turn_states.ensures start chain n h) in
     let e : length c.args.enc.now.actions ≡ action_count start.task = (made_at (board_of start) c.args.enc.now c.args.board.now.slots.items h.takers.ready.at).actions in
-    let takers : c.takers_at-takers.result ≡ takers_place (action_count start.task) start.stages c.args.next = c.takers_at-takers.ensures ∙ ap (λ k. takers_place k c.args.stages c.args.next) (c.requires.actions ∙ e) ∙ ap (λ k. takers_place (action_count start.task) k c.args.next) (sym n) in
-    let place : c.takers_at-place.result ≡ rules_place (action_count start.task) start.stages = c.takers_at-place.ensures ∙ ap (λ k. takers_place k c.args.stages (c.args.stages + 1)) (c.requires.actions ∙ e) ∙ ap (λ k. takers_place (action_count start.task) k (k + 1)) (sym n) ∙ ap (takers_place (action_count start.task) start.stages) (let one : start.stages + 1 ≡ suc start.stages = omega arith in one) in
+    let takers : c.takers_at-takers.result ≡ takers_place (action_count start.task) start.stages c.args.advance.next = c.takers_at-takers.ensures ∙ ap (λ k. takers_place k c.args.counts.stages c.args.advance.next) (c.requires.actions ∙ e) ∙ ap (λ k. takers_place (action_count start.task) k c.args.advance.next) (sym n) in
+    let place : c.takers_at-place.result ≡ rules_place (action_count start.task) start.stages = c.takers_at-place.ensures ∙ ap (λ k. takers_place k c.args.counts.stages (c.args.counts.stages + 1)) (c.requires.actions ∙ e) ∙ ap (λ k. takers_place (action_count start.task) k (k + 1)) (sym n) ∙ ap (takers_place (action_count start.task) start.stages) (let one : start.stages + 1 ≡ suc start.stages = omega arith in one) in
     left_with (board_of start) c.choose_all.new.enc c.choose_all.new.board.slots.items _ _ c.choose_all.result
-    (λ chosen. rule_states_made start (c.turn_states.new.enc, c.turn_states.new.board.slots.items) (c.choose_all.new.enc, c.choose_all.new.board.slots.items) chain c.args.context c.args.next c.takers_at-takers.result c.takers_at-place.result c.args.actions takers place (c.requires.actions ∙ e) r chosen)
+    (λ chosen. rule_states_made start (c.turn_states.new.enc, c.turn_states.new.board.slots.items) (c.choose_all.new.enc, c.choose_all.new.board.slots.items) chain c.args.advance.stage c.args.advance.next c.takers_at-takers.result c.takers_at-place.result c.args.counts.actions takers place (c.requires.actions ∙ e) r chosen)
     (c.choose_all.ensures start r.table.takers.ready every)

@@ -38,12 +38,12 @@ combine-requires-clause-b c =
     let chain = c.requires.ready.1 in
     let place = c.requires.ready.2 in
     let h = c.requires.ready.3 in
-    (action_place start (c.args.enc.now, c.args.board.now.slots.items) chain c.args.advance.stage c.args.advance.next c.args.takers c.args.action.0 place (action_within (board_of start) c.args.enc.now c.args.board.now.slots.items c.args.action.0 h.table.takers.ready.at c.requires.action) h)
+    (action_place start (c.args.enc.now, c.args.board.now.slots.items) chain c.args.advance.stage c.args.advance.next c.args.taken.takers c.args.taken.action.0 place (action_within (board_of start) c.args.enc.now c.args.board.now.slots.items c.args.taken.action.0 h.table.takers.ready.at c.requires.action) h)
 
 pub returns-in_err-combine : goal.returns-in_err-combine
 returns-in_err-combine c start chain place h =
     let p = err_from_is_err_and c.from_residual.result c.from_residual.ensures.1 in
-    passed (board_of start) c.combine.new.enc c.combine.new.self.slots.items _ _ c.combine.result c.from_residual.result _ c.in_err-combine.was p (c.combine.ensures (board_of start) h.table.takers.ready.at (action_fits start (c.args.enc.now, c.args.board.now.slots.items) chain c.args.advance.stage c.args.advance.next c.args.takers c.args.action.0 place (action_within (board_of start) c.args.enc.now c.args.board.now.slots.items c.args.action.0 h.table.takers.ready.at c.requires.action) h))
+    passed (board_of start) c.combine.new.enc c.combine.new.self.slots.items _ _ c.combine.result c.from_residual.result _ c.in_err-combine.was p (c.combine.ensures (board_of start) h.table.takers.ready.at (action_fits start (c.args.enc.now, c.args.board.now.slots.items) chain c.args.advance.stage c.args.advance.next c.args.taken.takers c.args.taken.action.0 place (action_within (board_of start) c.args.enc.now c.args.board.now.slots.items c.args.taken.action.0 h.table.takers.ready.at c.requires.action) h))
 
 pub list_at-requires-clause-ready : goal.list_at-requires-clause-ready
 list_at-requires-clause-ready c =
@@ -51,7 +51,7 @@ list_at-requires-clause-ready c =
     let chain = c.requires.ready.1 in
     let place = c.requires.ready.2 in
     let h = c.requires.ready.3 in
-    let m = went (board_of start) c.combine.new.enc c.combine.new.self.slots.items _ c.combine.result _ c.in_ok-combine.was (c.combine.ensures (board_of start) h.table.takers.ready.at (action_fits start (c.args.enc.now, c.args.board.now.slots.items) chain c.args.advance.stage c.args.advance.next c.args.takers c.args.action.0 place (action_within (board_of start) c.args.enc.now c.args.board.now.slots.items c.args.action.0 h.table.takers.ready.at c.requires.action) h)) in
+    let m = went (board_of start) c.combine.new.enc c.combine.new.self.slots.items _ c.combine.result _ c.in_ok-combine.was (c.combine.ensures (board_of start) h.table.takers.ready.at (action_fits start (c.args.enc.now, c.args.board.now.slots.items) chain c.args.advance.stage c.args.advance.next c.args.taken.takers c.args.taken.action.0 place (action_within (board_of start) c.args.enc.now c.args.board.now.slots.items c.args.taken.action.0 h.table.takers.ready.at c.requires.action) h)) in
     (start, moved_ready start (c.args.enc.now, c.args.board.now.slots.items) (c.combine.new.enc, c.combine.new.self.slots.items) 2 _ m)
 
 pub list_at-requires-clause-place : goal.list_at-requires-clause-place
@@ -60,17 +60,17 @@ list_at-requires-clause-place c =
     let chain = c.requires.ready.1 in
     let place = c.requires.ready.2 in
     let h = c.requires.ready.3 in
-    let m = went (board_of start) c.combine.new.enc c.combine.new.self.slots.items _ c.combine.result _ c.in_ok-combine.was (c.combine.ensures (board_of start) h.table.takers.ready.at (action_fits start (c.args.enc.now, c.args.board.now.slots.items) chain c.args.advance.stage c.args.advance.next c.args.takers c.args.action.0 place (action_within (board_of start) c.args.enc.now c.args.board.now.slots.items c.args.action.0 h.table.takers.ready.at c.requires.action) h)) in
+    let m = went (board_of start) c.combine.new.enc c.combine.new.self.slots.items _ c.combine.result _ c.in_ok-combine.was (c.combine.ensures (board_of start) h.table.takers.ready.at (action_fits start (c.args.enc.now, c.args.board.now.slots.items) chain c.args.advance.stage c.args.advance.next c.args.taken.takers c.args.taken.action.0 place (action_within (board_of start) c.args.enc.now c.args.board.now.slots.items c.args.taken.action.0 h.table.takers.ready.at c.requires.action) h)) in
     low start (c.combine.new.enc, c.combine.new.self.slots.items) m.at 2 (omega arith)
 
 pub returns : goal.returns
 returns c start chain place h =
-    let m = went (board_of start) c.combine.new.enc c.combine.new.self.slots.items _ c.combine.result _ c.in_ok-combine.was (c.combine.ensures (board_of start) h.table.takers.ready.at (action_fits start (c.args.enc.now, c.args.board.now.slots.items) chain c.args.advance.stage c.args.advance.next c.args.takers c.args.action.0 place (action_within (board_of start) c.args.enc.now c.args.board.now.slots.items c.args.action.0 h.table.takers.ready.at c.requires.action) h)) in
+    let m = went (board_of start) c.combine.new.enc c.combine.new.self.slots.items _ c.combine.result _ c.in_ok-combine.was (c.combine.ensures (board_of start) h.table.takers.ready.at (action_fits start (c.args.enc.now, c.args.board.now.slots.items) chain c.args.advance.stage c.args.advance.next c.args.taken.takers c.args.taken.action.0 place (action_within (board_of start) c.args.enc.now c.args.board.now.slots.items c.args.taken.action.0 h.table.takers.ready.at c.requires.action) h)) in
     let next : c.args.advance.stage + 1 ≡ suc c.args.advance.stage = omega arith in
     let later : c.args.advance.next + 1 ≡ suc c.args.advance.next = omega arith in
     listed_left start (c.combine.new.enc, c.combine.new.self.slots.items) m.at _ _ c.list_at.result
-    (λ listed. action_listed start (c.args.enc.now, c.args.board.now.slots.items) (c.combine.new.enc, c.combine.new.self.slots.items) chain (map context_rule_of c.args.rules.now.items) (map context_rule_of c.list_at.new.rules.items) c.args.advance.stage c.args.advance.next c.args.takers (c.args.takers + c.args.action.0) c.args.action.0 (c.args.advance.stage + 1) (c.args.advance.next + 1)
-    (action_within (board_of start) c.args.enc.now c.args.board.now.slots.items c.args.action.0 h.table.takers.ready.at c.requires.action) place refl next later h m listed)
+    (λ listed. action_listed start (c.args.enc.now, c.args.board.now.slots.items) (c.combine.new.enc, c.combine.new.self.slots.items) chain (map context_rule_of c.args.rules.now.items) (map context_rule_of c.list_at.new.rules.items) c.args.advance.stage c.args.advance.next c.args.taken.takers (c.args.taken.takers + c.args.taken.action.0) c.args.taken.action.0 (c.args.advance.stage + 1) (c.args.advance.next + 1)
+    (action_within (board_of start) c.args.enc.now c.args.board.now.slots.items c.args.taken.action.0 h.table.takers.ready.at c.requires.action) place refl next later h m listed)
     (c.list_at.ensures.listed start (moved_ready start (c.args.enc.now, c.args.board.now.slots.items) (c.combine.new.enc, c.combine.new.self.slots.items) 2 _ m)) c.list_at.ensures.never_full
 
 pub overflow_add-place : goal.overflow_add-place
@@ -79,5 +79,5 @@ overflow_add-place c =
     let chain = c.requires.ready.1 in
     let place = c.requires.ready.2 in
     let h = c.requires.ready.3 in
-    let within : c.args.takers + c.args.action.0 < length c.args.board.now.slots.items = (action_place start (c.args.enc.now, c.args.board.now.slots.items) chain c.args.advance.stage c.args.advance.next c.args.takers c.args.action.0 place (action_within (board_of start) c.args.enc.now c.args.board.now.slots.items c.args.action.0 h.table.takers.ready.at c.requires.action) h) in
+    let within : c.args.taken.takers + c.args.taken.action.0 < length c.args.board.now.slots.items = (action_place start (c.args.enc.now, c.args.board.now.slots.items) chain c.args.advance.stage c.args.advance.next c.args.taken.takers c.args.taken.action.0 place (action_within (board_of start) c.args.enc.now c.args.board.now.slots.items c.args.taken.action.0 h.table.takers.ready.at c.requires.action) h) in
     omega (arith, c.args.board.now.slots.ok.0)

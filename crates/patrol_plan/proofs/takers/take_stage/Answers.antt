@@ -41,7 +41,7 @@ climb-requires-clause-ready c =
     let fits = c.requires.ready.3 in
     let w = went (board_of start) c.condition.new.enc c.condition.new.self.slots.items _ c.condition.result _ c.in_ok-condition.was (c.condition.ensures (board_of start) at (spare_enough start) parts) in
     let held = guard_put start (c.args.enc.now, c.args.board.now.slots.items) (c.condition.new.enc, c.condition.new.self.slots.items) (holds c.args.guard.now) w in
-    let climbs = climbs_moved start (states_of c.args.guard.now) (c.args.enc.now, c.args.board.now.slots.items) (c.condition.new.enc, c.condition.new.self.slots.items) c.args.met c.args.takers (holds c.args.guard.now) c.requires.met c.requires.apart (within_now start (c.args.enc.now, c.args.board.now.slots.items) c.args.takers at (omega (arith, c.requires.places, c.requires.actions))) at w fits in
+    let climbs = climbs_moved start (states_of c.args.guard.now) (c.args.enc.now, c.args.board.now.slots.items) (c.condition.new.enc, c.condition.new.self.slots.items) c.args.at.met c.args.at.takers (holds c.args.guard.now) c.requires.met c.requires.apart (within_now start (c.args.enc.now, c.args.board.now.slots.items) c.args.at.takers at (omega (arith, c.requires.places, c.requires.actions))) at w fits in
     ((guarded start (states_of c.args.guard.now)), held, climbs)
 
 pub climb-requires-clause-actions : goal.climb-requires-clause-actions
@@ -64,7 +64,7 @@ pub returns : goal.returns
 returns c start at parts fits =
     let w = went (board_of start) c.condition.new.enc c.condition.new.self.slots.items _ c.condition.result _ c.in_ok-condition.was (c.condition.ensures (board_of start) at (spare_enough start) parts) in
     let held = guard_put start (c.args.enc.now, c.args.board.now.slots.items) (c.condition.new.enc, c.condition.new.self.slots.items) (holds c.args.guard.now) w in
-    let climbs = climbs_moved start (states_of c.args.guard.now) (c.args.enc.now, c.args.board.now.slots.items) (c.condition.new.enc, c.condition.new.self.slots.items) c.args.met c.args.takers (holds c.args.guard.now) c.requires.met c.requires.apart (within_now start (c.args.enc.now, c.args.board.now.slots.items) c.args.takers at (omega (arith, c.requires.places, c.requires.actions))) at w fits in
+    let climbs = climbs_moved start (states_of c.args.guard.now) (c.args.enc.now, c.args.board.now.slots.items) (c.condition.new.enc, c.condition.new.self.slots.items) c.args.at.met c.args.at.takers (holds c.args.guard.now) c.requires.met c.requires.apart (within_now start (c.args.enc.now, c.args.board.now.slots.items) c.args.at.takers at (omega (arith, c.requires.places, c.requires.actions))) at w fits in
     left_with (board_of start) c.climb.new.enc c.climb.new.board.slots.items _ _ c.climb.result
-    (λ z. climbed_after start (states_of c.args.guard.now) (c.args.enc.now, c.args.board.now.slots.items) (c.condition.new.enc, c.condition.new.self.slots.items) (c.climb.new.enc, c.climb.new.board.slots.items) c.args.met c.args.takers (holds c.args.guard.now) c.requires.met c.requires.apart (within_now start (c.args.enc.now, c.args.board.now.slots.items) c.args.takers at (omega (arith, c.requires.places, c.requires.actions))) at w z)
+    (λ z. climbed_after start (states_of c.args.guard.now) (c.args.enc.now, c.args.board.now.slots.items) (c.condition.new.enc, c.condition.new.self.slots.items) (c.climb.new.enc, c.climb.new.board.slots.items) c.args.at.met c.args.at.takers (holds c.args.guard.now) c.requires.met c.requires.apart (within_now start (c.args.enc.now, c.args.board.now.slots.items) c.args.at.takers at (omega (arith, c.requires.places, c.requires.actions))) at w z)
     (c.climb.ensures (guarded start (states_of c.args.guard.now)) held climbs)
