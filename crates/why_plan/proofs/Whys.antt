@@ -19,12 +19,13 @@ use Rattle.plan_command.specs.PlanCommand.{MayBeTooFew, PlanThen}
 use Rattle.relaxed_reach.specs.Literals.{LiteralSet, can_be}
 use Rattle.relaxed_reach.specs.Reached.{IsReachable}
 use Rattle.relaxed_reach.specs.Relaxed.{IsRelaxed}
-use Rattle.task_core.specs.Systems.{goal_states}
-use Rattle.task_core.specs.Tasks.{system_of}
+use Rattle.task_core.specs.Systems.{System, goal_states}
+use Rattle.task_core.specs.Tasks.{action_names, fluent_names, system_of}
 use Rattle.task_core.specs.Vectors.{Vector}
 use Rattle.task_core.specs.declared.classes.Class.{Class}
 use Rattle.task_core.specs.declared.conditions.Cond.{Cond}
 use Rattle.task_core.specs.declared.tasks.Task.{Task}
+use Rattle.why_plan.specs.ToldRuns.{HasRunAfter}
 use Rattle.why_plan.specs.Tried.{HasSaid, HasTried}
 use Rattle.why_plan.specs.Whys.{IsAsPlanned, IsGoalNeverReached, IsNever, IsWhy, IsWhyAnswer, MayRefuse, WhyThen, asked_for, exists_line, found, missing, none_left, none_line, unknown, weaker}
 
@@ -61,13 +62,22 @@ why_then asked d p a goal within (inl memory) = inl memory
 why_then asked d p a goal within (inr (inl few)) = inr (inl few)
 why_then asked d p a goal within (inr (inr next)) = inr (inr (inr (goal, inr (within, next))))
 
--- what is said for the answer of `plan`
-pub planned_then : (asked : PlanWords) (d : DomainTree) (p : ProblemTree) (a : Answer)
-    → (a ≡ refused no_memory) ⊎ (MayBeTooFew asked d p × (a ≡ refused (full asked.options.nodes))) ⊎ IsAsPlanned asked d p a
+-- what is said for the answer of `plan`, with the run that is told after it
+pub told_then : (asked : PlanWords) (d : DomainTree) (p : ProblemTree) (task : Task) (said a : Answer) → IsTaskOf d p task
+    → (said ≡ refused no_memory) ⊎ (MayBeTooFew asked d p × (said ≡ refused (full asked.options.nodes))) ⊎ IsAsPlanned asked d p said
+    → HasRunAfter asked.kind (system_of task) (fluent_names task) (action_names task) said a
     → (a ≡ refused no_memory) ⊎ (MayBeTooFew asked d p × (a ≡ refused (full asked.options.nodes))) ⊎ WhyThen asked d p a
-planned_then asked d p a (inl memory) = inl memory
-planned_then asked d p a (inr (inl few)) = inr (inl few)
-planned_then asked d p a (inr (inr said)) = inr (inr (inr said))
+told_then asked d p task said a of_task (inl memory) told =
+    inl (subst (λ (x : Answer). HasRunAfter asked.kind (system_of task) (fluent_names task) (action_names task) x a) memory told)
+told_then asked d p task said a of_task (inr (inl (few, full_is))) told =
+    inr (inl (few, subst (λ (x : Answer). HasRunAfter asked.kind (system_of task) (fluent_names task) (action_names task) x a) full_is told))
+told_then asked d p task said a of_task (inr (inr planned)) told = inr (inr (inr (record {
+  said = said;
+  planned = planned;
+  task = task;
+  grounded = of_task.task_is;
+  told = subst (λ (s : System). HasRunAfter asked.kind s (fluent_names task) (action_names task) said a) of_task.system_is told;
+})))
 
 -- `plan` affirms
 pub plan_affirms : (asked : PlanWords) (d : DomainTree) (p : ProblemTree) (text : Bytes) (planned a : Answer) → planned ≡ affirmed text

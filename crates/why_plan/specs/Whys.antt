@@ -18,13 +18,14 @@ use Rattle.relaxed_reach.specs.Literals.{LiteralSet, can_be}
 use Rattle.relaxed_reach.specs.Reached.{IsReachable}
 use Rattle.relaxed_reach.specs.Relaxed.{IsLeastRelaxed}
 use Rattle.task_core.specs.Systems.{System, goal_states}
-use Rattle.task_core.specs.Tasks.{fluent_names}
+use Rattle.task_core.specs.Tasks.{action_names, fluent_names}
 use Rattle.task_core.specs.Vectors.{Vector}
 use Rattle.task_core.specs.declared.classes.Class.{Class}
 use Rattle.task_core.specs.declared.classes.Class.TheVariants.{Cyclic, Strong, Weak}
 use Rattle.task_core.specs.declared.conditions.Cond.{Cond}
 use Rattle.task_core.specs.declared.literals.Lit.{Lit}
 use Rattle.task_core.specs.declared.tasks.Task.{Task}
+use Rattle.why_plan.specs.ToldRuns.{HasRunAfter}
 
 -- no reachable state is a goal state
 abbrev pub IsGoalNeverReached : System → Type 0
@@ -126,10 +127,21 @@ pub record IsAsPlanned (asked : PlanWords) (domain : DomainTree) (problem : Prob
   pub judged : PlanThen asked domain problem planned
   pub said : IsSaid asked domain problem planned answer
 
+-- the answer is what is said for the one of `plan`, with the run that is told after it, in the names of
+-- the task that the domain and the problem are grounded to
+pub record IsToldAsPlanned (asked : PlanWords) (domain : DomainTree) (problem : ProblemTree)
+    (answer : Answer) : Type 0 where
+  pub said : Answer
+  pub planned : IsAsPlanned asked domain problem said
+  pub task : Task
+  pub grounded : task_value task ≡ task_of domain problem
+  pub told : HasRunAfter asked.kind (system domain problem) (fluent_names task)
+      (action_names task) said answer
+
 -- what follows for a goal of the kind within the limits
 abbrev pub WhyThen : PlanWords → DomainTree → ProblemTree → Answer → Type 0
 WhyThen asked domain problem answer =
-    IsGoalNever asked.kind domain problem answer ⊎ IsAsPlanned asked domain problem answer
+    IsGoalNever asked.kind domain problem answer ⊎ IsToldAsPlanned asked domain problem answer
 
 -- what follows once both are read
 abbrev pub IsWhy : PlanWords → DomainTree → ProblemTree → Answer → Type 0

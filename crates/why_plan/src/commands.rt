@@ -19,6 +19,7 @@ ghost use Rattle.why_plan.specs.Words.{AskNothing, SaysWhy};
 
 use crate::never::never_reached;
 use crate::planned::{Read, said_for};
+use crate::told_runs::with_run;
 use crate::words::read_words;
 use command_base::{PlanKind, PlanWords, Refusal, Shown, Text, check_goal, ground_both, read_both};
 use ground_task::Grounded;
@@ -79,8 +80,8 @@ fn why_problem(
         ⊎ IsWhy asked (domain_value domain.now) (problem_value problem.now) (answer_of result) }
 {
     check_goal(alloc, asked.kind, asked.problem, problem)?;
-    let grounded = ground_both(alloc, domain, problem)?;
-    why_grounded(alloc, asked, domain, problem, &grounded)
+    let mut grounded = ground_both(alloc, domain, problem)?;
+    why_grounded(alloc, asked, domain, problem, &mut grounded)
 }
 
 /// Why there is no plan for a task and its goals, which are those of the domain and the problem.
@@ -89,12 +90,12 @@ fn why_grounded(
     asked: &PlanWords,
     domain: &Domain,
     problem: &Problem,
-    grounded: &Grounded,
+    grounded: &mut Grounded,
 ) -> Result<Shown, Refusal>
     requires room { IsNodeLimit asked.now.options.nodes }
     requires goal { has_goal_for (kind_of asked.now.kind) (problem_value problem.now) ≡ true }
     requires grounded { IsGroundedOf (domain_value domain.now) (problem_value problem.now)
-        grounded.now }
+        grounded.old }
     ensures { let asked = plan_words_of asked.now in
         (answer_of result ≡ refused no_memory)
         ⊎ (MayBeTooFew asked (domain_value domain.now) (problem_value problem.now)
@@ -109,10 +110,34 @@ fn why_grounded(
             return Ok(Shown::Denied(Text::Made(text.into_bytes())));
         }
     }
+    said_then(alloc, asked, domain, problem, grounded)
+}
+
+/// What is said for the answer of `plan`, with the run that is told after it.
+fn said_then(
+    alloc: Global,
+    asked: &PlanWords,
+    domain: &Domain,
+    problem: &Problem,
+    grounded: &mut Grounded,
+) -> Result<Shown, Refusal>
+    requires room { IsNodeLimit asked.now.options.nodes }
+    requires goal { has_goal_for (kind_of asked.now.kind) (problem_value problem.now) ≡ true }
+    requires grounded { IsGroundedOf (domain_value domain.now) (problem_value problem.now)
+        grounded.old }
+    ensures { let asked = plan_words_of asked.now in
+        (answer_of result ≡ refused no_memory)
+        ⊎ (MayBeTooFew asked (domain_value domain.now) (problem_value problem.now)
+        × (answer_of result ≡ refused (full asked.options.nodes)))
+        ⊎ WhyThen asked (domain_value domain.now) (problem_value problem.now)
+        (answer_of result) }
+{
     let read = Read {
         domain,
         problem,
         grounded,
     };
-    said_for(alloc, asked, &read)
+    let said = said_for(alloc, asked, &read)?;
+    let told = with_run(alloc, asked, &mut grounded.task, said)?;
+    Ok(told)
 }

@@ -8,6 +8,8 @@
 mod commands;
 mod never;
 mod planned;
+mod tables;
+mod told_runs;
 mod top;
 mod words;
 
