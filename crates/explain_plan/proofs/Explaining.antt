@@ -75,6 +75,10 @@ explains_for law fair_law asked d p t given judged lined a contexts is same stan
   task = t;
   grounded = is;
   same = same;
+  given = given;
+  stands = stands;
+  goal = judged;
+  is_goal = for;
   finding = explains.finding;
   found = explains.found;
   some = explains.some;

@@ -1,6 +1,6 @@
 -- Which answer explains the verdict on a plan.
-use Rattle.std.specs.Prelude.{◌≡◌, ◌++◌, ⊤, ℕ, [], Bool, IsSome, List, Option, None, Some, codes, decimal}
-use Rattle.std.specs.Prelude.{false, true}
+use Rattle.std.specs.Prelude.{◌≡◌, ◌++◌, ℕ, [], Bool, List, Option, None, Some, codes, decimal, false, true}
+use Rattle.std.specs.Option.{option_map}
 use Rattle.check_command.specs.CheckCommand.{ExploreThen, reason_word, verdict_answer}
 use Rattle.check_command.specs.Judged.{IsTaskVerdict}
 use Rattle.command_base.specs.Answers.{Answer, affirmed, denied, refused}
@@ -10,33 +10,26 @@ use Rattle.command_base.specs.InitialStates.{InitialThen, empty_init}
 use Rattle.command_base.specs.PddlTexts.{ReadBoth}
 use Rattle.command_base.specs.PlanFiles.{IsFaultyPlan, KindThen}
 use Rattle.command_base.specs.Reading.{ReadThen}
-use Rattle.command_base.specs.Words.{Bytes, PlanKind, of_class, with_contexts}
+use Rattle.command_base.specs.Words.{Bytes}
 use Rattle.ctl_syntax.specs.declared.goals.Ctl.{Ctl}
 use Rattle.finding_document.specs.Documents.{document_text}
 use Rattle.pddl_ast.specs.Trees.{DomainTree, ProblemTree}
+use Rattle.pddl_system.specs.CtlGoals.{ctl_goal_of, goal_value}
 use Rattle.pddl_system.specs.Systems.{action_names, fluent_names, system}
 use Rattle.pddl_system.specs.Tasks.{task_of}
 use Rattle.pddl_system.specs.Values.{task_value}
-use Rattle.plan_check.specs.declared.verdicts.Reason.TheVariants.{Formula}
 use Rattle.plan_check.specs.declared.verdicts.Verdict.{Verdict}
 use Rattle.plan_check.specs.declared.verdicts.Verdict.TheVariants.{No, Yes}
-use Rattle.plan_finding.specs.Aims.{IsAimAt, class_aim, context_aim}
-use Rattle.plan_finding.specs.Findings.{IsFound, PlainFound}
+use Rattle.plan_finding.specs.Findings.{PlainFound}
 use Rattle.plan_finding.specs.Texts.{Source, found_text}
-use Rattle.plan_finding.specs.declared.aims.Aim.{Aim}
 use Rattle.plan_io.specs.Held.{Held}
 use Rattle.plan_rules.specs.Rules.{PlainPlan}
-use Rattle.plan_witness.specs.Runs.{NoneReached}
 use Rattle.task_core.specs.Tasks.{action_names as actions_in, fluent_names as fluents_in, system_of}
 use Rattle.task_core.specs.declared.tasks.Task.{Task}
-use Rattle.explain_plan.specs.Fairly.{FairThen, IsJudgedAs}
+use Rattle.explain_plan.specs.Fairly.{FairThen, IsGoalFor, IsJudgedAs}
+use Rattle.explain_plan.specs.Findings.{IsFindingFor, IsShownFor}
 use Rattle.explain_plan.specs.Lined.{LinedPlan, SpellsLined}
 use Rattle.explain_plan.specs.Words.{ExplainWords}
-
--- what a run is to show for a verdict on a plan of the kind
-abbrev pub aim_of : PlanKind → Verdict → Aim
-aim_of (of_class class) verdict = class_aim class verdict
-aim_of with_contexts verdict = context_aim verdict
 
 -- an answer with more text after it
 abbrev pub with_more : Answer → Bytes → Answer
@@ -56,19 +49,6 @@ verdict_words (Yes None) = codes "yes"
 verdict_words (Yes (Some bound)) = codes "yes bound " ++ decimal bound
 verdict_words (No reason) = codes "no " ++ reason_word reason
 
--- there is a run, with what is the matter at its end, to the aim, and no shorter one; or there is none,
--- since the plan may reach no configuration that is the aim
-abbrev pub IsFinding : Aim → Task → PlainPlan → Option PlainFound → Type 0
-IsFinding aim task plan (Some found) = IsFound aim task plan found
-IsFinding aim task plan None =
-    NoneReached (system_of task) plan (IsAimAt aim (system_of task) plan)
-
--- there is a run for a no: of a class, and of a plan with contexts but where its goal is missed
-abbrev pub IsShownFor : PlanKind → Verdict → Option PlainFound → Type 0
-IsShownFor kind (Yes bound) finding = ⊤
-IsShownFor (of_class class) (No reason) finding = IsSome finding
-IsShownFor with_contexts (No reason) finding = (reason ≡ Formula → ⊥) → IsSome finding
-
 -- the text of the run, where there is one
 abbrev pub finding_text : Source → Option PlainFound → Bytes
 finding_text source None = []
@@ -87,18 +67,19 @@ shown_answer false source verdict finding =
 shown_answer true source verdict finding =
     with_text (verdict_answer verdict) (document_text source (verdict_words verdict) finding)
 
--- what is shown is a verdict on the plan of a task for this goal, and a shortest run that shows it
+-- what is shown is a verdict on the plan of a task for this goal, and a run that shows it
 pub record ExplainsIn (asked : ExplainWords) (task : Task) (lined : LinedPlan) (goal : Option Ctl)
     (answer : Answer) : Type 0 where
   pub verdict : Verdict
   pub judged : IsTaskVerdict asked.check.kind task goal lined.placed.plan verdict
   pub finding : Option PlainFound
-  pub found : IsFinding (aim_of asked.check.kind verdict) task lined.placed.plan finding
-  pub some : IsShownFor asked.check.kind verdict finding
+  pub found : IsFindingFor asked.fair asked.check.kind task goal lined.placed.plan verdict finding
+  pub some : IsShownFor verdict finding
   pub shown : answer
       ≡ shown_answer asked.json (source_in task lined.placed.plan lined.lines) verdict finding
 
--- the same for a domain and a problem, over the task that they are grounded to
+-- the same for a domain and a problem, over the task that they are grounded to, and for the goal by which
+-- the plan is judged, where it has contexts
 pub record Explains (asked : ExplainWords) (domain : DomainTree) (problem : ProblemTree)
     (lined : LinedPlan) (answer : Answer) : Type 0 where
   pub verdict : Verdict
@@ -106,9 +87,13 @@ pub record Explains (asked : ExplainWords) (domain : DomainTree) (problem : Prob
   pub task : Task
   pub grounded : task_value task ≡ task_of domain problem
   pub same : system_of task ≡ system domain problem
+  pub given : Option Ctl
+  pub stands : option_map goal_value given ≡ ctl_goal_of domain problem
+  pub goal : Option Ctl
+  pub is_goal : IsGoalFor asked.fair given goal
   pub finding : Option PlainFound
-  pub found : IsFinding (aim_of asked.check.kind verdict) task lined.placed.plan finding
-  pub some : IsShownFor asked.check.kind verdict finding
+  pub found : IsFindingFor asked.fair asked.check.kind task goal lined.placed.plan verdict finding
+  pub some : IsShownFor verdict finding
   pub shown : answer
       ≡ shown_answer asked.json (source_in task lined.placed.plan lined.lines) verdict finding
 

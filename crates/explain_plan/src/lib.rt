@@ -1,13 +1,13 @@
-//! The verdict on a plan, with a shortest run that shows it: how the plan fails, or how it comes to its
-//! goal.
+//! The verdict on a plan, with a run that shows it: how the plan fails, or how it comes to its goal.
 //!
 //! `specs/` says what the call answers: `Words` which words say what is asked, `Lined` how the plan is
-//! read, `Fairly` by which goal a plan is judged whose actions may be tried again, `Explained` the answer,
-//! and `Runs` a run with its cause.
+//! read, `Fairly` by which goal a plan is judged whose actions may be tried again, `Findings` which run
+//! shows a verdict, `Explained` the answer, and `Runs` a run of the program with its cause.
 #![tactic(auto)]
 
 mod commands;
 mod fairly;
+mod findings;
 mod lined;
 mod shown;
 mod top;

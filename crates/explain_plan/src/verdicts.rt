@@ -12,7 +12,7 @@ ghost use Rattle.ctl_syntax.specs.Values.{NamesBelow, ctl_value};
 ghost use Rattle.exec_graph.specs.Graphs.{IsGraphOf};
 ghost use Rattle.exec_graph.specs.Initials.{HasTooManyInitial};
 ghost use Rattle.exec_graph.specs.Values.{IsWithinFluents, plain_graph};
-ghost use Rattle.explain_plan.specs.Explained.{ExplainsIn, aim_of};
+ghost use Rattle.explain_plan.specs.Explained.{ExplainsIn};
 ghost use Rattle.explain_plan.specs.Fairly.{GoalForThen};
 ghost use Rattle.explain_plan.specs.Values.{explain_words_of, lined_of};
 ghost use Rattle.pddl_ast.specs.Values.{problem_value};
@@ -32,6 +32,7 @@ ghost use Rattle.std.specs.Prelude.{
 ghost use Rattle.task_core.specs.Tasks.{action_count, fluent_count, initial_states, system_of};
 
 use crate::fairly::goal_for;
+use crate::findings::{Followed, Judge, finding_for};
 use crate::lined::Lined;
 use crate::shown::shown_as;
 use crate::words::ExplainWords;
@@ -40,7 +41,7 @@ use exec_graph::{Graph, GraphErr, explore};
 use ground_task::Grounded;
 use pddl_ast::Problem;
 use plan_check::{Verdict, judge_class, judge_ctl};
-use plan_finding::{Aim, Source, class_aim, context_aim, failures_are_shown, find};
+use plan_finding::{Source, failures_are_shown};
 use plan_rules::Plan;
 use sexpr_text::{FaultKind, InputFault};
 use std::alloc::{AllocError, Global};
@@ -157,24 +158,22 @@ fn explain_graph(
     // This does nothing: that a run shows a failure rests on what it promises.
     failures_are_shown();
     let verdict = verdict_on(alloc, asked.check.kind, grounded, graph)?;
-    let aim = aim_for(asked.check.kind, &verdict);
-    let found = find(alloc, &grounded.task, &lined.read.plan, graph, aim)?;
+    let judge = Judge {
+        kind: asked.check.kind,
+        fair: asked.fair,
+    };
+    let followed = Followed {
+        grounded,
+        plan: &lined.read.plan,
+        graph,
+    };
+    let found = finding_for(alloc, judge, &followed, &verdict)?;
     let source = Source {
         task: &grounded.task,
         plan: &lined.read.plan,
         lines: &lined.lines,
     };
     shown_as(alloc, asked.json, &source, &verdict, &found)
-}
-
-/// What a run is to show for a verdict on a plan of the kind.
-fn aim_for(kind: PlanKind, verdict: &Verdict) -> Aim
-    ensures { result ≡ aim_of (kind_of kind) verdict.now }
-{
-    match kind {
-        PlanKind::Class(class) => class_aim(class, verdict),
-        PlanKind::Contexts => context_aim(verdict),
-    }
 }
 
 /// The verdict on the plan of the kind whose graph this is.

@@ -7,10 +7,10 @@ use Rattle.std.specs.Option.{option_map_or}
 use Rattle.task_core.specs.Names.{Name}
 use Rattle.task_core.specs.Vectors.{Vector}
 use Rattle.plan_document.specs.Documents.{count_data}
-use Rattle.plan_finding.specs.Findings.{PlainFound, cycle_from}
+use Rattle.plan_finding.specs.Findings.{PlainFound, cycle_from, lines_in}
 use Rattle.plan_finding.specs.Texts.{Source}
 use Rattle.plan_witness.specs.Runs.{PlainStep}
-use Rattle.finding_document.specs.Documents.{changed_below, document, fluent_data, outcome_data, rule_data, step_data, steps_data}
+use Rattle.finding_document.specs.Documents.{changed_below, document, fluent_data, line_data, outcome_data, rule_data, step_data, steps_data}
 
 -- no item of a mapped list has one where no value has
 items_free : {X : Type 0} (f : X → Data) → ((x : X) → has_float (f x) ≡ false) → (xs : List X) → items_have_float (items_of (map f xs)) ≡ false
@@ -35,4 +35,4 @@ place_free (Some place) = refl
 pub document_free : (source : Source) (verdict : List ℕ) (found : Option PlainFound) → has_float (document source verdict found) ≡ false
 document_free source verdict None = refl
 document_free source verdict (Some found) =
-    rw (place_free (cycle_from found), items_free outcome_data (λ step. refl) found.run.steps, items_free rule_data (λ step. refl) found.run.steps, steps_free source found.run.start.state found.run.steps) refl
+    rw (place_free (cycle_from found), items_free outcome_data (λ step. refl) found.run.steps, items_free (line_data source.fluents) (λ line. refl) (lines_in found.ending), items_free rule_data (λ step. refl) found.run.steps, steps_free source found.run.start.state found.run.steps) refl

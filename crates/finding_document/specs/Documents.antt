@@ -7,7 +7,9 @@ use Rattle.serde_json.specs.Data.{Data, array, member, no_items, no_members, nul
 use Rattle.serde_json.specs.View.{items_of}
 use Rattle.serde_json.specs.Written.{compact_text}
 use Rattle.plan_document.specs.Documents.{count_data, name_data}
-use Rattle.plan_finding.specs.Findings.{PlainFound, cycle_from as cycle_of}
+use Rattle.goal_witness.specs.Lines.{PlainLine}
+use Rattle.goal_witness.specs.Texts.{goal_text}
+use Rattle.plan_finding.specs.Findings.{PlainFound, cycle_from as cycle_of, lines_in}
 use Rattle.plan_finding.specs.Texts.{Source, line_of, sentence as sentence_of}
 use Rattle.plan_rules.specs.Texts.{line_feed, name_at}
 use Rattle.plan_witness.specs.Runs.{PlainStep}
@@ -56,6 +58,17 @@ steps_data source before [] = []
 steps_data source before (step ∷ steps) =
     step_data source before step ∷ steps_data source step.after.state steps
 
+-- where a goal is false: after how many steps from the start it is first and last false, and its text
+abbrev pub line_data : List Name → PlainLine → Data
+line_data fluents line =
+    object (member (codes "from") (count_data line.from)
+    (member (codes "goal") (string (goal_text fluents line.goal))
+    (member (codes "last") (count_data line.last) no_members)))
+
+-- which goals are false where along the run
+abbrev pub parts_data : Source → PlainFound → Data
+parts_data source found = list_data (line_data source.fluents) (lines_in found.ending)
+
 abbrev pub outcome_data : PlainStep → Data
 outcome_data step = count_data step.outcome
 
@@ -67,6 +80,7 @@ pub record Told : Type 0 where
   pub cycle_from : Data
   pub initial : Data
   pub outcomes : Data
+  pub parts : Data
   pub rules : Data
   pub sentence : Data
   pub steps : Data
@@ -77,6 +91,7 @@ told_of source None = record {
   cycle_from = null;
   initial = null;
   outcomes = array no_items;
+  parts = array no_items;
   rules = array no_items;
   sentence = null;
   steps = array no_items;
@@ -85,6 +100,7 @@ told_of source (Some found) = record {
   cycle_from = option_map_or count_data (cycle_of found) null;
   initial = count_data found.number;
   outcomes = list_data outcome_data found.run.steps;
+  parts = parts_data source found;
   rules = list_data rule_data found.run.steps;
   sentence = string (sentence_of source found);
   steps = array (items_of (steps_data source found.run.start.state found.run.steps));
@@ -95,10 +111,11 @@ told_object verdict told =
     object (member (codes "cycle_from") told.cycle_from
     (member (codes "initial") told.initial
     (member (codes "outcomes") told.outcomes
+    (member (codes "parts") told.parts
     (member (codes "rules") told.rules
     (member (codes "sentence") told.sentence
     (member (codes "steps") told.steps
-    (member (codes "verdict") (string verdict) no_members)))))))
+    (member (codes "verdict") (string verdict) no_members))))))))
 
 -- the document of a verdict in these words, and of the run that shows it, where there is one
 abbrev pub document : Source → List ℕ → Option PlainFound → Data

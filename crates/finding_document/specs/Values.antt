@@ -8,6 +8,7 @@ told_value told = record {
   cycle_from = view told.cycle_from;
   initial = view told.initial;
   outcomes = view told.outcomes;
+  parts = view told.parts;
   rules = view told.rules;
   sentence = view told.sentence;
   steps = view told.steps;

@@ -18,14 +18,15 @@ ghost use Rattle.std.specs.Option.{option_map_or};
 ghost use Rattle.std.specs.Prelude.{◌≡◌, ◌++◌, IfOk, None, Some, false};
 ghost use Rattle.task_core.specs.Tasks.{fluent_count};
 
+use crate::parts::part_values;
 use crate::steps::{number_value, outcome_values, rule_values, step_values};
 use plan_finding::{Found, Source, cycle_from, ending_sentence};
 use serde_json::{Map, Value, put};
 use std::alloc::{AllocError, Global};
 
 /// The document of a verdict in these words, and of the run that shows it, as JSON in one line with a line
-/// feed at its end. It is an object with the members `cycle_from`, `initial`, `outcomes`, `rules`,
-/// `sentence`, `steps` and `verdict`; where there is no run, the lists are empty, and the others but the
+/// feed at its end. It is an object with the members `cycle_from`, `initial`, `outcomes`, `parts`,
+/// `rules`, `sentence`, `steps` and `verdict`; where there is no run, the lists are empty, and the others but the
 /// verdict are null.
 pub fn finding_document(
     alloc: Global,
@@ -70,6 +71,7 @@ struct Told {
     cycle_from: Value,
     initial: Value,
     outcomes: Value,
+    parts: Value,
     rules: Value,
     sentence: Value,
     steps: Value,
@@ -83,6 +85,7 @@ fn told_object(alloc: Global, verdict: &str, told: Told) -> Result<Value, AllocE
         cycle_from,
         initial,
         outcomes,
+        parts,
         rules,
         sentence,
         steps,
@@ -97,6 +100,7 @@ fn told_object(alloc: Global, verdict: &str, told: Told) -> Result<Value, AllocE
     put(&mut members, alloc, "steps", steps)?;
     put(&mut members, alloc, "sentence", sentence)?;
     put(&mut members, alloc, "rules", rules)?;
+    put(&mut members, alloc, "parts", parts)?;
     put(&mut members, alloc, "outcomes", outcomes)?;
     put(&mut members, alloc, "initial", initial)?;
     put(&mut members, alloc, "cycle_from", cycle_from)?;
@@ -126,6 +130,7 @@ fn nothing_told(alloc: Global) -> Told
         cycle_from: Value::Null,
         initial: Value::Null,
         outcomes: Value::from(Vec::new(alloc)),
+        parts: Value::from(Vec::new(alloc)),
         rules: Value::from(Vec::new(alloc)),
         sentence: Value::Null,
         steps: Value::from(Vec::new(alloc)),
@@ -139,12 +144,14 @@ fn told_of(alloc: Global, source: &Source<'_>, found: &Found<'_>) -> Result<Told
 {
     let sentence = ending_sentence(alloc, source, found)?;
     let outcomes = outcome_values(alloc, &found.run.steps)?;
+    let parts = part_values(alloc, source.task, &found.ending)?;
     let rules = rule_values(alloc, &found.run.steps)?;
     let steps = step_values(alloc, source, &found.run)?;
     Ok(Told {
         cycle_from: place_value(cycle_from(found)),
         initial: number_value(found.number),
         outcomes,
+        parts,
         rules,
         sentence: Value::from(sentence),
         steps,

@@ -4,6 +4,7 @@
 #![tactic(auto)]
 
 mod documents;
+mod parts;
 mod steps;
 
 pub use documents::finding_document;

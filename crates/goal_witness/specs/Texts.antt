@@ -50,10 +50,10 @@ states_text from last =
     if from == last then codes "after step " ++ decimal from
     else codes "after steps " ++ decimal from ++ codes " to " ++ decimal last
 
--- a new line that says that a goal is false in the states after so many steps up to so many
+-- a new line, indented, that says that a goal is false in the states after so many steps up to so many
 abbrev pub false_line : List Name → PlainLine → List ℕ
 false_line fluents line =
-    line_feed ++ states_text line.from line.last ++ codes ": " ++ goal_text fluents line.goal
+    line_feed ++ codes "  " ++ states_text line.from line.last ++ codes ": " ++ goal_text fluents line.goal
     ++ codes " is false"
 
 -- such lines

@@ -18,5 +18,5 @@ mod zones;
 
 pub use lines::{Line, lines_of};
 pub use links::{How, Link};
-pub use texts::push_lines;
+pub use texts::{push_goal, push_lines};
 pub use witnesses::{Witness, goal_witness};

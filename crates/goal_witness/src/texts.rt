@@ -22,7 +22,7 @@ use state_text::push_condition;
 use std::alloc::AllocError;
 use std::rc::RcStr;
 
-/// Appends a new line for each goal that is false after some steps.
+/// Appends a new line, indented, for each goal that is false after some steps.
 pub fn push_lines(
     out: &mut String,
     fluents: &[Vec<RcStr>],
@@ -37,12 +37,13 @@ pub fn push_lines(
     Ok(())
 }
 
-/// Appends a new line of a goal that is false after some steps.
+/// Appends a new line, indented, of a goal that is false after some steps.
 fn push_line(out: &mut String, fluents: &[Vec<RcStr>], line: &Line<'_>) -> Result<(), AllocError>
     ensures { OnOk result (string_bytes out.new ≡ string_bytes out.old
         ++ false_line (map name_bytes fluents.now) (line_value line.now)) }
 {
     out.push('\n')?;
+    out.push_str("  ")?;
     push_states(out, line.from, line.last)?;
     out.push_str(": ")?;
     push_goal(out, fluents, line.goal)?;
@@ -110,7 +111,7 @@ fn push_first(
 
 /// Appends a goal, as it stands in a problem.
 #[cycle(printing)]
-fn push_goal(out: &mut String, fluents: &[Vec<RcStr>], goal: &Ctl) -> Result<(), AllocError>
+pub fn push_goal(out: &mut String, fluents: &[Vec<RcStr>], goal: &Ctl) -> Result<(), AllocError>
     ensures { OnOk result (string_bytes out.new ≡ string_bytes out.old
         ++ goal_text (map name_bytes fluents.now) (ctl_value goal.now)) }
 {

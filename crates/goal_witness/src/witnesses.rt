@@ -9,6 +9,7 @@ ghost use Rattle.plan_rules.specs.Plans.{IsPlanOf};
 ghost use Rattle.plan_rules.specs.Rules.{plain_of};
 ghost use Rattle.plan_witness.specs.Marked.{IsGraphIn};
 ghost use Rattle.ctl_syntax.specs.Goals.{CtlTree};
+ghost use Rattle.task_core.specs.States.{IsWithin};
 ghost use Rattle.task_core.specs.Tasks.{action_count, fluent_count, system_of};
 ghost use Rattle.task_core.specs.declared.conditions.Cond.{Cond};
 ghost use Rattle.task_core.specs.declared.tasks.Task.{Task};
@@ -57,6 +58,8 @@ pub fn goal_witness<'a>(
     ensures witness { let n = fluent_count task.now in IfOk result (λ found. IfSome found (λ witness.
         IsWitness (system_of task.now) (plain_of plan.now) (ctl_value goal.now)
         (witness_value n witness))) }
+    ensures within { IfOk result (λ found. IfSome found (λ witness.
+        IsWithin (fluent_count task.now) witness.run.start)) }
     ensures none { IfOk result (λ found. IfNone found
         (MissesGoal (system_of task.now) (plain_of plan.now) (ctl_value goal.now) → ⊥)) }
 {
@@ -108,6 +111,8 @@ fn witness_in<'a, L: Ledger>(
         IfOk result (λ found. IfSome found (λ witness.
         IsWitness (sys_in scene.now) (plan_in scene.now) (ctl_value goal.now)
         (witness_value n witness))) }
+    ensures within { IfOk result (λ found. IfSome found (λ witness.
+        IsWithin (fluent_count scene.now.task.now) witness.run.start)) }
     ensures none { IfOk result (λ found. IfNone found
         (MissesGoal (sys_in scene.now) (plan_in scene.now) (ctl_value goal.now) → ⊥)) }
 {

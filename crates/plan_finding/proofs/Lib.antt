@@ -1,6 +1,7 @@
 mod Ends
 mod Failures
 mod FalseParts
+mod Missed
 mod Placed
 mod Pushed
 mod Stems

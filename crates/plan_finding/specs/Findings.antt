@@ -1,9 +1,10 @@
 -- What speaks for a verdict on a plan: a shortest run, and what is the matter at its end.
-use Rattle.std.specs.Prelude.{◌≡◌, ◌<◌, ◌↔◌, ◌+◌, ℕ, List, [], None, Option, Some, drop, false}
+use Rattle.std.specs.Prelude.{◌≡◌, ◌<◌, ◌↔◌, ◌+◌, ℕ, Bool, List, [], None, Option, Some, drop, false}
 use Rattle.std.specs.Prelude.{if◌then◌else◌, length, nat_lt, slice_get, take, true}
 use Rattle.std.specs.List.{All}
 use Rattle.std.specs.Option.{option_map}
 use Rattle.condition_parts.specs.Parts.{IsFalsePart}
+use Rattle.goal_witness.specs.Lines.{PlainLine}
 use Rattle.plan_finding.specs.Aims.{IsAimAt}
 use Rattle.plan_finding.specs.declared.aims.Aim.{Aim}
 use Rattle.plan_finding.specs.declared.aims.Aim.TheVariants.{Round}
@@ -43,6 +44,9 @@ pub data Ending : Type 0 where
   never_in_goal : Ending
   -- no run from there ends
   never_ending : Ending
+  -- a goal is false along the run, part by part: the one that stands for the problem's where actions may
+  -- be tried again, or else the problem's
+  goal_missed : (fair : Bool) → List PlainLine → Ending
 
 -- the parts of a condition that are false in a state: each is asked for and false there, and there are
 -- some exactly if the condition is false
@@ -111,7 +115,7 @@ IsWithoutNextAt sys (table class rules) x number action outcome = ⊥
 IsWithoutNextAt sys (automaton contexts rules) x number action outcome =
     LosesAt sys rules x number action outcome
 
--- what is said of the end of a run is so at x
+-- what is said of the end of a run is so at x. That a goal is false along a run is said of no place
 abbrev pub IsEndingAt : Task → PlainPlan → Configuration → Ending → Type 0
 IsEndingAt task plan x in_goal = IsEndInside (system_of task) plan x
 IsEndingAt task plan x (outside_goal parts) =
@@ -124,6 +128,7 @@ IsEndingAt task plan x (without_next rule action outcome) =
 IsEndingAt task plan x comes_back = ComesBack (system_of task) plan x
 IsEndingAt task plan x never_in_goal = IsLostStart (system_of task) plan x
 IsEndingAt task plan x never_ending = IsEndless (system_of task) plan x
+IsEndingAt task plan x (goal_missed fair lines) = ⊥
 
 -- a run, the number of the initial state in which it begins, counted from 0, and what is the matter
 -- after its first `stem` steps. These are all steps, or those that are left lead back to where the run
@@ -164,3 +169,15 @@ pub record IsFound (aim : Aim) (task : Task) (plan : PlainPlan) (found : PlainFo
   pub back : IsBackFor aim (system_of task) plan (end_of found.run.start (stem_of found).steps)
       (back_of found)
   pub ending : IsEndingAt task plan (end_of found.run.start (stem_of found).steps) found.ending
+
+-- which goals are false where along a run that shows that a goal is missed
+abbrev pub lines_in : Ending → List PlainLine
+lines_in in_goal = []
+lines_in (outside_goal parts) = []
+lines_in (not_executable rule action parts) = []
+lines_in without_rule = []
+lines_in (without_next rule action outcome) = []
+lines_in comes_back = []
+lines_in never_in_goal = []
+lines_in never_ending = []
+lines_in (goal_missed fair lines) = lines

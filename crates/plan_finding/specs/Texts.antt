@@ -3,7 +3,8 @@ use Rattle.std.specs.Prelude.{◌==◌, ◌&&◌, ◌+◌, ℕ, suc, Bool, true,
 use Rattle.std.specs.Prelude.{if◌then◌else◌, map, false, None, Option, Some, slice_index_or}
 use Rattle.std.specs.List.{flat_map}
 use Rattle.plan_finding.specs.Findings.{Ending, PlainFound, again_from, comes_back, in_goal, never_ending}
-use Rattle.plan_finding.specs.Findings.{never_in_goal, not_executable, outside_goal, without_next, without_rule}
+use Rattle.goal_witness.specs.Texts.{false_lines}
+use Rattle.plan_finding.specs.Findings.{goal_missed, never_in_goal, not_executable, outside_goal, without_next, without_rule}
 use Rattle.plan_rules.specs.Rules.{PlainPlan, PlanRule, automaton, table}
 use Rattle.plan_rules.specs.Texts.{atom_text, line_feed, name_at}
 use Rattle.plan_witness.specs.Runs.{PlainRun, PlainStep}
@@ -80,6 +81,17 @@ back_text (Some number) =
     codes "the run is back where it was before step " ++ decimal number
     ++ codes ", and may go on so for ever"
 
+-- which goal is false: the problem's; or, where actions may be tried again, the one that stands for it
+abbrev pub missed_text : Bool → List ℕ
+missed_text false = codes "the problem's goal is false in the initial state:"
+missed_text true =
+    codes "the problem's goal, rewritten for actions that may be tried again, is false in the initial state:"
+
+-- a new line for a run that comes round
+abbrev pub round_text : Option ℕ → List ℕ
+round_text None = []
+round_text (Some number) = line_feed ++ back_text (Some number)
+
 -- what is the matter at the end of a run
 abbrev pub ending_text : Source → Option ℕ → Ending → List ℕ
 ending_text source again in_goal = codes "the plan ends here, in the goal"
@@ -96,6 +108,8 @@ ending_text source again (without_next rule action outcome) =
 ending_text source again comes_back = back_text again
 ending_text source again never_in_goal = codes "no run from here ends in the goal"
 ending_text source again never_ending = codes "no run from here ends"
+ending_text source again (goal_missed fair lines) =
+    missed_text fair ++ false_lines source.fluents lines ++ round_text again
 
 abbrev pub sentence : Source → PlainFound → List ℕ
 sentence source found = ending_text source (again_from found) found.ending

@@ -2,9 +2,10 @@
 use Rattle.std.specs.Prelude.{ℕ, Option, map}
 use Rattle.std.specs.Option.{option_map}
 use Rattle.plan_finding.specs.Findings.{Ending, PlainFound, comes_back, in_goal, never_ending, never_in_goal}
-use Rattle.plan_finding.specs.Findings.{not_executable, outside_goal, without_next, without_rule}
+use Rattle.goal_witness.specs.Lines.{line_value}
+use Rattle.plan_finding.specs.Findings.{goal_missed, not_executable, outside_goal, without_next, without_rule}
 use Rattle.plan_finding.specs.declared.endings.Ending.{Ending as CodeEnding}
-use Rattle.plan_finding.specs.declared.endings.Ending.TheVariants.{ComesBack, InGoal, OutsideGoal}
+use Rattle.plan_finding.specs.declared.endings.Ending.TheVariants.{ComesBack, GoalMissed, InGoal, OutsideGoal}
 use Rattle.plan_finding.specs.declared.endings.Ending.TheVariants.{NeverEnding, NeverInGoal}
 use Rattle.plan_finding.specs.declared.endings.Ending.TheVariants.{NotExecutable, WithoutNext}
 use Rattle.plan_finding.specs.declared.endings.Ending.TheVariants.{WithoutRule}
@@ -25,6 +26,7 @@ ending_value (WithoutNext rule action outcome) = without_next rule action.0 outc
 ending_value ComesBack = comes_back
 ending_value NeverInGoal = never_in_goal
 ending_value NeverEnding = never_ending
+ending_value (GoalMissed fair lines) = goal_missed fair (map line_value lines.items)
 
 abbrev pub found_value : ℕ → Found → PlainFound
 found_value n found = record {

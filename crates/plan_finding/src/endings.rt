@@ -2,19 +2,21 @@
 
 ghost use Rattle.exec_graph.specs.Executions.{IsStuckAt, IsUnexecutableAt};
 ghost use Rattle.plan_finding.specs.Aims.{HasGoalFor, IsAimAt};
-ghost use Rattle.plan_finding.specs.Findings.{HasFalseGoal, HasFalsePrecondition, IsEndingAt};
+ghost use Rattle.goal_witness.specs.Lines.{line_value};
+ghost use Rattle.plan_finding.specs.Findings.{HasFalseGoal, HasFalsePrecondition, IsEndingAt, lines_in};
 ghost use Rattle.plan_finding.specs.Values.{ending_value};
 ghost use Rattle.plan_guide.specs.RunRules.{IsRunRuleOf};
 ghost use Rattle.plan_rules.specs.Plans.{IsPlanOf};
 ghost use Rattle.plan_rules.specs.Rules.{automaton, context_rule_of, plain_of};
 ghost use Rattle.plan_witness.specs.Ends.{IsLostAt, LosesOutcome};
-ghost use Rattle.std.specs.Prelude.{◌<◌, All, IfOk, IsSome, map, ℕ};
+ghost use Rattle.std.specs.Prelude.{◌≡◌, ◌<◌, All, IfOk, IsSome, map, ℕ};
 ghost use Rattle.task_core.specs.States.{IsWithin, vector};
 ghost use Rattle.task_core.specs.Tasks.{action_count, fluent_count, system_of};
 
 use crate::aims::Aim;
 use crate::rules::bad_rule;
 use condition_parts::false_parts;
+use goal_witness::Line;
 use plan_rules::{AutoRule, Plan};
 use plan_witness::{counting_rule, lost_outcome};
 use std::alloc::{AllocError, Global};
@@ -40,6 +42,26 @@ pub enum Ending<'a> {
     NeverInGoal,
     /// No run from there ends.
     NeverEnding,
+    /// A goal is false along the run, part by part: the one that stands for the problem's where actions
+    /// may be tried again, or else the problem's.
+    GoalMissed(bool, Vec<Line<'a>>),
+}
+
+/// Which goals are false where along a run that shows that a goal is missed.
+pub fn missed_lines<'a, 'b>(ending: &'b Ending<'a>) -> &'b [Line<'a>]
+    ensures { map line_value result.now ≡ lines_in (ending_value ending.now) }
+{
+    match ending {
+        Ending::InGoal => &[],
+        Ending::OutsideGoal(_) => &[],
+        Ending::NotExecutable(_, _, _) => &[],
+        Ending::WithoutRule => &[],
+        Ending::WithoutNext(_, _, _) => &[],
+        Ending::ComesBack => &[],
+        Ending::NeverInGoal => &[],
+        Ending::NeverEnding => &[],
+        Ending::GoalMissed(_, lines) => lines,
+    }
 }
 
 /// What is the matter in a state and a context that are an aim.

@@ -1,5 +1,7 @@
 //! The text of a run and what is the matter at its end.
 
+ghost use Rattle.goal_witness.specs.Lines.{line_value};
+ghost use Rattle.goal_witness.specs.Texts.{false_lines};
 ghost use Rattle.plan_finding.specs.Findings.{again_from as again_of};
 ghost use Rattle.plan_finding.specs.Texts.{
   back_text,
@@ -10,11 +12,13 @@ ghost use Rattle.plan_finding.specs.Texts.{
   found_text as text_of,
   initial_line,
   is_recorded as is_recorded_run,
+  missed_text,
   move_text,
   number_text,
   outcomes_text,
   record_line,
   refusal_note,
+  round_text,
   rule_text,
   sentence,
   step_lines,
@@ -33,6 +37,7 @@ ghost use Rattle.task_core.specs.Tasks.{action_count, fluent_count, fluent_names
 use crate::endings::Ending;
 use crate::findings::Found;
 use crate::sources::{Source, line_at};
+use goal_witness::{Line, push_lines};
 use plan_rules::{Plan, Rule, has_all, push_number};
 use plan_witness::{Run, RunStep};
 use state_text::{push_action, push_changes, push_condition, push_true};
@@ -227,6 +232,46 @@ fn push_ending(
         Ending::ComesBack => push_back(out, again),
         Ending::NeverInGoal => out.push_str("no run from here ends in the goal"),
         Ending::NeverEnding => out.push_str("no run from here ends"),
+        Ending::GoalMissed(fair, lines) => push_missed(out, source.task, *fair, lines, again),
+    }
+}
+
+/// Appends which goal is false, where its parts are, and where the run comes round.
+fn push_missed(
+    out: &mut String,
+    task: &Task,
+    fair: bool,
+    lines: &[Line<'_>],
+    again: Option<usize>,
+) -> Result<(), AllocError>
+    ensures { OnOk result (string_bytes out.new ≡ string_bytes out.old ++ (missed_text fair
+        ++ false_lines (fluent_names task.now) (map line_value lines.now) ++ round_text again)) }
+{
+    out.push_str(missed_sentence(fair))?;
+    push_lines(out, &task.fluents, lines)?;
+    push_round(out, again)
+}
+
+/// Which goal is false.
+fn missed_sentence(fair: bool) -> &'static str
+    ensures { result.now ≡ missed_text fair }
+{
+    if fair {
+        return "the problem's goal, rewritten for actions that may be tried again, is false in the initial state:";
+    }
+    "the problem's goal is false in the initial state:"
+}
+
+/// Appends a new line for a run that comes round.
+fn push_round(out: &mut String, again: Option<usize>) -> Result<(), AllocError>
+    ensures { OnOk result (string_bytes out.new ≡ string_bytes out.old ++ round_text again) }
+{
+    match again {
+        None => Ok(()),
+        Some(number) => {
+            out.push('\n')?;
+            push_again(out, number)
+        }
     }
 }
 

@@ -2,20 +2,17 @@ use Rattle.std.proofs.Common.{◌≡◌, ℕ, IfOk, List, subst}
 use Rattle.command_base.specs.Values.{shown_of}
 use Rattle.task_core.specs.Tasks.{fluent_count}
 use Rattle.plan_finding.specs.Values.{finding_value}
-use Rattle.plan_finding.specs.declared.aims.Aim.{Aim}
 use Rattle.plan_rules.specs.Rules.{plain_of}
-use Rattle.explain_plan.specs.Explained.{IsFinding, shown_answer, source_in}
+use Rattle.explain_plan.specs.Explained.{shown_answer, source_in}
 use Rattle.explain_plan.specs.Values.{explain_words_of, lined_of}
-use Rattle.explain_plan.proofs.Finding.{explained_so, finding_of}
+use Rattle.explain_plan.proofs.Finding.{explained_so}
 use Rattle.explain_plan.proofs.verdicts.explain_graph.Goals as goal
 
 pub returns : goal.returns
 returns c =
     let task = c.args.grounded.now.task in
     let plan = plain_of c.args.lined.now.read.plan in
-    let n = fluent_count task in
-    let finding = finding_value n c.in_ok-found.found in
-    let found = subst (λ (aim : Aim). IsFinding aim task plan finding) c.aim_for-aim.ensures (finding_of n c.aim_for-aim.result task plan c.in_ok-found.found c.in_ok-found.ensures.found c.in_ok-found.ensures.none) in
+    let finding = finding_value (fluent_count task) c.in_ok-found.found in
     explained_so c.shown_as.result c.failures_are_shown.ensures.tables c.failures_are_shown.ensures.contexts (explain_words_of c.args.asked.now) task (lined_of c.args.lined.now) c.args.grounded.now.ctl c.in_ok-verdict.verdict finding
-    (c.in_ok-verdict.ensures plan c.requires.of_kind c.requires.graph) found
+    (c.in_ok-verdict.ensures plan c.requires.of_kind c.requires.graph) c.in_ok-found.ensures
     (subst (λ (lines : List ℕ). IfOk c.shown_as.result (λ shown. shown_of shown ≡ shown_answer c.args.asked.now.json (source_in task plan lines) c.in_ok-verdict.verdict finding)) c.deref.ensures.value c.shown_as.ensures)

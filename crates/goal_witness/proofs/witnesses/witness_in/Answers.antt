@@ -1,6 +1,7 @@
 use Rattle.std.proofs.Common.{length, sym, ap, ◌∙◌, subst}
 use Rattle.ctl_syntax.specs.Values.{ctl_value}
 use Rattle.plan_check.specs.Labels.{ShowsGoal}
+use Rattle.task_core.specs.States.{IsWithin}
 use Rattle.task_core.specs.Tasks.{fluent_count}
 use Rattle.goal_witness.proofs.Missing.{all_marked, false_at, is_witness}
 use Rattle.goal_witness.proofs.witnesses.witness_in.Goals as goal
@@ -31,3 +32,8 @@ returns-in-Some-clause-witness g c =
     let made = c.in_ok-witness-in-Some in
     is_witness scene c.requires.scene (ctl_value c.args.goal.now) c.in-Some.number made.witness c.state.result.now c.in_ok-links-in-Some.links.items c.in-Some.ensures.below c.in-Some.ensures.initial
     (c.state.ensures.state n) made.ensures.start made.ensures.links c.in_ok-links-in-Some.ensures (made.ensures.steps n) (made.ensures.stem n)
+
+pub returns-in-Some-clause-within : goal.returns-in-Some-clause-within
+returns-in-Some-clause-within g c =
+    let n = fluent_count c.args.scene.now.task.now in
+    subst (IsWithin n) (sym c.in_ok-witness-in-Some.ensures.start) (c.state.ensures.within n c.requires.scene.within)

@@ -1,6 +1,9 @@
-use Rattle.std.proofs.Common.{◌≡◌, ◌++◌, OnOk, codes, map, string_bytes, subst, sym}
+use Rattle.std.proofs.Common.{◌≡◌, ◌++◌, List, OnOk, codes, map, string_bytes, subst, sym}
 use Rattle.task_core.specs.Tasks.{fluent_names}
-use Rattle.plan_finding.specs.Texts.{back_text, conditions_text, ending_text}
+use Rattle.goal_witness.specs.Lines.{line_value}
+use Rattle.goal_witness.specs.Texts.{false_lines}
+use Rattle.goal_witness.specs.declared.lines.Line.{Line}
+use Rattle.plan_finding.specs.Texts.{conditions_text, ending_text, missed_text, round_text}
 use Rattle.plan_finding.specs.Values.{ending_value, source_value}
 use Rattle.plan_finding.specs.declared.endings.Ending.{Ending as CodeEnding}
 use Rattle.plan_finding.specs.declared.endings.Ending.TheVariants.{OutsideGoal}
@@ -38,3 +41,11 @@ pub returns-in-NeverEnding : goal.returns-in-NeverEnding
 returns-in-NeverEnding c =
     subst (λ (e : CodeEnding). OnOk c.push_str-in-NeverEnding.result (string_bytes c.push_str-in-NeverEnding.new.self ≡ string_bytes c.args.out.now ++ ending_text (source_value c.args.source.now) c.args.again (ending_value e)))
     (sym c.in-NeverEnding.is) (when_ok c.push_str-in-NeverEnding.result (string_bytes c.args.out.now) (codes "no run from here ends") (string_bytes c.push_str-in-NeverEnding.new.self) c.push_str-in-NeverEnding.ensures.bytes)
+
+pub returns-in-GoalMissed : goal.returns-in-GoalMissed
+returns-in-GoalMissed c =
+    let task = c.args.source.now.task.now in
+    subst (λ (e : CodeEnding). OnOk c.push_missed.result (string_bytes c.push_missed.new.out ≡ string_bytes c.args.out.now ++ ending_text (source_value c.args.source.now) c.args.again (ending_value e)))
+    (sym c.in-GoalMissed.is)
+    (subst (λ (xs : List Line). OnOk c.push_missed.result (string_bytes c.push_missed.new.out ≡ string_bytes c.args.out.now
+    ++ (missed_text c.in-GoalMissed.fair ++ false_lines (fluent_names task) (map line_value xs) ++ round_text c.args.again))) c.deref-in-GoalMissed.ensures.value c.push_missed.ensures)
