@@ -1,5 +1,5 @@
 //! The commands of `mbp_explain`: the words say whether a plan is to be explained, or why there is
-//! none.
+//! none, or what in the two files is likely a mistake.
 #![tactic(auto)]
 
 mod top;

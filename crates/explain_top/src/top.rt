@@ -4,12 +4,19 @@ ghost use Rattle.answer_help.specs.Keeping.{KeepsAfter, faults_by, held_by, kept
 ghost use Rattle.command_base.specs.Delivery.{seen};
 ghost use Rattle.command_base.specs.Words.{PlanWords as AskedPlan};
 ghost use Rattle.explain_plan.specs.Runs.{HasExplained};
+ghost use Rattle.mistakes_command.specs.Runs.{HasMistakes};
+ghost use Rattle.mistakes_command.specs.Words.{
+  AskNothing as AskNoMistakes,
+  MistakesWords as AskedMistakes,
+  SaysMistakes,
+};
 ghost use Rattle.std.specs.Prelude.{◌≡◌, [], map, string_bytes};
 ghost use Rattle.why_plan.specs.Runs.{HasWhy};
-ghost use Rattle.why_plan.specs.Words.{AskNothing, SaysWhy};
+ghost use Rattle.why_plan.specs.Words.{AskNothing as AskNoReason, SaysWhy};
 
 use answer_help::KeepingShelf;
 use explain_plan::explain;
+use mistakes_command::{asks_mistakes, mistakes};
 use plan_io::{Shelf, Sink};
 use std::alloc::Global;
 use why_plan::{says_why, why};
@@ -17,7 +24,8 @@ use why_plan::{says_why, why};
 /// Does what the words ask for, writes the answer, and gives the exit status.
 ///
 /// The words `CLASS DOMAIN PROBLEM` and `ctl DOMAIN PROBLEM`, with `--nodes N` or nothing after them,
-/// are those of `why_plan::why`. All others are those of `explain_plan::explain`.
+/// are those of `why_plan::why`. The words `DOMAIN PROBLEM`, with `--json` or nothing after them, are
+/// those of `mistakes_command::mistakes`. All others are those of `explain_plan::explain`.
 pub fn explain_words<S: Shelf, O: Sink, E: Sink>(
     alloc: Global,
     words: &[String],
@@ -38,7 +46,21 @@ pub fn explain_words<S: Shelf, O: Sink, E: Sink>(
           err_after = seen (E.written err.new) (E.faults err.new);
           status = result;
         }) }
-    ensures explain { AskNothing (map string_bytes words.now)
+    ensures mistakes { (asked : AskedMistakes) → AskNoReason (map string_bytes words.now)
+        → SaysMistakes (map string_bytes words.now) asked
+        → HasMistakes (held_by S.held) (faults_by S.faults) (KeepsAfter S.held S.fetched) (record {
+          words = map string_bytes words.now;
+          handed = tt;
+          shelf = shelf.old;
+          shelf_after = shelf.new;
+          out = seen (O.written out.old) (O.faults out.old);
+          out_after = seen (O.written out.new) (O.faults out.new);
+          err = seen (E.written err.old) (E.faults err.old);
+          err_after = seen (E.written err.new) (E.faults err.new);
+          status = result;
+        }) }
+    ensures explain { AskNoReason (map string_bytes words.now)
+        → AskNoMistakes (map string_bytes words.now)
         → HasExplained (held_by S.held) (faults_by S.faults) (KeepsAfter S.held S.fetched) (record {
           words = map string_bytes words.now;
           handed = tt;
@@ -52,8 +74,10 @@ pub fn explain_words<S: Shelf, O: Sink, E: Sink>(
         }) }
 {
     if says_why(words) {
-        why(alloc, words, shelf, out, err)
-    } else {
-        explain(alloc, words, shelf, out, err)
+        return why(alloc, words, shelf, out, err);
     }
+    if asks_mistakes(words) {
+        return mistakes(alloc, words, shelf, out, err);
+    }
+    explain(alloc, words, shelf, out, err)
 }

@@ -4,14 +4,35 @@ use Rattle.explain_top.proofs.top.explain_words.Goals as goal
 pub returns-then-says_why-clause-why : goal.returns-then-says_why-clause-why
 returns-then-says_why-clause-why g c = λ asked says. c.why.ensures
 
-pub returns-then-says_why-clause-explain : goal.returns-then-says_why-clause-explain
-returns-then-says_why-clause-explain g c = λ nothing.
+pub returns-then-says_why-clause-mistakes : goal.returns-then-says_why-clause-mistakes
+returns-then-says_why-clause-mistakes g c = λ asked nothing says.
     let found = MatchBool-at_true _ _ c.if-says_why.true c.says_why.ensures in
     absurd (nothing found.0 found.1)
 
-pub returns-else-says_why-clause-why : goal.returns-else-says_why-clause-why
-returns-else-says_why-clause-why g c = λ asked says.
+pub returns-then-says_why-clause-explain : goal.returns-then-says_why-clause-explain
+returns-then-says_why-clause-explain g c = λ nothing none.
+    let found = MatchBool-at_true _ _ c.if-says_why.true c.says_why.ensures in
+    absurd (nothing found.0 found.1)
+
+pub returns-then-asks_mistakes-clause-why : goal.returns-then-asks_mistakes-clause-why
+returns-then-asks_mistakes-clause-why g c = λ asked says.
     absurd (MatchBool-at_false _ _ c.if-says_why.false c.says_why.ensures asked says)
 
-pub returns-else-says_why-clause-explain : goal.returns-else-says_why-clause-explain
-returns-else-says_why-clause-explain g c = λ nothing. c.explain.ensures
+pub returns-then-asks_mistakes-clause-mistakes : goal.returns-then-asks_mistakes-clause-mistakes
+returns-then-asks_mistakes-clause-mistakes g c = λ asked nothing says. c.mistakes.ensures
+
+pub returns-then-asks_mistakes-clause-explain : goal.returns-then-asks_mistakes-clause-explain
+returns-then-asks_mistakes-clause-explain g c = λ nothing none.
+    let found = MatchBool-at_true _ _ c.if-asks_mistakes.true c.asks_mistakes.ensures in
+    absurd (none found.0 found.1)
+
+pub returns-else-asks_mistakes-clause-why : goal.returns-else-asks_mistakes-clause-why
+returns-else-asks_mistakes-clause-why g c = λ asked says.
+    absurd (MatchBool-at_false _ _ c.if-says_why.false c.says_why.ensures asked says)
+
+pub returns-else-asks_mistakes-clause-mistakes : goal.returns-else-asks_mistakes-clause-mistakes
+returns-else-asks_mistakes-clause-mistakes g c = λ asked nothing says.
+    absurd (MatchBool-at_false _ _ c.if-asks_mistakes.false c.asks_mistakes.ensures asked says)
+
+pub returns-else-asks_mistakes-clause-explain : goal.returns-else-asks_mistakes-clause-explain
+returns-else-asks_mistakes-clause-explain g c = λ nothing none. c.explain.ensures
