@@ -5,7 +5,7 @@ ghost use Rattle.command_base.specs.Words.{IsNodeLimit};
 ghost use Rattle.dead_ends.specs.ToldRuns.{IsRunTold};
 ghost use Rattle.std.specs.Prelude.{◌≡◌, ◌++◌, IfOk};
 ghost use Rattle.task_core.specs.Tasks.{action_names, fluent_names, system_of};
-ghost use Rattle.why_plan.specs.ToldRuns.{HasMore, HasRunAfter, IsToldFor};
+ghost use Rattle.why_plan.specs.ToldRuns.{HasMore, HasRunAfter, IsToldFor, IsToldOf};
 
 use crate::tables::TablePlanner;
 use command_base::{PlanKind, PlanWords, Shown, Text};
@@ -48,9 +48,27 @@ fn with_kind(
         (fluent_names task.old) (action_names task.old)) (bytes_of text) (bytes_of after)) }
 {
     match kind {
-        PlanKind::Class(Class::Strong) => with_told(alloc, Class::Strong, nodes, task, text),
-        PlanKind::Class(Class::Cyclic) => with_told(alloc, Class::Cyclic, nodes, task, text),
-        PlanKind::Class(Class::Weak) | PlanKind::Contexts => Ok(text),
+        PlanKind::Class(class) => with_class(alloc, class, nodes, task, text),
+        PlanKind::Contexts => Ok(text),
+    }
+}
+
+/// The lines that there is no plan of a class, with what is told after them.
+fn with_class(
+    alloc: Global,
+    class: Class,
+    nodes: u32,
+    task: &mut Task,
+    text: Text,
+) -> Result<Text, AllocError>
+    requires { IsNodeLimit nodes }
+    ensures { IfOk result (λ after. HasMore (IsToldOf class (system_of task.old)
+        (fluent_names task.old) (action_names task.old)) (bytes_of text) (bytes_of after)) }
+{
+    match class {
+        Class::Strong => with_told(alloc, Class::Strong, nodes, task, text),
+        Class::Cyclic => with_told(alloc, Class::Cyclic, nodes, task, text),
+        Class::Weak => Ok(text),
     }
 }
 

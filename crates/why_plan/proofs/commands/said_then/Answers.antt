@@ -10,7 +10,7 @@ pub returns-in_err-said : goal.returns-in_err-said
 returns-in_err-said c =
     let p = err_from_is_err_and c.from_residual.result c.from_residual.ensures.1 in
     rw (p.1, p.2) (told_then (plan_words_of c.args.asked.now) (domain_value c.args.domain.now) (problem_value c.args.problem.now) c.args.grounded.now.task
-    (refused (refusal_of c.in_err-said.field-0)) (refused (refusal_of c.in_err-said.field-0)) c.requires.grounded.of_task c.in_err-said.ensures refl)
+    (refused (refusal_of c.in_err-said.field-0.0)) (refused (refusal_of c.in_err-said.field-0.0)) c.requires.grounded.of_task c.in_err-said.ensures refl)
 
 pub returns : goal.returns
 returns c =

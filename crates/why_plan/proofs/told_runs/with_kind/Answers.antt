@@ -6,14 +6,8 @@ use Rattle.task_core.specs.Tasks.{action_names, fluent_names, system_of}
 use Rattle.why_plan.specs.ToldRuns.{HasMore, IsToldFor}
 use Rattle.why_plan.proofs.told_runs.with_kind.Goals as goal
 
-pub returns-in-Class-Strong : goal.returns-in-Class-Strong
-returns-in-Class-Strong c =
+pub returns-in-Class : goal.returns-in-Class
+returns-in-Class c =
     let task = c.args.task.now in
-    subst (λ (kind : PlanKind). IfOk c.with_told.result (λ after. HasMore (IsToldFor (kind_of kind) (system_of task) (fluent_names task) (action_names task)) (bytes_of c.args.text) (bytes_of after)))
-    (sym c.in-Class-Strong.is) c.with_told.ensures
-
-pub returns-in-Class-Cyclic : goal.returns-in-Class-Cyclic
-returns-in-Class-Cyclic c =
-    let task = c.args.task.now in
-    subst (λ (kind : PlanKind). IfOk c.with_told.result (λ after. HasMore (IsToldFor (kind_of kind) (system_of task) (fluent_names task) (action_names task)) (bytes_of c.args.text) (bytes_of after)))
-    (sym c.in-Class-Cyclic.is) c.with_told.ensures
+    subst (λ (kind : PlanKind). IfOk c.with_class.result (λ after. HasMore (IsToldFor (kind_of kind) (system_of task) (fluent_names task) (action_names task)) (bytes_of c.args.text) (bytes_of after)))
+    (sym c.in-Class.is) c.with_class.ensures
