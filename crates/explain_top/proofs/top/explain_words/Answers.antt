@@ -26,13 +26,13 @@ returns-then-asks_mistakes-clause-explain g c = λ nothing none.
     let found = MatchBool-at_true _ _ c.if-asks_mistakes.true c.asks_mistakes.ensures in
     absurd (none found.0 found.1)
 
-pub returns-clause-why : goal.returns-else-asks_mistakes-clause-why
+pub returns-clause-why : goal.returns-clause-why
 returns-clause-why g c = λ asked says.
     absurd (MatchBool-at_false _ _ c.if-says_why.false c.says_why.ensures asked says)
 
-pub returns-clause-mistakes : goal.returns-else-asks_mistakes-clause-mistakes
+pub returns-clause-mistakes : goal.returns-clause-mistakes
 returns-clause-mistakes g c = λ asked nothing says.
     absurd (MatchBool-at_false _ _ c.if-asks_mistakes.false c.asks_mistakes.ensures asked says)
 
-pub returns-clause-explain : goal.returns-else-asks_mistakes-clause-explain
+pub returns-clause-explain : goal.returns-clause-explain
 returns-clause-explain g c = λ nothing none. c.explain.ensures
