@@ -1,3 +1,4 @@
 mod AfterReading
 mod Answers
+mod Kept
 mod Said

@@ -1,5 +1,1 @@
-pub mod Mistakes
-pub mod ReadValues
-pub mod Runs
-pub mod Values
-pub mod Words
+pub mod Limited

@@ -1,0 +1,133 @@
+//! What is found in the task of two files.
+
+ghost use Rattle.group_hints.specs.Hints.{IsHint};
+ghost use Rattle.mistake_notices.specs.TaskNotices.{hint_notice as notice_for_hint};
+ghost use Rattle.mistake_notices.specs.Values.{notice_value, written_value};
+ghost use Rattle.mistakes_command.specs.Mistakes.{
+  AreHints,
+  AreTaskNotices,
+  IsGoalTold,
+  texts_of,
+};
+ghost use Rattle.mistakes_command.specs.ReadValues.{spelled_by};
+ghost use Rattle.mistakes_command.specs.TaskTold.{HasAdded};
+ghost use Rattle.pddl_ast.specs.Fits.{FitsDomain, FitsProblem};
+ghost use Rattle.pddl_ast.specs.Values.{domain_value, problem_value};
+ghost use Rattle.pddl_system.specs.Sizes.{first_passed};
+ghost use Rattle.relaxed_reach.specs.Literals.{has};
+ghost use Rattle.std.specs.Prelude.{◌≡◌, ◌≤◌, ◌∷◌, [], IfOk, IfSome, None, OnOk, length, map};
+
+use crate::files::ReadTexts;
+use group_hints::{GroupHint, Texts, group_hint};
+use likely_mistakes::{forms_of, sections_of};
+use mistake_notices::{Notice, Written, add_never, goal_notice, hint_notice};
+use never_executed::{Setup, goal_never, never_run};
+use relaxed_reach::{Literals, reached_literals};
+use std::alloc::{AllocError, Global};
+use task_core::Task;
+
+/// Adds what is told of the actions that can never be executed, and of the goal.
+pub(crate) fn add_task_notices(
+    alloc: Global,
+    read: &ReadTexts,
+    task: &Task,
+    notices: &mut Vec<Notice>,
+) -> Result<(), AllocError>
+    requires domain_text { length read.now.file.text.items ≤ 1048576 }
+    requires problem_text { length read.now.problem_text.items ≤ 1048576 }
+    requires fits_domain { FitsDomain (domain_value read.now.file.domain) }
+    requires fits_problem { FitsProblem (domain_value read.now.file.domain)
+        (problem_value read.now.problem) }
+    requires within { first_passed (domain_value read.now.file.domain)
+        (problem_value read.now.problem) ≡ None }
+    ensures { OnOk result (HasAdded (AreTaskNotices (spelled_by read.now) task.now)
+        (map notice_value notices.old.items) (map notice_value notices.new.items)) }
+{
+    let domain_forms = forms_of(alloc, &read.file.text)?;
+    let problem_forms = forms_of(alloc, &read.problem_text)?;
+    let literals = reached_literals(task);
+    let setup = Setup {
+        domain: &read.file.domain,
+        problem: &read.problem,
+        task,
+        literals: &literals,
+    };
+    let found = never_run(alloc, &setup)?;
+    let domain = Written {
+        text: &read.file.text,
+        sections: sections_of(&domain_forms, b"domain"),
+    };
+    add_never(alloc, notices, &domain, &found)?;
+    let problem = Written {
+        text: &read.problem_text,
+        sections: sections_of(&problem_forms, b"problem"),
+    };
+    add_goal(alloc, notices, &problem, task, &literals)
+}
+
+/// Adds what is told of the goal, by the file of the problem.
+fn add_goal(
+    alloc: Global,
+    notices: &mut Vec<Notice>,
+    problem: &Written<'_>,
+    task: &Task,
+    literals: &Literals,
+) -> Result<(), AllocError>
+    ensures { OnOk result (HasAdded (IsGoalTold task.now (has literals.now) (written_value problem.now))
+        (map notice_value notices.old.items) (map notice_value notices.new.items)) }
+{
+    match goal_never(task, literals) {
+        Some(never) => {
+            notices.push(goal_notice(alloc, problem, never)?)?;
+            Ok(())
+        }
+        None => Ok(()),
+    }
+}
+
+/// What is told of groups.
+pub(crate) fn hints_in(
+    alloc: Global,
+    read: &ReadTexts,
+    task: &Task,
+) -> Result<Vec<Notice>, AllocError>
+    requires domain_text { length read.now.file.text.items ≤ 1048576 }
+    requires problem_text { length read.now.problem_text.items ≤ 1048576 }
+    ensures { IfOk result
+        (λ hints. AreHints (spelled_by read.now) task.now (map notice_value hints.items)) }
+{
+    match hint_in(alloc, read, task)? {
+        Some(hint) => hint_list(alloc, &hint),
+        None => Ok(Vec::new(alloc)),
+    }
+}
+
+/// What is told of groups, where something is.
+fn hint_in(
+    alloc: Global,
+    read: &ReadTexts,
+    task: &Task,
+) -> Result<Option<GroupHint>, AllocError>
+    requires domain_text { length read.now.file.text.items ≤ 1048576 }
+    requires problem_text { length read.now.problem_text.items ≤ 1048576 }
+    ensures { IfOk result (λ found. IfSome found (λ hint. IsHint (texts_of (spelled_by read.now))
+        task.now hint.place hint.invariant.items)) }
+{
+    let texts = Texts {
+        domain: &read.file.domain,
+        problem: &read.problem,
+        domain_text: &read.file.text,
+        problem_text: &read.problem_text,
+    };
+    group_hint(alloc, &texts, task)
+}
+
+/// The list of one hint.
+fn hint_list(alloc: Global, hint: &GroupHint) -> Result<Vec<Notice>, AllocError>
+    ensures { IfOk result (λ hints. map notice_value hints.items
+        ≡ notice_for_hint hint.now.place hint.now.invariant.items ∷ []) }
+{
+    let mut hints = Vec::new(alloc);
+    hints.push(hint_notice(alloc, hint.place, &hint.invariant)?)?;
+    Ok(hints)
+}
