@@ -1,6 +1,7 @@
 //! What is found in the task of two files.
 
 ghost use Rattle.group_hints.specs.Hints.{IsHint};
+ghost use Rattle.likely_mistakes.specs.Rows.{sections_of as sections_in};
 ghost use Rattle.mistake_notices.specs.TaskNotices.{hint_notice as notice_for_hint};
 ghost use Rattle.mistake_notices.specs.Values.{notice_value, written_value};
 ghost use Rattle.mistakes_command.specs.Mistakes.{
@@ -8,6 +9,7 @@ ghost use Rattle.mistakes_command.specs.Mistakes.{
   AreTaskNotices,
   IsGoalTold,
   texts_of,
+  written,
 };
 ghost use Rattle.mistakes_command.specs.ReadValues.{spelled_by};
 ghost use Rattle.mistakes_command.specs.TaskTold.{HasAdded};
@@ -15,6 +17,7 @@ ghost use Rattle.pddl_ast.specs.Fits.{FitsDomain, FitsProblem};
 ghost use Rattle.pddl_ast.specs.Values.{domain_value, problem_value};
 ghost use Rattle.pddl_system.specs.Sizes.{first_passed};
 ghost use Rattle.relaxed_reach.specs.Literals.{has};
+ghost use Rattle.sexpr_text.specs.Forest.{forest_of};
 ghost use Rattle.std.specs.Prelude.{◌≡◌, ◌≤◌, ◌∷◌, [], IfOk, IfSome, None, OnOk, length, map};
 
 use crate::files::ReadTexts;
@@ -23,6 +26,7 @@ use likely_mistakes::{forms_of, sections_of};
 use mistake_notices::{Notice, Written, add_never, goal_notice, hint_notice};
 use never_executed::{Setup, goal_never, never_run};
 use relaxed_reach::{Literals, reached_literals};
+use sexpr_text::Form;
 use std::alloc::{AllocError, Global};
 use task_core::Task;
 
@@ -43,8 +47,10 @@ pub(crate) fn add_task_notices(
     ensures { OnOk result (HasAdded (AreTaskNotices (spelled_by read.now) task.now)
         (map notice_value notices.old.items) (map notice_value notices.new.items)) }
 {
-    let domain_forms = forms_of(alloc, &read.file.text)?;
-    let problem_forms = forms_of(alloc, &read.problem_text)?;
+    let domain_text = read.file.text.as_slice();
+    let problem_text = read.problem_text.as_slice();
+    let domain_forms = forms_of(alloc, domain_text)?;
+    let problem_forms = forms_of(alloc, problem_text)?;
     let literals = reached_literals(task);
     let setup = Setup {
         domain: &read.file.domain,
@@ -53,16 +59,21 @@ pub(crate) fn add_task_notices(
         literals: &literals,
     };
     let found = never_run(alloc, &setup)?;
-    let domain = Written {
-        text: &read.file.text,
-        sections: sections_of(&domain_forms, b"domain"),
-    };
+    let domain = written_in(domain_text, &domain_forms, b"domain");
     add_never(alloc, notices, &domain, &found)?;
-    let problem = Written {
-        text: &read.problem_text,
-        sections: sections_of(&problem_forms, b"problem"),
-    };
+    let problem = written_in(problem_text, &problem_forms, b"problem");
     add_goal(alloc, notices, &problem, task, &literals)
+}
+
+/// A text with these forms, in which something of this kind is defined.
+fn written_in<'a>(text: &'a [u8], forms: &'a [Form], kind: &[u8]) -> Written<'a>
+    ensures { written_value result
+        ≡ written text.now (sections_in kind.now (forest_of forms.now)) }
+{
+    Written {
+        text,
+        sections: sections_of(forms, kind),
+    }
 }
 
 /// Adds what is told of the goal, by the file of the problem.
@@ -116,8 +127,8 @@ fn hint_in(
     let texts = Texts {
         domain: &read.file.domain,
         problem: &read.problem,
-        domain_text: &read.file.text,
-        problem_text: &read.problem_text,
+        domain_text: read.file.text.as_slice(),
+        problem_text: read.problem_text.as_slice(),
     };
     group_hint(alloc, &texts, task)
 }

@@ -1,1 +1,3 @@
-pub mod Reached
+mod FormulaParts
+mod Reached
+mod TaskGoals
