@@ -1,5 +1,5 @@
 -- For each binding so far the formula is false.
-use Rattle.std.proofs.Common.{◌≡◌, ◌≤◌, drop}
+use Rattle.std.proofs.Common.{◌≡◌, drop}
 use Rattle.std.specs.List.{list_all}
 use Rattle.ground_instances.specs.Tables.{setting_in}
 use Rattle.pddl_ast.specs.Values.{formula_value}
