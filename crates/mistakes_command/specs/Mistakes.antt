@@ -82,32 +82,44 @@ pub record AreNotices (read : Spelled) (notices : List PlainNotice) : Type 0 whe
       in_domain in_problem
   pub told : notices ≡ notices_of read in_domain in_problem
 
+-- this is what is told of exactly the actions that can never be executed, each with a cause, where just the
+-- literals of the set can be true
+pub record AreNeverTold (read : Spelled) (task : Task) (set : LiteralSet) (told : List PlainNotice)
+    : Type 0 where
+  pub forms : Forest
+  pub spelled : SpellsTrees read.domain_text forms
+  pub found : List NeverRun
+  pub names : map (λ (never : NeverRun). never.schema.now.name) found
+      ≡ never_run read.domain task set
+  pub causes : All (λ (never : NeverRun). IsCause (setting read.domain read.problem) task set
+      (schema_value never.schema.now) never.cause) found
+  pub told_is : told ≡ map (never_notice (written read.domain_text
+      (sections_of (codes "domain") forms))) (map never_value found)
+
 -- nothing is told of the goal, since it may hold or there is none; or that it never holds
 abbrev pub IsGoalTold : Task → LiteralSet → PlainWritten → List PlainNotice → Type 0
 IsGoalTold task set problem told =
     ((goal_is_false task set ≡ false) × (told ≡ []))
     ⊎ ((part : Option ℕ) × IsGoalNever task set part × (told ≡ goal_notice problem part ∷ []))
 
--- this is what is told of exactly the actions that can never be executed, each with a cause, and of the
--- goal, by the literals that can come true at all in the task
+-- the same by the text of the problem
+pub record IsGoalToldIn (read : Spelled) (task : Task) (set : LiteralSet) (told : List PlainNotice)
+    : Type 0 where
+  pub forms : Forest
+  pub spelled : SpellsTrees read.problem_text forms
+  pub goal_told : IsGoalTold task set
+      (written read.problem_text (sections_of (codes "problem") forms)) told
+
+-- this is what is told of the actions that can never be executed, and of the goal, by the literals that
+-- can come true at all in the task
 pub record AreTaskNotices (read : Spelled) (task : Task) (notices : List PlainNotice) : Type 0 where
-  pub domain_forms : Forest
-  pub domain_spelled : SpellsTrees read.domain_text domain_forms
-  pub problem_forms : Forest
-  pub problem_spelled : SpellsTrees read.problem_text problem_forms
   pub set : LiteralSet
   pub least : IsLeastRelaxed task set
-  pub found : List NeverRun
-  pub names : map (λ (never : NeverRun). never.schema.now.name) found
-      ≡ never_run read.domain task set
-  pub causes : All (λ (never : NeverRun). IsCause (setting read.domain read.problem) task set
-      (schema_value never.schema.now) never.cause) found
+  pub never : List PlainNotice
+  pub never_told : AreNeverTold read task set never
   pub of_goal : List PlainNotice
-  pub goal_told : IsGoalTold task set
-      (written read.problem_text (sections_of (codes "problem") problem_forms)) of_goal
-  pub told : notices ≡ map (never_notice
-      (written read.domain_text (sections_of (codes "domain") domain_forms)))
-      (map never_value found) ++ of_goal
+  pub goal_told : IsGoalToldIn read task set of_goal
+  pub told : notices ≡ never ++ of_goal
 
 -- nothing is told of groups; or it is told what is judged of them
 abbrev pub AreHints : Spelled → Task → List PlainNotice → Type 0

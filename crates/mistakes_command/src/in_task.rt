@@ -6,8 +6,10 @@ ghost use Rattle.mistake_notices.specs.TaskNotices.{hint_notice as notice_for_hi
 ghost use Rattle.mistake_notices.specs.Values.{notice_value, written_value};
 ghost use Rattle.mistakes_command.specs.Mistakes.{
   AreHints,
+  AreNeverTold,
   AreTaskNotices,
   IsGoalTold,
+  IsGoalToldIn,
   texts_of,
   written,
 };
@@ -47,22 +49,68 @@ pub(crate) fn add_task_notices(
     ensures { OnOk result (HasAdded (AreTaskNotices (spelled_by read.now) task.now)
         (map notice_value notices.old.items) (map notice_value notices.new.items)) }
 {
-    let domain_text = read.file.text.as_slice();
-    let problem_text = read.problem_text.as_slice();
-    let domain_forms = forms_of(alloc, domain_text)?;
-    let problem_forms = forms_of(alloc, problem_text)?;
     let literals = reached_literals(task);
-    let setup = Setup {
-        domain: &read.file.domain,
-        problem: &read.problem,
+    let looked = Looked {
+        read,
         task,
         literals: &literals,
     };
+    add_never_told(alloc, &looked, notices)?;
+    add_goal_told(alloc, &looked, notices)
+}
+
+/// Two files, their task, and the literals that can come true in it.
+#[derive(Clone, Copy)]
+struct Looked<'a> {
+    read: &'a ReadTexts,
+    task: &'a Task,
+    literals: &'a Literals,
+}
+
+/// Adds what is told of the actions that can never be executed.
+fn add_never_told(
+    alloc: Global,
+    looked: &Looked<'_>,
+    notices: &mut Vec<Notice>,
+) -> Result<(), AllocError>
+    requires text { length looked.now.read.now.file.text.items ≤ 1048576 }
+    requires fits_domain { FitsDomain (domain_value looked.now.read.now.file.domain) }
+    requires fits_problem { FitsProblem (domain_value looked.now.read.now.file.domain)
+        (problem_value looked.now.read.now.problem) }
+    requires within { first_passed (domain_value looked.now.read.now.file.domain)
+        (problem_value looked.now.read.now.problem) ≡ None }
+    ensures { OnOk result (HasAdded (AreNeverTold (spelled_by looked.now.read.now)
+        looked.now.task.now (has looked.now.literals.now)) (map notice_value notices.old.items)
+        (map notice_value notices.new.items)) }
+{
+    let text = looked.read.file.text.as_slice();
+    let forms = forms_of(alloc, text)?;
+    let domain = written_in(text, &forms, b"domain");
+    let setup = Setup {
+        domain: &looked.read.file.domain,
+        problem: &looked.read.problem,
+        task: looked.task,
+        literals: looked.literals,
+    };
     let found = never_run(alloc, &setup)?;
-    let domain = written_in(domain_text, &domain_forms, b"domain");
-    add_never(alloc, notices, &domain, &found)?;
-    let problem = written_in(problem_text, &problem_forms, b"problem");
-    add_goal(alloc, notices, &problem, task, &literals)
+    add_never(alloc, notices, &domain, &found)
+}
+
+/// Adds what is told of the goal.
+fn add_goal_told(
+    alloc: Global,
+    looked: &Looked<'_>,
+    notices: &mut Vec<Notice>,
+) -> Result<(), AllocError>
+    requires { length looked.now.read.now.problem_text.items ≤ 1048576 }
+    ensures { OnOk result (HasAdded (IsGoalToldIn (spelled_by looked.now.read.now)
+        looked.now.task.now (has looked.now.literals.now)) (map notice_value notices.old.items)
+        (map notice_value notices.new.items)) }
+{
+    let text = looked.read.problem_text.as_slice();
+    let forms = forms_of(alloc, text)?;
+    let problem = written_in(text, &forms, b"problem");
+    add_goal(alloc, notices, &problem, looked)
 }
 
 /// A text with these forms, in which something of this kind is defined.
@@ -81,13 +129,13 @@ fn add_goal(
     alloc: Global,
     notices: &mut Vec<Notice>,
     problem: &Written<'_>,
-    task: &Task,
-    literals: &Literals,
+    looked: &Looked<'_>,
 ) -> Result<(), AllocError>
-    ensures { OnOk result (HasAdded (IsGoalTold task.now (has literals.now) (written_value problem.now))
-        (map notice_value notices.old.items) (map notice_value notices.new.items)) }
+    ensures { OnOk result (HasAdded (IsGoalTold looked.now.task.now (has looked.now.literals.now)
+        (written_value problem.now)) (map notice_value notices.old.items)
+        (map notice_value notices.new.items)) }
 {
-    match goal_never(task, literals) {
+    match goal_never(looked.task, looked.literals) {
         Some(never) => {
             notices.push(goal_notice(alloc, problem, never)?)?;
             Ok(())

@@ -1,7 +1,11 @@
-use Rattle.mistakes_command.proofs.Kept.{few_objects}
-use Rattle.pddl_ast.specs.Values.{domain_value, problem_value}
+use Rattle.std.proofs.Common.{map}
+use Rattle.mistake_notices.specs.Values.{notice_value}
+use Rattle.mistakes_command.specs.ReadValues.{spelled_by}
+use Rattle.relaxed_reach.specs.Literals.{has}
+use Rattle.mistakes_command.proofs.Added.{on_both}
 use Rattle.mistakes_command.proofs.in_task.add_task_notices.Goals as goal
 
-pub never_run-requires-clause-few_objects : goal.never_run-requires-clause-few_objects
-never_run-requires-clause-few_objects c =
-    few_objects (domain_value c.args.read.now.file.domain) (problem_value c.args.read.now.problem) c.requires.within
+pub returns : goal.returns
+returns c =
+    on_both (spelled_by c.args.read.now) c.args.task.now (has c.reached_literals-literals.result) c.reached_literals-literals.ensures c.add_goal_told.result _ _ _
+    c.in_ok-add_never_told.ensures c.add_goal_told.ensures
