@@ -7,7 +7,7 @@ use Rattle.likely_mistakes.specs.Places.{action_named, part_span, span_or}
 use Rattle.likely_mistakes.specs.Rows.{after_first, first_list, list_after, section_named}
 use Rattle.mistake_notices.specs.Notices.{PlainNotice, quoted, text_at, word_at}
 use Rattle.never_executed.specs.declared.causes.Cause.{Cause}
-use Rattle.never_executed.specs.declared.causes.Cause.TheVariants.{NoObjects, Part, Together}
+use Rattle.never_executed.specs.declared.causes.Cause.TheVariants.{InEach, NoObjects, Part, Together}
 use Rattle.sexpr_text.specs.Forest.{Forest}
 use Rattle.sexpr_text.specs.declared.forms.Place.{Place}
 use Rattle.sexpr_text.specs.declared.forms.Span.{Span}
@@ -40,17 +40,24 @@ part_text text span =
 abbrev pub name_span : Forest → Span
 name_span parts = span_or start_span (after_first parts)
 
--- where the cause stands: the part of the precondition, or the name of the action
-abbrev pub cause_span : Forest → Cause → Span
-cause_span parts (Part k) =
+-- where the part with this number of its precondition stands
+abbrev pub condition_span : Forest → ℕ → Span
+condition_span parts k =
     option_map_or (λ found. part_span k found.0 found.1) (list_after (codes ":precondition") parts)
     (name_span parts)
+
+-- where the cause stands: the part of the precondition, or the name of the action
+abbrev pub cause_span : Forest → Cause → Span
+cause_span parts (Part k) = condition_span parts k
+cause_span parts (InEach k) = condition_span parts k
 cause_span parts NoObjects = name_span parts
 cause_span parts Together = name_span parts
 
 -- what the cause is, in words
 abbrev pub cause_text : List ℕ → Span → Cause → List ℕ
 cause_text text span (Part k) = part_text text span
+cause_text text span (InEach k) =
+    codes "in each instance that the facts allow, " ++ part_text text span
 cause_text text span NoObjects = codes "there are no objects for its parameters"
 cause_text text span Together = codes "its precondition never holds"
 

@@ -4,6 +4,7 @@ ghost use Rattle.likely_mistakes.specs.Places.{part_span as span_of_part};
 ghost use Rattle.mistake_notices.specs.TaskNotices.{
   cause_span as span_for,
   cause_text,
+  condition_span as span_of_condition,
   goal_end,
   goal_notice as notice_for_goal,
   goal_part_span,
@@ -80,12 +81,20 @@ fn cause_span(parts: &[Form], cause: Cause) -> Span
     ensures { result ≡ span_for (forest_of parts.now) cause }
 {
     match cause {
-        Cause::Part(part) => match list_after(parts, b":precondition") {
-            Some((span, parts)) => part_span(span, parts, part),
-            None => name_span(parts),
-        },
+        Cause::Part(part) => condition_span(parts, part),
+        Cause::InEach(part) => condition_span(parts, part),
         Cause::NoObjects => name_span(parts),
         Cause::Together => name_span(parts),
+    }
+}
+
+/// Where the part with this number of the precondition of an action stands that has these parts.
+fn condition_span(parts: &[Form], part: usize) -> Span
+    ensures { result ≡ span_of_condition (forest_of parts.now) part }
+{
+    match list_after(parts, b":precondition") {
+        Some((span, parts)) => part_span(span, parts, part),
+        None => name_span(parts),
     }
 }
 
@@ -136,6 +145,10 @@ fn push_cause(
 {
     match cause {
         Cause::Part(_part) => push_part(alloc, out, text, span),
+        Cause::InEach(_part) => {
+            out.push_str("in each instance that the facts allow, ")?;
+            push_part(alloc, out, text, span)
+        }
         Cause::NoObjects => out.push_str("there are no objects for its parameters"),
         Cause::Together => out.push_str("its precondition never holds"),
     }

@@ -1,10 +1,10 @@
 -- Why an action can never be executed.
-use Rattle.std.specs.Prelude.{◌≡◌, ◌⊎◌, ℕ, Bool, List, [], ◌∷◌, Some, ⊤, not, slice_get, true}
+use Rattle.std.specs.Prelude.{◌≡◌, ℕ, Bool, List, [], ◌∷◌, Some, ⊤, not, slice_get, true}
 use Rattle.std.specs.List.{All, list_all, list_any}
 use Rattle.never_executed.specs.NeverRuns.{is_of}
 use Rattle.never_executed.specs.Parts.{IsFalsePart}
 use Rattle.never_executed.specs.declared.causes.Cause.{Cause}
-use Rattle.never_executed.specs.declared.causes.Cause.TheVariants.{NoObjects, Part, Together}
+use Rattle.never_executed.specs.declared.causes.Cause.TheVariants.{InEach, NoObjects, Part, Together}
 use Rattle.pddl_ast.specs.Trees.{FormulaTree, FormulaTrees, SchemaTree, all, any, atom, equal, exists}
 use Rattle.pddl_ast.specs.Trees.{forall, formula_then, implication, negation, no_formula}
 use Rattle.pddl_system.specs.Objects.{bindings}
@@ -53,7 +53,7 @@ abbrev pub IsFalseByFacts : Setting → SchemaTree → ℕ → Type 0
 IsFalseByFacts at schema k = IsFalsePartOf at schema.parameters k schema.precondition
 
 abbrev pub IsCause : Setting → Task → LiteralSet → SchemaTree → Cause → Type 0
-IsCause at task set schema (Part k) =
-    IsFalseInEach set task schema.name k ⊎ IsFalseByFacts at schema k
+IsCause at task set schema (Part k) = IsFalseByFacts at schema k
+IsCause at task set schema (InEach k) = IsFalseInEach set task schema.name k
 IsCause at task set schema NoObjects = bindings at.objects schema.parameters ≡ []
 IsCause at task set schema Together = ⊤

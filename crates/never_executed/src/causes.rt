@@ -22,8 +22,11 @@ use task_core::{GroundAction, Task};
 /// Why an action can never be executed.
 #[derive(Clone, Copy, Debug)]
 pub enum Cause {
-    /// The part of its precondition with this number never holds.
+    /// The part of its precondition with this number is false for all objects, by what never changes.
     Part(usize),
+    /// The part of its precondition with this number never holds in an instance that what never changes
+    /// allows. There are some.
+    InEach(usize),
     /// There are no objects for its parameters.
     NoObjects,
     /// No part alone is known to be the cause.
@@ -61,7 +64,7 @@ fn cause_in_instances(looked: &Looked<'_>, schema: &Schema) -> Cause
         (has looked.now.literals.now) (schema_value schema.now) result }
 {
     match part_in_each(looked, schema) {
-        Some(part) => Cause::Part(part),
+        Some(part) => Cause::InEach(part),
         None => Cause::Together,
     }
 }
