@@ -39,7 +39,7 @@ notices_text names (notice ∷ notices) = flat_map (notice_line names) (notice �
 abbrev pub limit_line : List ℕ → List ℕ
 limit_line name =
     codes "limit " ++ name
-    ++ codes ": not grounded, so preconditions, the goal and groups were not looked at" ++ line_feed
+    ++ codes ": not grounded, so preconditions and the goal were not looked at" ++ line_feed
 
 abbrev pub limit_text : Option (List ℕ) → List ℕ
 limit_text None = []

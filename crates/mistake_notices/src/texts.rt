@@ -89,7 +89,7 @@ fn push_limit_line(out: &mut String, name: &str) -> Result<(), AllocError>
 {
     out.push_str("limit ")?;
     out.push_str(name)?;
-    out.push_str(": not grounded, so preconditions, the goal and groups were not looked at")?;
+    out.push_str(": not grounded, so preconditions and the goal were not looked at")?;
     out.push_str("\n")
 }
 
