@@ -145,13 +145,26 @@ fn push_cause(
 {
     match cause {
         Cause::Part(_part) => push_part(alloc, out, text, span),
-        Cause::InEach(_part) => {
-            out.push_str("in each instance that the facts allow, ")?;
-            push_part(alloc, out, text, span)
-        }
-        Cause::NoObjects => out.push_str("there are no objects for its parameters"),
-        Cause::Together => out.push_str("its precondition never holds"),
+        Cause::InEach(_part) => push_in_each(alloc, out, text, span),
+        Cause::NoObjects => push_words(out, "there are no objects for its parameters"),
+        Cause::Together => push_words(out, "its precondition never holds"),
     }
+}
+
+/// Appends some words.
+fn push_words(out: &mut String, words: &str) -> Result<(), AllocError>
+    ensures { OnOk result (string_bytes out.new ≡ string_bytes out.old ++ words.now) }
+{
+    out.push_str(words)
+}
+
+/// Appends that the part of a condition with this span never holds where the facts allow the action.
+fn push_in_each(alloc: Global, out: &mut String, text: &[u8], span: Span) -> Result<(), AllocError>
+    ensures { OnOk result (string_bytes out.new ≡ string_bytes out.old
+        ++ (codes "in each instance that the facts allow, " ++ part_text text.now span)) }
+{
+    out.push_str("in each instance that the facts allow, ")?;
+    push_part(alloc, out, text, span)
 }
 
 /// Appends that the part of a condition with this span never holds.
