@@ -18,5 +18,5 @@ returns-clause-names c =
     ap (map (λ (s : Schema). s.name)) c.deref.ensures.value ∙ sym (map-map (λ (s : SchemaTree). s.name) schema_value actions) in
     subst
     (λ (names : List (List ℕ)).
-      IfOk c.found_among.result (λ found. map (λ (never : NeverRun). never.schema.now.name) found.items ≡ filter (never_runs setup.task.now (has setup.literals.now)) names))
+    IfOk c.found_among.result (λ found. map (λ (never : NeverRun). never.schema.now.name) found.items ≡ filter (never_runs setup.task.now (has setup.literals.now)) names))
     e c.found_among.ensures.names
