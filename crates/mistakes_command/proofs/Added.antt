@@ -1,5 +1,5 @@
 -- What was added in two steps.
-use Rattle.std.proofs.Common.{◌≡◌, ◌∙◌, List, ◌++◌, ap, refl}
+use Rattle.std.proofs.Common.{◌∙◌, List, ◌++◌, ap, refl}
 use Rattle.std.specs.Prelude.{Err, Ok, OnOk, Result}
 use Rattle.std.proofs.lemmas.List.{append_assoc}
 use Rattle.mistake_notices.specs.Notices.{PlainNotice}

@@ -1,5 +1,5 @@
 -- From what grounding gave to all that is told.
-use Rattle.std.proofs.Common.{◌≡◌, ◌⊎◌, ◌∙◌, List, None, ap, inl, inr, map, subst, sym}
+use Rattle.std.proofs.Common.{◌≡◌, ◌⊎◌, ◌∙◌, List, ap, inl, inr, subst, sym}
 use Rattle.std.specs.Prelude.{Err, IfOk, Ok, Result}
 use Rattle.ground_task.specs.Limits.{limit_of}
 use Rattle.ground_task.specs.declared.grounding.GroundErr.{GroundErr}
