@@ -4,6 +4,7 @@ pub mod Idle
 pub mod Mistakes
 pub mod NeverTrue
 pub mod NeverUsed
+pub mod Places
 pub mod Rows
 pub mod TermTypes
 pub mod Values

@@ -12,6 +12,7 @@ mod finding;
 mod idle;
 mod mistakes;
 mod never_true;
+mod places;
 mod rows;
 mod term_types;
 mod uses;
@@ -20,5 +21,6 @@ mod wrong_types;
 
 pub use finding::{Files, Mistakes, find_mistakes, forms_of};
 pub use mistakes::{Mistake, MistakeKind};
-pub use rows::{after_first, first_parts, section_named, sections_of};
+pub use places::{action_named, part_span, span_or};
+pub use rows::{after_first, first_list, first_parts, list_after, section_named, sections_of};
 pub use uses::mentions;

@@ -56,7 +56,7 @@ pub fn section_named<'a>(sections: &'a [Form], word: &[u8]) -> &'a [Form]
 }
 
 /// The first form with its parts, where it is a list.
-fn first_list(row: &[Form]) -> Option<(Span, &[Form])>
+pub fn first_list(row: &[Form]) -> Option<(Span, &[Form])>
     ensures { option_map (λ found. (found.0, forest_of found.1.now)) result
         ≡ rows.first_list (forest_of row.now) }
 {
@@ -67,7 +67,7 @@ fn first_list(row: &[Form]) -> Option<(Span, &[Form])>
 }
 
 /// The list that follows the first word of this text, with its parts.
-pub(crate) fn list_after<'a>(row: &'a [Form], word: &[u8]) -> Option<(Span, &'a [Form])>
+pub fn list_after<'a>(row: &'a [Form], word: &[u8]) -> Option<(Span, &'a [Form])>
     ensures { option_map (λ found. (found.0, forest_of found.1.now)) result
         ≡ rows.list_after word.now (forest_of row.now) }
 {

@@ -14,4 +14,4 @@ limit_free None = refl
 limit_free (Some name) = refl
 
 pub document_free : (names : PlainFileNames) (report : PlainReport) → has_float (report_data names report) ≡ false
-document_free names report = rw (limit_free report.limit, notices_free names report.notices) refl
+document_free names report = rw (notices_free names report.hints, limit_free report.limit, notices_free names report.notices) refl

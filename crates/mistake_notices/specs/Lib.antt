@@ -1,3 +1,4 @@
 pub mod Notices
+pub mod TaskNotices
 pub mod Texts
 pub mod Values

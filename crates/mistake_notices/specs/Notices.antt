@@ -16,10 +16,11 @@ pub record PlainNotice : Type 0 where
   pub kind : List ℕ
   pub message : List ℕ
 
--- all that is told: the notices; and the name of the limit of grounding that is passed, where one is, since
--- some mistakes are seen only after it
+-- all that is told: the mistakes; hints, which are no mistakes; and the name of the limit of grounding that
+-- is passed, where one is, since some mistakes are seen only after it
 pub record PlainReport : Type 0 where
   pub notices : List PlainNotice
+  pub hints : List PlainNotice
   pub limit : Option (List ℕ)
 
 -- one of the two files: whether it is that of the problem, and its text; and the names of the domain's

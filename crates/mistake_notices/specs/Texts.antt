@@ -16,11 +16,19 @@ pub record PlainFileNames : Type 0 where
 abbrev pub file_of : PlainFileNames → PlainNotice → List ℕ
 file_of names notice = if notice.in_problem then names.problem else names.domain
 
+-- the file and the place, as p:4:16: and a space
+abbrev pub place_text : PlainFileNames → PlainNotice → List ℕ
+place_text names notice =
+    file_of names notice ++ codes ":" ++ decimal notice.place.line ++ codes ":"
+    ++ decimal notice.place.column ++ codes ": "
+
 -- the line of a mistake, as p:4:16: `red` is of type `parcel`, ..
 abbrev pub notice_line : PlainFileNames → PlainNotice → List ℕ
-notice_line names notice =
-    file_of names notice ++ codes ":" ++ decimal notice.place.line ++ codes ":"
-    ++ decimal notice.place.column ++ codes ": " ++ notice.message ++ line_feed
+notice_line names notice = place_text names notice ++ notice.message ++ line_feed
+
+-- the line of a hint
+abbrev pub hint_line : PlainFileNames → PlainNotice → List ℕ
+hint_line names hint = place_text names hint ++ codes "hint: " ++ hint.message ++ line_feed
 
 -- a line each, or that there are none
 abbrev pub notices_text : PlainFileNames → List PlainNotice → List ℕ
@@ -29,7 +37,9 @@ notices_text names (notice ∷ notices) = flat_map (notice_line names) (notice �
 
 -- that some mistakes were not looked for, since the limit of this name is passed
 abbrev pub limit_line : List ℕ → List ℕ
-limit_line name = codes "limit " ++ name ++ line_feed
+limit_line name =
+    codes "limit " ++ name
+    ++ codes ": not grounded, so preconditions and the goal were not looked at" ++ line_feed
 
 abbrev pub limit_text : Option (List ℕ) → List ℕ
 limit_text None = []
@@ -37,12 +47,14 @@ limit_text (Some name) = limit_line name
 
 -- the lines of all that is told
 abbrev pub report_text : PlainFileNames → PlainReport → List ℕ
-report_text names report = notices_text names report.notices ++ limit_text report.limit
+report_text names report =
+    notices_text names report.notices ++ flat_map (hint_line names) report.hints
+    ++ limit_text report.limit
 
 abbrev pub count_data : ℕ → Data
 count_data count = number (unsigned count)
 
--- a mistake as an object: its members stand in the order of their keys
+-- a mistake, or a hint, as an object: its members stand in the order of their keys
 abbrev pub notice_data : PlainFileNames → PlainNotice → Data
 notice_data names notice =
     object (member (codes "column") (count_data notice.place.column)
@@ -56,12 +68,16 @@ abbrev pub limit_data : Option (List ℕ) → Data
 limit_data None = null
 limit_data (Some name) = string name
 
--- the whole: an object with the limit and the list of the mistakes
+-- a list of them
+abbrev pub notices_data : PlainFileNames → List PlainNotice → Data
+notices_data names notices = array (items_of (map (notice_data names) notices))
+
+-- the whole: an object with the hints, the limit and the mistakes
 abbrev pub report_data : PlainFileNames → PlainReport → Data
 report_data names report =
-    object (member (codes "limit") (limit_data report.limit)
-    (member (codes "mistakes") (array (items_of (map (notice_data names) report.notices)))
-    no_members))
+    object (member (codes "hints") (notices_data names report.hints)
+    (member (codes "limit") (limit_data report.limit)
+    (member (codes "mistakes") (notices_data names report.notices) no_members)))
 
 -- its text: without spaces, in one line with a line feed at its end
 abbrev pub document_text : PlainFileNames → PlainReport → List ℕ

@@ -5,12 +5,12 @@ ghost use Rattle.mistake_notices.specs.Texts.{
   document_text,
   limit_data,
   notice_data,
+  notices_data,
   report_data,
 };
 ghost use Rattle.mistake_notices.specs.Values.{name_of, names_value, notice_value, report_value};
 ghost use Rattle.plan_rules.specs.Texts.{line_feed};
-ghost use Rattle.serde_json.specs.Data.{array};
-ghost use Rattle.serde_json.specs.View.{items_of, view};
+ghost use Rattle.serde_json.specs.View.{view};
 ghost use Rattle.serde_json.specs.Written.{compact_text, has_float};
 ghost use Rattle.std.specs.Option.{option_map};
 ghost use Rattle.std.specs.Prelude.{◌≡◌, ◌++◌, IfOk, false, map};
@@ -21,8 +21,8 @@ use serde_json::{Map, Value, put};
 use std::alloc::{AllocError, Global};
 
 /// The document of all that is told: JSON in one line with a line feed at its end. It is an object with the
-/// members `limit`, a name or null, and `mistakes`, a list of objects with the members `column`, `file`,
-/// `kind`, `line` and `message`.
+/// members `hints`, `limit`, a name or null, and `mistakes`. Hints and mistakes are lists of objects with the
+/// members `column`, `file`, `kind`, `line` and `message`.
 pub fn report_document(
     alloc: Global,
     names: &FileNames<'_>,
@@ -56,9 +56,11 @@ fn document_value(
 {
     let mistakes = notice_values(alloc, names, &report.notices)?;
     let limit = limit_value(alloc, report.limit)?;
+    let hints = notice_values(alloc, names, &report.hints)?;
     let mut members = Map::new(alloc);
     put(&mut members, alloc, "mistakes", mistakes)?;
     put(&mut members, alloc, "limit", limit)?;
+    put(&mut members, alloc, "hints", hints)?;
     Ok(Value::from(members))
 }
 
@@ -73,14 +75,14 @@ fn limit_value(alloc: Global, limit: Option<LimitName>) -> Result<Value, AllocEr
     }
 }
 
-/// The list of the mistakes.
+/// A list of mistakes, or of hints.
 fn notice_values(
     alloc: Global,
     names: &FileNames<'_>,
     notices: &[Notice],
 ) -> Result<Value, AllocError>
-    ensures { IfOk result (λ value. view value ≡ array (items_of
-        (map (notice_data (names_value names.now)) (map notice_value notices.now)))) }
+    ensures { IfOk result (λ value. view value
+        ≡ notices_data (names_value names.now) (map notice_value notices.now)) }
 {
     let mut values = Vec::new(alloc);
     for notice in notices {

@@ -8,9 +8,11 @@
 mod documents;
 mod messages;
 mod notices;
+mod task_messages;
 mod texts;
 
 pub use documents::report_document;
 pub use messages::{Source, add_notices, text_at};
 pub use notices::{FileNames, LimitName, Notice, Report};
+pub use task_messages::{Written, add_never, goal_notice, hint_notice};
 pub use texts::report_text;

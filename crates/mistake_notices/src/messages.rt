@@ -97,7 +97,7 @@ fn message_of(alloc: Global, source: &Source<'_>, mistake: &Mistake) -> Result<S
 }
 
 /// The word with this span, as a message names it.
-fn word_at(alloc: Global, text: &[u8], span: Span) -> Result<String, AllocError>
+pub(crate) fn word_at(alloc: Global, text: &[u8], span: Span) -> Result<String, AllocError>
     ensures { IfOk result (λ word. string_bytes word ≡ word_of_span text.now span) }
 {
     String::from_utf8_lossy(alloc, text_at(text, span))
@@ -147,7 +147,7 @@ fn never_true(alloc: Global, word: &str) -> Result<String, AllocError>
 }
 
 /// A sentence about a word, which begins with it between quotes.
-fn sentence(alloc: Global, word: &str, end: &str) -> Result<String, AllocError>
+pub(crate) fn sentence(alloc: Global, word: &str, end: &str) -> Result<String, AllocError>
     ensures { IfOk result (λ text. string_bytes text ≡ quoted word.now end.now) }
 {
     let mut out = String::from_str(alloc, "`")?;

@@ -23,7 +23,10 @@ pub struct LimitName {
 /// All that is told.
 #[derive(Debug, Drop)]
 pub struct Report {
+    /// The mistakes.
     pub notices: Vec<Notice>,
+    /// What is worth a look, and no mistake.
+    pub hints: Vec<Notice>,
     /// The limit of grounding that is passed.
     pub limit: Option<LimitName>,
 }

@@ -2,10 +2,12 @@
 
 ghost use Rattle.mistake_notices.specs.Texts.{
   file_of as file_for,
+  hint_line,
   limit_line,
   limit_text as text_of_limit,
   notice_line,
   notices_text as text_of,
+  place_text,
   report_text as text_of_report,
 };
 ghost use Rattle.mistake_notices.specs.Values.{name_of, names_value, notice_value, report_value};
@@ -28,6 +30,7 @@ pub fn report_text(
 {
     let mut out = String::new(alloc);
     push_notices(&mut out, names, &report.notices)?;
+    push_hints(&mut out, names, &report.hints)?;
     push_limit(&mut out, report.limit)?;
     Ok(out)
 }
@@ -58,6 +61,17 @@ fn push_each(out: &mut String, names: &FileNames<'_>, notices: &[Notice]) -> Res
     Ok(())
 }
 
+/// Appends a line for each hint.
+fn push_hints(out: &mut String, names: &FileNames<'_>, hints: &[Notice]) -> Result<(), AllocError>
+    ensures { OnOk result (string_bytes out.new ≡ string_bytes out.old
+        ++ flat_map (hint_line (names_value names.now)) (map notice_value hints.now)) }
+{
+    for hint in hints {
+        push_hint(out, names, hint)?;
+    }
+    Ok(())
+}
+
 /// Appends that some mistakes were not looked for, since a limit is passed.
 fn push_limit(out: &mut String, limit: Option<LimitName>) -> Result<(), AllocError>
     ensures { OnOk result (string_bytes out.new ≡ string_bytes out.old
@@ -75,7 +89,8 @@ fn push_limit_line(out: &mut String, name: &str) -> Result<(), AllocError>
 {
     out.push_str("limit ")?;
     out.push_str(name)?;
-    out.push('\n')
+    out.push_str(": not grounded, so preconditions and the goal were not looked at")?;
+    out.push_str("\n")
 }
 
 /// Appends the line of a mistake.
@@ -83,14 +98,33 @@ fn push_notice(out: &mut String, names: &FileNames<'_>, notice: &Notice) -> Resu
     ensures { OnOk result (string_bytes out.new ≡ string_bytes out.old
         ++ notice_line (names_value names.now) (notice_value notice.now)) }
 {
+    push_place(out, names, notice)?;
+    out.push_str(&notice.message)?;
+    out.push_str("\n")
+}
+
+/// Appends the line of a hint.
+fn push_hint(out: &mut String, names: &FileNames<'_>, hint: &Notice) -> Result<(), AllocError>
+    ensures { OnOk result (string_bytes out.new ≡ string_bytes out.old
+        ++ hint_line (names_value names.now) (notice_value hint.now)) }
+{
+    push_place(out, names, hint)?;
+    out.push_str("hint: ")?;
+    out.push_str(&hint.message)?;
+    out.push_str("\n")
+}
+
+/// Appends the file and the place.
+fn push_place(out: &mut String, names: &FileNames<'_>, notice: &Notice) -> Result<(), AllocError>
+    ensures { OnOk result (string_bytes out.new ≡ string_bytes out.old
+        ++ place_text (names_value names.now) (notice_value notice.now)) }
+{
     out.push_str(file_of(names, notice))?;
     out.push_str(":")?;
     push_number(out, notice.place.line)?;
     out.push_str(":")?;
     push_number(out, notice.place.column)?;
-    out.push_str(": ")?;
-    out.push_str(&notice.message)?;
-    out.push_str("\n")
+    out.push_str(": ")
 }
 
 /// The name of the file in which a mistake is.

@@ -1,3 +1,6 @@
+mod Added
 mod AfterReading
 mod Answers
+mod Kept
+mod Reports
 mod Said

@@ -1,12 +1,16 @@
 //! What is found in two files, and how it is shown.
 
 ghost use Rattle.command_base.specs.Answers.{no_memory, refused};
+ghost use Rattle.command_base.specs.Grounding.{limit_name};
 ghost use Rattle.command_base.specs.Values.{answer_of, shown_of};
+ghost use Rattle.ground_task.specs.Limits.{limit_of};
 ghost use Rattle.likely_mistakes.specs.Mistakes.{AreMistakes};
-ghost use Rattle.mistake_notices.specs.Values.{notice_value, report_value};
+ghost use Rattle.mistake_notices.specs.Values.{name_of, notice_value, report_value};
+ghost use Rattle.mistakes_command.specs.Limited.{IsLimitedBy};
 ghost use Rattle.mistakes_command.specs.Mistakes.{
   AreNotices,
   IsReport,
+  IsTaskReport,
   ShowsMistakes,
   answer_as,
   notices_of,
@@ -14,14 +18,37 @@ ghost use Rattle.mistakes_command.specs.Mistakes.{
 };
 ghost use Rattle.mistakes_command.specs.ReadValues.{spelled_by};
 ghost use Rattle.mistakes_command.specs.Values.{mistakes_words_of};
-ghost use Rattle.std.specs.Prelude.{◌≡◌, ◌≤◌, ◌⊎◌, [], IfOk, MatchBool, length, map};
+ghost use Rattle.pddl_ast.specs.Fits.{FitsDomain, FitsProblem};
+ghost use Rattle.pddl_ast.specs.Values.{domain_value, problem_value};
+ghost use Rattle.pddl_system.specs.Names.{NamesAreWords};
+ghost use Rattle.pddl_system.specs.Sizes.{first_passed};
+ghost use Rattle.pddl_system.specs.Tasks.{task_of};
+ghost use Rattle.pddl_system.specs.Values.{task_value};
+ghost use Rattle.std.specs.Option.{option_map};
+ghost use Rattle.std.specs.Prelude.{
+  ◌≡◌,
+  ◌≤◌,
+  ◌⊎◌,
+  [],
+  IfOk,
+  MatchBool,
+  None,
+  Some,
+  length,
+  map,
+};
 
 use crate::files::ReadTexts;
+use crate::in_task::add_task_notices;
 use crate::words::MistakesWords;
 use command_base::{Refusal, Shown, Text};
+use ground_task::{GroundErr, ground};
 use likely_mistakes::{Files, Mistakes, find_mistakes};
-use mistake_notices::{Notice, Report, Source, add_notices, report_document, report_text};
+use mistake_notices::{
+    LimitName, Notice, Report, Source, add_notices, report_document, report_text,
+};
 use std::alloc::{AllocError, Global};
+use task_core::Task;
 
 /// What is found in two files.
 pub(crate) fn shown(
@@ -31,6 +58,11 @@ pub(crate) fn shown(
 ) -> Result<Shown, Refusal>
     requires domain_text { length read.now.file.text.items ≤ 1048576 }
     requires problem_text { length read.now.problem_text.items ≤ 1048576 }
+    requires fits_domain { FitsDomain (domain_value read.now.file.domain) }
+    requires fits_problem { FitsProblem (domain_value read.now.file.domain)
+        (problem_value read.now.problem) }
+    requires names { NamesAreWords (domain_value read.now.file.domain)
+        (problem_value read.now.problem) }
     ensures { (answer_of result ≡ refused no_memory)
         ⊎ ShowsMistakes (mistakes_words_of asked.now) (spelled_by read.now) (answer_of result) }
 {
@@ -77,13 +109,88 @@ fn text_for(
 fn report_of(alloc: Global, read: &ReadTexts) -> Result<Report, AllocError>
     requires domain_text { length read.now.file.text.items ≤ 1048576 }
     requires problem_text { length read.now.problem_text.items ≤ 1048576 }
+    requires fits_domain { FitsDomain (domain_value read.now.file.domain) }
+    requires fits_problem { FitsProblem (domain_value read.now.file.domain)
+        (problem_value read.now.problem) }
+    requires names { NamesAreWords (domain_value read.now.file.domain)
+        (problem_value read.now.problem) }
     ensures { IfOk result (λ report. IsReport (spelled_by read.now) (report_value report)) }
 {
     let notices = notices_in(alloc, read)?;
+    match ground(alloc, &read.file.domain, &read.problem) {
+        Ok(grounded) => task_report(alloc, read, &grounded.task, notices),
+        Err(error) => limited_report(alloc, notices, error),
+    }
+}
+
+/// All that is told of two files with this task, where these are the mistakes in the texts.
+fn task_report(
+    alloc: Global,
+    read: &ReadTexts,
+    task: &Task,
+    notices: Vec<Notice>,
+) -> Result<Report, AllocError>
+    requires domain_text { length read.now.file.text.items ≤ 1048576 }
+    requires problem_text { length read.now.problem_text.items ≤ 1048576 }
+    requires fits_domain { FitsDomain (domain_value read.now.file.domain) }
+    requires fits_problem { FitsProblem (domain_value read.now.file.domain)
+        (problem_value read.now.problem) }
+    requires within { first_passed (domain_value read.now.file.domain)
+        (problem_value read.now.problem) ≡ None }
+    requires task { task_value task.now
+        ≡ task_of (domain_value read.now.file.domain) (problem_value read.now.problem) }
+    requires notices { AreNotices (spelled_by read.now) (map notice_value notices.items) }
+    ensures { IfOk result
+        (λ report. IsTaskReport (spelled_by read.now) (report_value report)) }
+{
+    let mut notices = notices;
+    add_task_notices(alloc, read, task, &mut notices)?;
     Ok(Report {
         notices,
+        hints: Vec::new(alloc),
         limit: None,
     })
+}
+
+/// All that is told of two files where grounding ended so, and these are the mistakes in the texts.
+fn limited_report(
+    alloc: Global,
+    notices: Vec<Notice>,
+    error: GroundErr,
+) -> Result<Report, AllocError>
+    ensures { IfOk result (λ report. IsLimitedBy error (map notice_value notices.items)
+        (report_value report)) }
+{
+    let Some(limit) = passed_limit(error) else {
+        return Err(AllocError);
+    };
+    Ok(Report {
+        notices,
+        hints: Vec::new(alloc),
+        limit: Some(limit),
+    })
+}
+
+/// The limit that is passed where grounding ended so; `None` where memory ran out.
+fn passed_limit(error: GroundErr) -> Option<LimitName>
+    ensures { option_map name_of result ≡ option_map limit_name (limit_of error) }
+{
+    match error {
+        GroundErr::Objects => named("objects"),
+        GroundErr::Size => named("size"),
+        GroundErr::Instances => named("instances"),
+        GroundErr::Actions => named("actions"),
+        GroundErr::Outcomes => named("outcomes"),
+        GroundErr::Fluents => named("fluents"),
+        GroundErr::Memory => None,
+    }
+}
+
+/// The limit of this name.
+fn named(name: &'static str) -> Option<LimitName>
+    ensures { option_map name_of result ≡ Some name.now }
+{
+    Some(LimitName { name })
 }
 
 /// What is told of the mistakes in two files.

@@ -7,6 +7,7 @@
 mod commands;
 mod files;
 mod found;
+mod in_task;
 mod top;
 mod words;
 

@@ -29,3 +29,12 @@ shown-requires-clause-domain_text g c = c.in_ok-read.ensures.texts.domain_file.s
 
 pub shown-requires-clause-problem_text : goal.shown-requires-clause-problem_text
 shown-requires-clause-problem_text g c = c.in_ok-read.ensures.texts.problem_file.short
+
+pub shown-requires-clause-fits_domain : goal.shown-requires-clause-fits_domain
+shown-requires-clause-fits_domain g c = c.in_ok-read.ensures.fits_domain
+
+pub shown-requires-clause-fits_problem : goal.shown-requires-clause-fits_problem
+shown-requires-clause-fits_problem g c = c.in_ok-read.ensures.fits_problem
+
+pub shown-requires-clause-names : goal.shown-requires-clause-names
+shown-requires-clause-names g c = c.in_ok-read.ensures.names

@@ -1,0 +1,3 @@
+mod FormulaParts
+mod Reached
+mod TaskGoals

@@ -1,0 +1,4 @@
+pub mod Causes
+pub mod Goals
+pub mod NeverRuns
+pub mod Parts

@@ -1,0 +1,55 @@
+//! Parts of a condition by their numbers.
+
+ghost use Rattle.never_executed.specs.Parts.{IsFalseAt, IsFalsePart};
+ghost use Rattle.never_reasons.specs.Blocked.{conjuncts};
+ghost use Rattle.relaxed_reach.specs.Literals.{can_be as can_have, has};
+ghost use Rattle.std.specs.List.{list_all};
+ghost use Rattle.std.specs.Prelude.{◌≡◌, ◌∷◌, [], IfNone, IfSome, IsTrue, false, true};
+ghost use Rattle.task_core.specs.Conditions.{ids_below};
+
+use relaxed_reach::{Literals, can_be};
+use task_core::Cond;
+
+/// Whether the part of a condition with this number can't hold where just these literals can be true. A
+/// conjunction has its parts, any other condition itself as its part 0.
+pub(crate) fn is_false_part(cond: &Cond, part: usize, literals: &Literals) -> bool
+    requires { IsTrue (ids_below 256 cond.now) }
+    ensures { IsTrue result → IsFalsePart (has literals.now) part cond.now }
+{
+    match parts_of(cond) {
+        Some(parts) => is_false_at(parts, part, literals),
+        None => is_false_alone(cond, part, literals),
+    }
+}
+
+/// The parts of a conjunction.
+fn parts_of(cond: &Cond) -> Option<&[Cond]>
+    ensures some { IfSome result (λ parts. parts.now ≡ conjuncts cond.now) }
+    ensures none { IfNone result (cond.now ∷ [] ≡ conjuncts cond.now) }
+    ensures below { IfSome result (λ parts. IsTrue (ids_below 256 cond.now)
+        → list_all (ids_below 256) parts.now ≡ true) }
+{
+    match cond {
+        Cond::All(parts) => Some(parts),
+        _ => None,
+    }
+}
+
+/// Whether the condition at this place can't hold.
+fn is_false_at(parts: &[Cond], part: usize, literals: &Literals) -> bool
+    requires { list_all (ids_below 256) parts.now ≡ true }
+    ensures { IsTrue result → IsFalseAt (has literals.now) part parts.now }
+{
+    match parts.get(part) {
+        Some(cond) => !can_be(cond, true, literals),
+        None => false,
+    }
+}
+
+/// Whether the condition can't hold, and the number is 0.
+fn is_false_alone(cond: &Cond, part: usize, literals: &Literals) -> bool
+    requires { IsTrue (ids_below 256 cond.now) }
+    ensures { IsTrue result → IsFalseAt (has literals.now) part (cond.now ∷ []) }
+{
+    part == 0 && !can_be(cond, true, literals)
+}
