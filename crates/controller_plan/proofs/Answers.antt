@@ -11,6 +11,10 @@ use Rattle.command_base.specs.Fetching.{FetchesBoth, HoldsDomain}
 use Rattle.command_base.specs.Grounding.{has_goal_for}
 use Rattle.command_base.specs.PddlTexts.{HoldBoth, ReadBoth}
 use Rattle.plan_command.specs.PlanCommand.{MayBeTooFew, PlanThen}
+use Rattle.plan_command.specs.Plannings.{planned_answer, shown_planned}
+use Rattle.plan_command.specs.declared.planned.Planned.{Planned}
+use Rattle.plan_command.specs.declared.planned.Planned.TheVariants.{Missing, Plan}
+use Rattle.task_core.specs.declared.tasks.Task.{Task}
 use Rattle.command_base.specs.Values.{answer_of, refusal_of, shown_of}
 use Rattle.command_base.specs.Words.{Bytes}
 use Rattle.command_base.specs.declared.answers.Refusal.{Refusal as CodeRefusal}
@@ -97,21 +101,33 @@ pub memory_then : (asked : ControlWords) (d : DomainTree) (p : ProblemTree) (r :
 memory_then asked d p (Ok found) is = tt
 memory_then asked d p (Err refusal) is = inl is
 
--- the plan that `plan` finds, where it affirms
-pub plan_found : (asked : ControlWords) (d : DomainTree) (p : ProblemTree) (text : Bytes) (found : Answer) → found ≡ affirmed text
-    → (found ≡ refused no_memory) ⊎ (MayBeTooFew asked.plan d p × (found ≡ refused (full asked.plan.options.nodes))) ⊎ PlanThen asked.plan d p found
-    → PlanThen asked.plan d p (affirmed text)
-plan_found asked d p text found is (inl memory) = absurd (refused_affirms_nothing _ text (sym memory ∙ is))
-plan_found asked d p text found is (inr (inl (few, full_is))) = absurd (refused_affirms_nothing _ text (sym full_is ∙ is))
-plan_found asked d p text found is (inr (inr then)) = subst (λ (x : Answer). PlanThen asked.plan d p x) is then
+-- what `plan` finds is no refusal
+pub planned_then : (asked : ControlWords) (d : DomainTree) (p : ProblemTree) (t : Task) (found : Result Planned CodeRefusal) (planned : Planned) → found ≡ Ok planned
+    → (planned_answer t found ≡ refused no_memory) ⊎ (MayBeTooFew asked.plan d p × (planned_answer t found ≡ refused (full asked.plan.options.nodes))) ⊎ PlanThen asked.plan d p (planned_answer t found)
+    → PlanThen asked.plan d p (shown_planned t planned)
+planned_then asked d p t found planned is answered = go planned (subst (λ (r : Result Planned CodeRefusal). (planned_answer t r ≡ refused no_memory) ⊎ (MayBeTooFew asked.plan d p × (planned_answer t r ≡ refused (full asked.plan.options.nodes))) ⊎ PlanThen asked.plan d p (planned_answer t r)) is answered)
+  where
+    go : (planned : Planned) → (shown_planned t planned ≡ refused no_memory) ⊎ (MayBeTooFew asked.plan d p × (shown_planned t planned ≡ refused (full asked.plan.options.nodes))) ⊎ PlanThen asked.plan d p (shown_planned t planned)
+        → PlanThen asked.plan d p (shown_planned t planned)
+    go (Plan plan) (inl memory) = absurd (cc memory)
+    go (Plan plan) (inr (inl (few, is_full))) = absurd (cc is_full)
+    go (Plan plan) (inr (inr then)) = then
+    go (Missing text) (inl memory) = absurd (cc memory)
+    go (Missing text) (inr (inl (few, is_full))) = absurd (cc is_full)
+    go (Missing text) (inr (inr then)) = then
 
--- its answer where it doesn't
-pub plan_answer : (asked : ControlWords) (d : DomainTree) (p : ProblemTree) (found a : Answer) → a ≡ found → AffirmsNothing found
-    → (found ≡ refused no_memory) ⊎ (MayBeTooFew asked.plan d p × (found ≡ refused (full asked.plan.options.nodes))) ⊎ PlanThen asked.plan d p found
-    → (a ≡ refused no_memory) ⊎ (MayBeTooFew asked.plan d p × (a ≡ refused (full asked.plan.options.nodes))) ⊎ ControlThen asked d p a
-plan_answer asked d p found a same none why =
-    subst (λ (x : Answer). (x ≡ refused no_memory) ⊎ (MayBeTooFew asked.plan d p × (x ≡ refused (full asked.plan.options.nodes))) ⊎ ControlThen asked d p x) (sym same)
-    (of_plan asked d p found none why)
+-- a refusal of `plan` is the answer
+pub refusal_then : (asked : ControlWords) (d : DomainTree) (p : ProblemTree) (t : Task) (found : Result Planned CodeRefusal) (refusal : CodeRefusal) → found ≡ Err refusal
+    → (planned_answer t found ≡ refused no_memory) ⊎ (MayBeTooFew asked.plan d p × (planned_answer t found ≡ refused (full asked.plan.options.nodes))) ⊎ PlanThen asked.plan d p (planned_answer t found)
+    → (refused (refusal_of refusal) ≡ refused no_memory) ⊎ (MayBeTooFew asked.plan d p × (refused (refusal_of refusal) ≡ refused (full asked.plan.options.nodes))) ⊎ ControlThen asked d p (refused (refusal_of refusal))
+refusal_then asked d p t found refusal is answered =
+    of_plan asked d p (refused (refusal_of refusal)) (refused_affirms_nothing (refusal_of refusal))
+    (subst (λ (r : Result Planned CodeRefusal). (planned_answer t r ≡ refused no_memory) ⊎ (MayBeTooFew asked.plan d p × (planned_answer t r ≡ refused (full asked.plan.options.nodes))) ⊎ PlanThen asked.plan d p (planned_answer t r)) is answered)
+
+-- that there is no plan is the answer
+pub denial_then : (asked : ControlWords) (d : DomainTree) (p : ProblemTree) (text : Bytes) → PlanThen asked.plan d p (denied text)
+    → (denied text ≡ refused no_memory) ⊎ (MayBeTooFew asked.plan d p × (denied text ≡ refused (full asked.plan.options.nodes))) ⊎ ControlThen asked d p (denied text)
+denial_then asked d p text then = of_plan asked d p (denied text) (denied_affirms_nothing text) (inr (inr then))
 
 -- what was found for the words, and what was given for it
 pub has_controlled : {S : Type 0} (held : S → Bytes → Held) (faults : S → ℕ) (fetched : S → Bytes → S → Type 0) (run : ControlRun S) (found given : Answer) (help : Bytes)

@@ -114,35 +114,6 @@ module _ (d : DomainTree) (p : ProblemTree) where
         subst (λ (ns : List Name). SpellsPlain fluents actions (text_of (fluent_names d p) ns plan) plan) (same_actions d p task of.task_is)
         (subst (λ (ns : List Name). SpellsPlain fluents actions (text_of ns actions plan) plan) (same_fluents d p task of.task_is) (spells_printed plan within))
 
-    -- the text that is found spells a plan
-    module _ (text : Bytes) where
-      spelled_back : (plan : PlainPlan) → SpellsPlain (fluent_names d p) (action_names d p) text plan → SpellsPlain fluents actions text plan
-      spelled_back plan spelled =
-          subst (λ (ns : List Name). SpellsPlain ns actions text plan) (sym (same_fluents d p task of.task_is))
-          (subst (λ (ns : List Name). SpellsPlain (fluent_names d p) ns text plan) (sym (same_actions d p task of.task_is)) spelled)
-
-      good_spells : (kind : PlanKind) → IsPlanFound kind d p (affirmed text) → (plan : PlainPlan) × SpellsPlain fluents actions text plan
-      good_spells kind found =
-          let same : found.text ≡ text = same_text found.text text (sym found.shown) in
-          (found.good.plan, spelled_back found.good.plan (subst (λ (bytes : Bytes). SpellsPlain (fluent_names d p) (action_names d p) bytes found.good.plan) same found.good.spelled))
-        where
-          same_text : (a b : Bytes) → affirmed a ≡ affirmed b → a ≡ b
-          same_text a b e = cc
-
-      initial_spells : (certified : Bool) (kind : PlanKind) (name : Bytes) → IsResultFrom certified kind name d p (affirmed text) → (plan : PlainPlan) × SpellsPlain fluents actions text plan
-      initial_spells certified kind name (inl (none, is)) = absurd (cc is)
-      initial_spells certified kind name (inr (begins, inl found)) = good_spells kind found
-      initial_spells certified kind name (inr (begins, inr missing)) = absurd (let is = missing.shown in cc is)
-
-      result_spells : (certified : Bool) (kind : PlanKind) (name : Bytes) → IsResultOf certified kind name d p (affirmed text) → (plan : PlainPlan) × SpellsPlain fluents actions text plan
-      result_spells certified (of_class class) name result = initial_spells certified (of_class class) name result
-      result_spells certified with_contexts name (inl (none, is)) = absurd (cc is)
-      result_spells certified with_contexts name (inr (goal, there, inl (many, is))) = absurd (cc is)
-      result_spells certified with_contexts name (inr (goal, there, inr (few, result))) = initial_spells certified with_contexts name result
-
-      pub found_spells : (asked : PlanWords) → PlanThen asked d p (affirmed text) → (plan : PlainPlan) × SpellsPlain fluents actions text plan
-      found_spells asked result = result_spells asked.certified asked.kind asked.problem result
-
     module _ (text : Bytes) (plan : PlainPlan) (spelled : SpellsPlain fluents actions text plan) where
       -- what a text of such a plan spells is that plan
       as_printed : (other : PlainPlan) → text ≡ text_of (fluent_names d p) (action_names d p) other → IsPlainPlanOf sys.fluents sys.actions other × IsApartPlan sys other

@@ -1,6 +1,6 @@
 -- The plan that `plan` finds is a controller: with those of its rules that serve, or, where what it reaches
 -- is too much to be listed, with all of them.
-use Rattle.std.proofs.Common.{◌≡◌, ◌↔◌, ◌≤◌, ℕ, true, List, [], arith, Some, inl, inr, length, refl, sym, ap, ◌∙◌, subst}
+use Rattle.std.proofs.Common.{◌≡◌, ◌↔◌, ◌≤◌, ◌<◌, ℕ, true, List, [], arith, Some, inl, inr, length, refl, sym, ap, ◌∙◌, subst}
 use Rattle.std.specs.Prelude.{IfNone, IfSome, IsTrue, None, Option}
 use Rattle.std.specs.List.{All, Contains}
 use Rattle.std.proofs.lemmas.List.Elements.{All-contains}
@@ -51,6 +51,8 @@ use Rattle.command_base.specs.Answers.{over_limit}
 use Rattle.command_base.specs.Reading.{file_limit}
 use Rattle.command_base.proofs.TaskNames.{same_actions, same_fluents}
 use Rattle.plan_rules.specs.Texts.{text_of}
+use Rattle.plan_rules.proofs.Spelled.{task_spells}
+use Rattle.controller_rules.specs.Texts.{controller_text}
 use Rattle.pddl_system.specs.Systems.{action_names, fluent_names}
 use Rattle.task_core.specs.Names.{Name}
 use Rattle.task_core.specs.Tasks.{action_names as names_of_actions, fluent_names as names_of_fluents}
@@ -65,11 +67,11 @@ use Rattle.controller_words.specs.Values.{control_words_of}
 use Rattle.controller_words.specs.Words.{ControlWords}
 use Rattle.controller_plan.specs.Controllers.{HasNoIdleRule, IsController, IsTooMuchToList}
 use Rattle.controller_plan.specs.Judged.{IsGuardedOver, IsTextRefusal, IsTextShown, IsTooLarge}
-use Rattle.controller_plan.specs.Sought.{IsControllerFor, IsFoundFor, IsReady, IsRefusedFor, IsShownFor, IsTextFound, wanted_for}
+use Rattle.controller_plan.specs.Sought.{IsControllerFor, IsFoundFor, IsReady, IsRefusedFor, IsShownFor, IsTextFound, text_found, wanted_for}
 use Rattle.controller_plan.specs.declared.made.Wanted.{Wanted}
 use Rattle.controller_plan.specs.declared.sought.Found.{Found}
 use Rattle.controller_plan.specs.declared.sought.Sought.{Sought}
-use Rattle.controller_plan.proofs.FoundPlans.{IsApartFound, found_is_apart, found_spells}
+use Rattle.controller_plan.proofs.FoundPlans.{IsApartFound, found_is_apart}
 use Rattle.controller_plan.proofs.Limits.{large_plan, no_graph, too_much}
 use Rattle.controller_plan.proofs.Yes.{runs, short_refusal, text_controller}
 
@@ -187,10 +189,35 @@ pub none_holds : {X Fact : Type 0} (o : Option X) → o ≡ None → IfNone o Fa
 none_holds None is fact = fact
 none_holds (Some x) is fact = absurd (cc is)
 
--- the text that `plan` finds spells a plan of the task
-pub text_spells : (s : Sought) (text : Bytes) → IsReady s → IsTextFound s text → (plan : PlainPlan) × SpellsPlain (names_of_fluents s.grounded.now.task) (names_of_actions s.grounded.now.task) text plan
-text_spells s text ready found =
-    found_spells (domain_value s.domain.now) (problem_value s.problem.now) s.grounded.now.task ready.grounded.of_task text (control_words_of s.asked.now).plan found
+-- a plan that `plan` finds, over the task
+module _ (s : Sought) (ready : IsReady s) (found : Plan) (in_task : IsPlanOf (fluent_count s.grounded.now.task) (action_count s.grounded.now.task) found) (by_plan : IsTextFound s (text_found s found)) where
+  abbrev text_written : Bytes
+  text_written = controller_text (names_of_fluents s.grounded.now.task) (names_of_actions s.grounded.now.task) (plain_of found) []
+
+  same_text : text_written ≡ text_found s found
+  same_text = no_notes (names_of_fluents s.grounded.now.task) (names_of_actions s.grounded.now.task) (plain_of found)
+
+  -- it is told in full
+  pub planned_told : IsToldInFull (plain_of found)
+  planned_told =
+      (found_is_apart (domain_value s.domain.now) (problem_value s.problem.now) s.grounded.now.task ready.grounded.of_task (text_found s found) (plain_of found) (task_spells s.grounded.now.task found in_task)
+      (control_words_of s.asked.now).plan by_plan).apart.told
+
+  -- its text is too long
+  pub planned_long : (n : ℕ) → n < length text_written → n < length (text_found s found)
+  planned_long n long = subst (λ (bytes : Bytes). n < length bytes) same_text long
+
+  -- or it is no longer than a plan's file may be
+  pub planned_found : (f : Found) → f.plan.now ≡ found → (f.text.now ≡ text_written) × (length text_written ≤ file_limit) → IsFoundFor s f
+  planned_found f same (written, short) =
+      let text : f.text.now ≡ text_found s found = written ∙ same_text in
+      record {
+        by_plan = subst (λ (bytes : Bytes). IsTextFound s bytes) (sym text) by_plan;
+        short = subst (λ (bytes : Bytes). length bytes ≤ file_limit) (sym written) short;
+        spelled = subst (λ (bytes : Bytes). SpellsPlain (names_of_fluents s.grounded.now.task) (names_of_actions s.grounded.now.task) bytes (plain_of f.plan.now)) (sym text)
+            (subst (λ (p : Plan). SpellsPlain (names_of_fluents s.grounded.now.task) (names_of_actions s.grounded.now.task) (text_found s found) (plain_of p)) (sym same) (task_spells s.grounded.now.task found in_task));
+        in_task = subst (λ (p : Plan). IsPlanOf (fluent_count s.grounded.now.task) (action_count s.grounded.now.task) p) (sym same) in_task;
+      }
 
 -- what is known of a plan that `plan` finds for what is looked for
 module _ (s : Sought) (ready : IsReady s) (f : Found) (found : IsFoundFor s f) where

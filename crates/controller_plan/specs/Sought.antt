@@ -2,7 +2,7 @@
 use Rattle.std.specs.Prelude.{◌≡◌, ◌≤◌, ◌⊎◌, [], length, true}
 use Rattle.pddl_ast.specs.Trees.{DomainTree, ProblemTree}
 use Rattle.pddl_ast.specs.Values.{domain_value, problem_value}
-use Rattle.plan_rules.specs.Plans.{IsPlanOf}
+use Rattle.plan_rules.specs.Plans.{IsPlanOf, plan_text}
 use Rattle.plan_rules.specs.Readings.{SpellsPlain}
 use Rattle.plan_rules.specs.Rules.{PlainPlan, plain_of}
 use Rattle.task_core.specs.Tasks.{action_count, action_names, fluent_count, fluent_names}
@@ -41,10 +41,19 @@ HoldsFor sought Property =
     Property (control_words_of sought.asked.now) (domain_value sought.domain.now)
     (problem_value sought.problem.now)
 
+-- `plan` finds what this answer shows
+abbrev pub IsAnswerFound : Sought → Answer → Type 0
+IsAnswerFound sought answer =
+    HoldsFor sought (λ asked domain problem. PlanThen asked.plan domain problem answer)
+
 -- `plan` finds the plan of this text
 abbrev pub IsTextFound : Sought → Bytes → Type 0
-IsTextFound sought text =
-    HoldsFor sought (λ asked domain problem. PlanThen asked.plan domain problem (affirmed text))
+IsTextFound sought text = IsAnswerFound sought (affirmed text)
+
+-- the text of a plan over the names of the task
+abbrev pub text_found : Sought → Plan → Bytes
+text_found sought plan =
+    plan_text (fluent_names sought.grounded.now.task) (action_names sought.grounded.now.task) plan
 
 -- `plan` finds this plan, whose text spells it and is no longer than a plan's file may be
 pub record IsFoundFor (sought : Sought) (found : Found) : Type 0 where

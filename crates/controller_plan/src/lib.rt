@@ -31,7 +31,6 @@ mod made;
 mod own_states;
 mod plan_controllers;
 mod plans;
-mod reach;
 mod refuted;
 mod rules;
 mod search_controllers;

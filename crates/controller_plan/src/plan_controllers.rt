@@ -1,37 +1,40 @@
 //! The controller for the plan that `plan` finds, where no search made one.
 
-ghost use Rattle.command_base.specs.Answers.{affirmed, no_memory};
+ghost use Rattle.command_base.specs.Answers.{no_memory};
 ghost use Rattle.command_base.specs.Reading.{file_limit};
-ghost use Rattle.command_base.specs.Values.{answer_of, bytes_of, limit_of, refusal_of};
-ghost use Rattle.controller_plan.specs.Controllers.{AffirmsNothing};
+ghost use Rattle.command_base.specs.Values.{answer_of, limit_of, refusal_of};
 ghost use Rattle.controller_plan.specs.Judged.{IsTooLarge};
 ghost use Rattle.controller_plan.specs.Sought.{
   FollowsFor,
   IsAnswerFor,
+  IsAnswerFound,
   IsControllerFor,
   IsFoundFor,
   IsReady,
   IsRefusedFor,
   IsShownFor,
   IsTextFound,
+  text_found,
 };
 ghost use Rattle.exec_graph.specs.Graphs.{IsGraphOf};
 ghost use Rattle.exec_graph.specs.Values.{plain_graph};
+ghost use Rattle.plan_command.specs.Plannings.{IsPlannedFor, shown_planned};
+ghost use Rattle.plan_rules.specs.Plans.{IsPlanOf};
 ghost use Rattle.plan_rules.specs.Rules.{plain_of};
 ghost use Rattle.std.specs.Prelude.{◌≡◌, ◌<◌, IfErr, IfOk, IfSome, length};
-ghost use Rattle.task_core.specs.Tasks.{fluent_count, system_of};
+ghost use Rattle.task_core.specs.Tasks.{action_count, fluent_count, system_of};
 
 use crate::made::shown_text;
-use crate::reach::plan_in;
 use crate::search_controllers::{followed_controller, shown_sought, table_controller};
 use crate::searches::{Effort, follow_found};
 use crate::sought::{Found, Sought};
-use command_base::{Limit, PlanKind, Refusal, Shown, Text};
-use controller_rules::serving_part;
+use command_base::{Limit, PlanKind, Refusal, Shown};
+use controller_rules::{serving_part, write_controller};
 use exec_graph::{Graph, GraphErr, explore};
 use guided_plan::shorter_rules;
-use plan_command::plan_grounded;
+use plan_command::{Planned, find_grounded};
 use plan_rules::Plan;
+use sexpr_text::MAX_BYTES;
 use std::alloc::Global;
 
 /// The answer of `plan` where no controller was shown; if it is a plan, what is made of that.
@@ -39,57 +42,55 @@ pub(crate) fn without_controller(alloc: Global, sought: &Sought<'_>) -> Result<S
     requires { IsReady sought.now }
     ensures { IsAnswerFor sought.now (answer_of result) }
 {
-    let found = plan_grounded(
-        alloc,
-        &sought.asked.plan,
-        sought.domain,
-        sought.problem,
-        sought.grounded,
-    );
-    match found_text(found) {
-        Ok(text) => controller_of_text(alloc, sought, text.as_bytes()),
-        Err(other) => other,
+    let asked = &sought.asked.plan;
+    match find_grounded(alloc, asked, sought.domain, sought.problem, sought.grounded) {
+        Ok(planned) => controller_of_planned(alloc, sought, planned),
+        Err(refusal) => Err(refusal),
     }
 }
 
-/// The text of the plan that was found; or the answer, where it is no plan.
-fn found_text(found: Result<Shown, Refusal>) -> Result<Text, Result<Shown, Refusal>>
-    ensures text { IfOk result (λ text. answer_of found ≡ affirmed (bytes_of text)) }
-    ensures other { IfErr result (λ other. (answer_of other ≡ answer_of found)
-        × AffirmsNothing (answer_of found)) }
+/// What is made of what `plan` finds.
+fn controller_of_planned(
+    alloc: Global,
+    sought: &Sought<'_>,
+    planned: Planned,
+) -> Result<Shown, Refusal>
+    requires ready { IsReady sought.now }
+    requires in_task { IsPlannedFor sought.now.grounded.now.task planned }
+    requires found { IsAnswerFound sought.now
+        (shown_planned sought.now.grounded.now.task planned) }
+    ensures { IsAnswerFor sought.now (answer_of result) }
 {
-    match found {
-        Ok(Shown::Affirmed(text)) => Ok(text),
-        Ok(Shown::Denied(text)) => Err(Ok(Shown::Denied(text))),
-        Err(refusal) => Err(Err(refusal)),
+    match planned {
+        Planned::Plan(plan) => controller_of_found(alloc, sought, &plan),
+        Planned::Missing(text) => Ok(Shown::Denied(text)),
     }
 }
 
 /// The controller for the plan that `plan` finds; or where its text is longer than a plan's file may be,
-/// what much work finds, or that limit.
-fn controller_of_text(alloc: Global, sought: &Sought<'_>, text: &[u8]) -> Result<Shown, Refusal>
+/// what much work finds, or that limit. Of a text that is too long not much more than so much is made.
+fn controller_of_found(alloc: Global, sought: &Sought<'_>, plan: &Plan) -> Result<Shown, Refusal>
     requires ready { IsReady sought.now }
-    requires found { IsTextFound sought.now text.now }
+    requires in_task { IsPlanOf (fluent_count sought.now.grounded.now.task)
+        (action_count sought.now.grounded.now.task) plan.now }
+    requires found { IsTextFound sought.now (text_found sought.now plan.now) }
     ensures shown { IfOk result (FollowsFor sought.now) }
     ensures refused { IfErr result (IsRefusedFor sought.now) }
 {
-    match plan_in(alloc, &sought.grounded.task, text)? {
-        Some(read) => {
-            let found = Found {
-                text,
-                plan: &read.plan,
-            };
+    match write_controller(alloc, plan, &[], &sought.grounded.task, MAX_BYTES)? {
+        Some(text) => {
+            let found = Found { text: &text, plan };
             controller_of_plan(alloc, sought, &found)
         }
-        None => at_last(alloc, sought, text),
+        None => at_last(alloc, sought, plan),
     }
 }
 
 /// What much work finds, where the text of the plan that `plan` finds is too long; or that limit.
-fn at_last(alloc: Global, sought: &Sought<'_>, text: &[u8]) -> Result<Shown, Refusal>
+fn at_last(alloc: Global, sought: &Sought<'_>, plan: &Plan) -> Result<Shown, Refusal>
     requires ready { IsReady sought.now }
-    requires found { IsTextFound sought.now text.now }
-    requires long { file_limit < length text.now }
+    requires found { IsTextFound sought.now (text_found sought.now plan.now) }
+    requires long { file_limit < length (text_found sought.now plan.now) }
     ensures shown { IfOk result (FollowsFor sought.now) }
     ensures refused { IfErr result (IsRefusedFor sought.now) }
 {

@@ -5,3 +5,4 @@ pub mod FoundPlans
 pub mod GoalConditions
 pub mod GoalSets
 pub mod PlanCommand
+pub mod Plannings

@@ -2,7 +2,7 @@
 
 ghost use Rattle.command_base.specs.Answers.{full, no_memory, refused};
 ghost use Rattle.command_base.specs.Grounded.{IsGroundedOf, IsTaskOf};
-ghost use Rattle.command_base.specs.Values.{answer_of, kind_of, plan_words_of, shown_of};
+ghost use Rattle.command_base.specs.Values.{kind_of, plan_words_of};
 ghost use Rattle.command_base.specs.Words.{IsNodeLimit, with_contexts};
 ghost use Rattle.ctl_syntax.specs.GoalValues.{GoalIsAtMostDeep, GoalNamesBelow};
 ghost use Rattle.ctl_syntax.specs.Values.{IsAtMostDeep, NamesBelow, ctl_value};
@@ -12,6 +12,7 @@ ghost use Rattle.plan_command.specs.Enough.{IsTightForGoal};
 ghost use Rattle.plan_command.specs.FoundGoals.{IsGoalResult, StandsForGoal};
 ghost use Rattle.plan_command.specs.GoalConditions.{IsGoalOver, sets_of_goal};
 ghost use Rattle.plan_command.specs.PlanCommand.{MayBeTooFew, PlanThen};
+ghost use Rattle.plan_command.specs.Plannings.{IsPlannedFor, planned_answer, shown_planned};
 ghost use Rattle.std.specs.Prelude.{
   ◌≡◌,
   ◌≢◌,
@@ -31,8 +32,9 @@ ghost use Rattle.task_sets.specs.FullTables.{IsTightToEncode};
 
 use crate::context_goals::{most_parts, part_count, part_limit};
 use crate::context_search::search_goal;
-use crate::plan_command::{PlanRequest, text_of_plan};
-use command_base::{Refusal, Shown, Text, goal_in, no_initial};
+use crate::plan_command::PlanRequest;
+use crate::planned::Planned;
+use command_base::{Refusal, Text, goal_in, no_initial};
 use ctl_syntax::{ContextGoal, Ctl, as_context_goal};
 use dd_sets::SetErr;
 use ground_task::Grounded;
@@ -49,19 +51,20 @@ pub(crate) fn plan_contexts(
     alloc: Global,
     request: &PlanRequest<'_>,
     grounded: &Grounded,
-) -> Result<Shown, Refusal>
+) -> Result<Planned, Refusal>
     requires room { IsNodeLimit request.now.asked.now.options.nodes }
     requires kind { kind_of request.now.asked.now.kind ≡ with_contexts }
     requires goal { IsSome grounded.now.ctl }
     requires grounded { IsGroundedOf (domain_value request.now.domain.now)
         (problem_value request.now.problem.now) grounded.now }
-    ensures { let asked = plan_words_of request.now.asked.now in
+    ensures in_task { IfOk result (IsPlannedFor grounded.now.task) }
+    ensures answer { let asked = plan_words_of request.now.asked.now in
         let domain = domain_value request.now.domain.now in
         let problem = problem_value request.now.problem.now in
-        (answer_of result ≡ refused no_memory)
-        ⊎ (MayBeTooFew asked domain problem
-        × (answer_of result ≡ refused (full asked.options.nodes)))
-        ⊎ PlanThen asked domain problem (answer_of result) }
+        let answer = planned_answer grounded.now.task result in
+        (answer ≡ refused no_memory)
+        ⊎ (MayBeTooFew asked domain problem × (answer ≡ refused (full asked.options.nodes)))
+        ⊎ PlanThen asked domain problem answer }
 {
     plan_goal(alloc, request, &grounded.task, goal_in(grounded))
 }
@@ -72,7 +75,7 @@ fn plan_goal(
     request: &PlanRequest<'_>,
     task: &Task,
     goal: &Ctl,
-) -> Result<Shown, Refusal>
+) -> Result<Planned, Refusal>
     requires room { IsNodeLimit request.now.asked.now.options.nodes }
     requires kind { kind_of request.now.asked.now.kind ≡ with_contexts }
     requires task { IsTaskOf (domain_value request.now.domain.now)
@@ -82,13 +85,14 @@ fn plan_goal(
         (problem_value request.now.problem.now) }
     requires names { NamesBelow (fluent_count task.now) (ctl_value goal.now) }
     requires shallow { IsAtMostDeep 199 (ctl_value goal.now) }
-    ensures { let asked = plan_words_of request.now.asked.now in
+    ensures in_task { IfOk result (IsPlannedFor task.now) }
+    ensures answer { let asked = plan_words_of request.now.asked.now in
         let domain = domain_value request.now.domain.now in
         let problem = problem_value request.now.problem.now in
-        (answer_of result ≡ refused no_memory)
-        ⊎ (MayBeTooFew asked domain problem
-        × (answer_of result ≡ refused (full asked.options.nodes)))
-        ⊎ PlanThen asked domain problem (answer_of result) }
+        let answer = planned_answer task.now result in
+        (answer ≡ refused no_memory)
+        ⊎ (MayBeTooFew asked domain problem × (answer ≡ refused (full asked.options.nodes)))
+        ⊎ PlanThen asked domain problem answer }
 {
     // This does nothing: that the goal's sets are those of the problem's formulas rests on what it
     // promises.
@@ -111,7 +115,7 @@ fn plan_parts(
     request: &PlanRequest<'_>,
     task: &Task,
     goal: &ContextGoal,
-) -> Result<Shown, Refusal>
+) -> Result<Planned, Refusal>
     requires room { IsNodeLimit request.now.asked.now.options.nodes }
     requires kind { kind_of request.now.asked.now.kind ≡ with_contexts }
     requires task { IsTaskOf (domain_value request.now.domain.now)
@@ -120,19 +124,20 @@ fn plan_parts(
         (problem_value request.now.problem.now) goal.now }
     requires names { GoalNamesBelow (fluent_count task.now) goal.now }
     requires shallow { GoalIsAtMostDeep 200 goal.now }
-    ensures { let asked = plan_words_of request.now.asked.now in
+    ensures in_task { IfOk result (IsPlannedFor task.now) }
+    ensures answer { let asked = plan_words_of request.now.asked.now in
         let domain = domain_value request.now.domain.now in
         let problem = problem_value request.now.problem.now in
-        (answer_of result ≡ refused no_memory)
-        ⊎ (MayBeTooFew asked domain problem
-        × (answer_of result ≡ refused (full asked.options.nodes)))
-        ⊎ PlanThen asked domain problem (answer_of result) }
+        let answer = planned_answer task.now result in
+        (answer ≡ refused no_memory)
+        ⊎ (MayBeTooFew asked domain problem × (answer ≡ refused (full asked.options.nodes)))
+        ⊎ PlanThen asked domain problem answer }
 {
     if part_count(goal) > most_parts(goal) {
         return Err(Refusal::OverLimit(part_limit(goal)));
     }
     match plan_for_task(alloc, request.asked.options.nodes, task, goal) {
-        Ok(Some(shown)) => Ok(shown),
+        Ok(Some(planned)) => Ok(planned),
         Ok(None) => Err(no_initial(alloc, request.asked.problem, request.problem)?),
         Err(SetErr::Full) => Err(Refusal::Full(request.asked.options.nodes)),
         Err(SetErr::Memory) => Err(Refusal::NoMemory),
@@ -146,23 +151,22 @@ fn plan_for_task(
     nodes: u32,
     task: &Task,
     goal: &ContextGoal,
-) -> Result<Option<Shown>, SetErr>
+) -> Result<Option<Planned>, SetErr>
     requires room { IsNodeLimit nodes }
     requires goal { IsGoalOver (fluent_count task.now) goal.now }
     ensures none { IfOk result (λ found. found ≡ None → initial_states task.now ≡ []) }
     ensures some { IfOk result (λ found. IfSome found (λ _. initial_states task.now ≢ [])) }
     ensures plan { IfOk result (λ found. IfSome found
-        (λ shown. IsGoalResult task.now (sets_of_goal goal.now) (shown_of shown))) }
+        (λ planned. IsGoalResult task.now (sets_of_goal goal.now)
+        (shown_planned task.now planned))) }
+    ensures in_task { IfOk result (λ found. IfSome found (IsPlannedFor task.now)) }
     ensures full { IsErrOf result SetErr.Full → IsTightForGoal goal.now nodes task.now }
     ensures not_begun { IsErrOf result SetErr.Full → initial_states task.now ≡ []
         → IsTightToEncode nodes task.now }
 {
     match search_goal(alloc, nodes, task, goal)? {
-        Some(FoundAuto::Plan(plan)) => {
-            let text = text_of_plan(alloc, &Plan::Auto(plan), task)?;
-            Ok(Some(Shown::Affirmed(text)))
-        }
-        Some(FoundAuto::NoPlan) => Ok(Some(Shown::Denied(Text::Fixed("no plan\n")))),
+        Some(FoundAuto::Plan(plan)) => Ok(Some(Planned::Plan(Plan::Auto(plan)))),
+        Some(FoundAuto::NoPlan) => Ok(Some(Planned::Missing(Text::Fixed("no plan\n")))),
         None => Ok(None),
     }
 }

@@ -10,6 +10,8 @@ mod context_command;
 mod context_goals;
 mod context_search;
 mod plan_command;
+mod planned;
 
 pub use class_search::find_plan;
-pub use plan_command::{plan_files, plan_grounded};
+pub use plan_command::{find_grounded, plan_files, plan_grounded};
+pub use planned::Planned;

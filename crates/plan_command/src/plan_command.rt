@@ -1,10 +1,10 @@
 //! The command `plan`.
 
-ghost use Rattle.command_base.specs.Answers.{full, no_memory, refused};
+ghost use Rattle.command_base.specs.Answers.{affirmed, full, no_memory, refused};
 ghost use Rattle.command_base.specs.Grounded.{IsGroundedOf, IsTaskOf};
 ghost use Rattle.command_base.specs.Grounding.{has_goal_for};
 ghost use Rattle.command_base.specs.Shelves.{KeepsShelf};
-ghost use Rattle.command_base.specs.Values.{answer_of, bytes_of, kind_of, plan_words_of, shown_of};
+ghost use Rattle.command_base.specs.Values.{answer_of, bytes_of, kind_of, plan_words_of};
 ghost use Rattle.command_base.specs.Words.{IsNodeLimit, of_class};
 ghost use Rattle.pddl_ast.specs.Fits.{FitsDomain, FitsProblem};
 ghost use Rattle.pddl_ast.specs.Values.{domain_value, problem_value};
@@ -22,9 +22,9 @@ ghost use Rattle.plan_command.specs.PlanCommand.{
   PlanThen,
   no_plan_text,
 };
+ghost use Rattle.plan_command.specs.Plannings.{IsPlannedFor, planned_answer, shown_planned};
 ghost use Rattle.plan_io.specs.Fetches.{FailedLast};
 ghost use Rattle.plan_rules.specs.Plans.{IsPlanOf, plan_text};
-ghost use Rattle.plan_rules.specs.Readings.{SpellsPlan};
 ghost use Rattle.std.specs.Prelude.{
   ◌≡◌,
   ◌≢◌,
@@ -36,10 +36,10 @@ ghost use Rattle.std.specs.Prelude.{
   IsErrOf,
   IsSome,
   None,
-  length,
   true,
 };
 ghost use Rattle.task_core.specs.Tasks.{
+  action_count,
   action_names,
   fluent_count,
   fluent_names,
@@ -50,6 +50,7 @@ ghost use Rattle.task_sets.specs.FullTables.{IsTightToEncode};
 
 use crate::class_search::{ClassSearch, Sought, search_task};
 use crate::context_command::plan_contexts;
+use crate::planned::Planned;
 use command_base::{
     PlanKind, PlanWords, Refusal, Shown, Text, check_goal, ground_both, no_initial, read_both,
 };
@@ -131,6 +132,32 @@ pub fn plan_grounded(
         ⊎ PlanThen asked (domain_value domain.now) (problem_value problem.now)
         (answer_of result) }
 {
+    match find_grounded(alloc, asked, domain, problem, grounded)? {
+        Planned::Plan(plan) => shown_plan(alloc, &plan, &grounded.task),
+        Planned::Missing(text) => Ok(Shown::Denied(text)),
+    }
+}
+
+/// What `plan_grounded` shows, before the text of a plan is made.
+pub fn find_grounded(
+    alloc: Global,
+    asked: &PlanWords,
+    domain: &Domain,
+    problem: &Problem,
+    grounded: &Grounded,
+) -> Result<Planned, Refusal>
+    requires room { IsNodeLimit asked.now.options.nodes }
+    requires goal { has_goal_for (kind_of asked.now.kind) (problem_value problem.now) ≡ true }
+    requires grounded { IsGroundedOf (domain_value domain.now) (problem_value problem.now)
+        grounded.now }
+    ensures in_task { IfOk result (IsPlannedFor grounded.now.task) }
+    ensures answer { let asked = plan_words_of asked.now in
+        let answer = planned_answer grounded.now.task result in
+        (answer ≡ refused no_memory)
+        ⊎ (MayBeTooFew asked (domain_value domain.now) (problem_value problem.now)
+        × (answer ≡ refused (full asked.options.nodes)))
+        ⊎ PlanThen asked (domain_value domain.now) (problem_value problem.now) answer }
+{
     let request = PlanRequest {
         asked,
         domain,
@@ -148,19 +175,20 @@ fn plan_class(
     request: &PlanRequest<'_>,
     class: Class,
     task: &Task,
-) -> Result<Shown, Refusal>
+) -> Result<Planned, Refusal>
     requires room { IsNodeLimit request.now.asked.now.options.nodes }
     requires class { kind_of request.now.asked.now.kind ≡ of_class class }
     requires goal { has_goal_for (of_class class) (problem_value request.now.problem.now) ≡ true }
     requires task { IsTaskOf (domain_value request.now.domain.now)
         (problem_value request.now.problem.now) task.now }
-    ensures { let asked = plan_words_of request.now.asked.now in
+    ensures in_task { IfOk result (IsPlannedFor task.now) }
+    ensures answer { let asked = plan_words_of request.now.asked.now in
         let domain = domain_value request.now.domain.now in
         let problem = problem_value request.now.problem.now in
-        (answer_of result ≡ refused no_memory)
-        ⊎ (MayBeTooFew asked domain problem
-        × (answer_of result ≡ refused (full asked.options.nodes)))
-        ⊎ PlanThen asked domain problem (answer_of result) }
+        let answer = planned_answer task.now result in
+        (answer ≡ refused no_memory)
+        ⊎ (MayBeTooFew asked domain problem × (answer ≡ refused (full asked.options.nodes)))
+        ⊎ PlanThen asked domain problem answer }
 {
     let wanted = ClassSearch {
         class,
@@ -168,7 +196,7 @@ fn plan_class(
         nodes: request.asked.options.nodes,
     };
     match plan_task(alloc, &wanted, task) {
-        Ok(Some(shown)) => Ok(shown),
+        Ok(Some(planned)) => Ok(planned),
         Ok(None) => Err(no_initial(alloc, request.asked.problem, request.problem)?),
         Err(SetErr::Full) => Err(Refusal::Full(request.asked.options.nodes)),
         Err(SetErr::Memory) => Err(Refusal::NoMemory),
@@ -177,14 +205,19 @@ fn plan_class(
 
 /// The plan for a task, or that there is none, with the certificate of that where it is wanted; or
 /// `None` where there is no initial state.
-fn plan_task(alloc: Global, wanted: &ClassSearch, task: &Task) -> Result<Option<Shown>, SetErr>
+fn plan_task(
+    alloc: Global,
+    wanted: &ClassSearch,
+    task: &Task,
+) -> Result<Option<Planned>, SetErr>
     requires room { IsNodeLimit wanted.now.nodes }
     requires goal { IsSome task.now.goal }
     ensures none { IfOk result (λ found. found ≡ None → initial_states task.now ≡ []) }
     ensures some { IfOk result (λ found. IfSome found (λ _. initial_states task.now ≢ [])) }
+    ensures in_task { IfOk result (λ found. IfSome found (IsPlannedFor task.now)) }
     ensures plan { IfOk result (λ found. IfSome found
-        (λ shown. IsTableResult wanted.now.certified wanted.now.class (system_of task.now)
-        (fluent_names task.now) (action_names task.now) (shown_of shown))) }
+        (λ planned. IsTableResult wanted.now.certified wanted.now.class (system_of task.now)
+        (fluent_names task.now) (action_names task.now) (shown_planned task.now planned))) }
     ensures full { IsErrOf result SetErr.Full
         → IsTightForClass wanted.now.class wanted.now.nodes task.now }
     ensures not_begun { IsErrOf result SetErr.Full → initial_states task.now ≡ []
@@ -193,14 +226,11 @@ fn plan_task(alloc: Global, wanted: &ClassSearch, task: &Task) -> Result<Option<
     // This does nothing: that the rules can be followed rests on what it promises.
     tasks_have_systems(task);
     match search_task(alloc, wanted, task)? {
-        Some(Sought::Table(table)) => {
-            let text = text_of_plan(alloc, &Plan::Table(table), task)?;
-            Ok(Some(Shown::Affirmed(text)))
-        }
-        Some(Sought::Missing) => Ok(Some(Shown::Denied(Text::Fixed("no plan\n")))),
+        Some(Sought::Table(table)) => Ok(Some(Planned::Plan(Plan::Table(table)))),
+        Some(Sought::Missing) => Ok(Some(Planned::Missing(Text::Fixed("no plan\n")))),
         Some(Sought::Certified(certificate)) => {
             let text = certified_text(alloc, &certificate, task)?;
-            Ok(Some(Shown::Denied(text)))
+            Ok(Some(Planned::Missing(text)))
         }
         None => Ok(None),
     }
@@ -221,13 +251,13 @@ fn certified_text(alloc: Global, certificate: &Certificate, task: &Task) -> Resu
     Ok(Text::Made(text))
 }
 
-/// The text of a plan.
-pub(crate) fn text_of_plan(alloc: Global, plan: &Plan, task: &Task) -> Result<Text, AllocError>
-    requires { IsPlanOf (length task.now.fluents.items) (length task.now.actions.items) plan.now }
-    ensures text { IfOk result (λ text. bytes_of text
-        ≡ plan_text (fluent_names task.now) (action_names task.now) plan.now) }
-    ensures spells { IfOk result (λ text.
-        SpellsPlan (fluent_names task.now) (action_names task.now) (bytes_of text) plan.now) }
+/// The text of a plan, shown.
+fn shown_plan(alloc: Global, plan: &Plan, task: &Task) -> Result<Shown, Refusal>
+    requires { IsPlanOf (fluent_count task.now) (action_count task.now) plan.now }
+    ensures { (answer_of result ≡ refused no_memory)
+        ⊎ (answer_of result
+        ≡ affirmed (plan_text (fluent_names task.now) (action_names task.now) plan.now)) }
 {
-    Ok(Text::Made(write_plan(alloc, plan, task)?))
+    let text = write_plan(alloc, plan, task)?;
+    Ok(Shown::Affirmed(Text::Made(text)))
 }

@@ -12,8 +12,8 @@ plan_parts-requires-clause-goal c =
     goal_stands c.grounded_goals_are_true.ensures.truth (domain_value c.args.request.now.domain.now) (problem_value c.args.request.now.problem.now) c.args.goal.now c.in-Some.goal c.requires.goal
     (sym (ap (λ (o : Option ContextGoal). option_map tree_of_goal o) c.in-Some.is) ∙ c.in_ok-goal.ensures.answer)
 
-pub returns-in_ok-from_str-in-None : goal.returns-in_ok-from_str-in-None
-returns-in_ok-from_str-in-None c =
+pub returns-in_ok-from_str-in-None-clause-answer : goal.returns-in_ok-from_str-in-None-clause-answer
+returns-in_ok-from_str-in-None-clause-answer c =
     let domain = domain_value c.args.request.now.domain.now in
     let problem = problem_value c.args.request.now.problem.now in
     let none = no_goal_found domain problem c.args.goal.now c.requires.goal (sym (ap (λ (o : Option ContextGoal). option_map tree_of_goal o) c.in-None.is) ∙ c.in_ok-goal.ensures.answer) in
