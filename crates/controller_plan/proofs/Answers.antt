@@ -1,11 +1,11 @@
 -- From what follows the reading of both files to the answer, and from the answer to a run.
-use Rattle.std.proofs.Common.{◌≡◌, ◌⊎◌, ◌≤◌, ℕ, List, [], inl, inr, sym, subst, ap, ◌∙◌, None, true}
+use Rattle.std.proofs.Common.{◌≡◌, ◌⊎◌, ◌≤◌, ℕ, List, [], inl, inr, sym, subst, ap, None, true}
 use Rattle.std.specs.Prelude.{IfErr, IfOk, IfSome, Option, Result, Ok, Err, Some, ⊤}
 use Rattle.pddl_ast.specs.Trees.{DomainTree, ProblemTree}
 use Rattle.pddl_system.specs.Sizes.{first_passed}
 use Rattle.plan_io.specs.Fetches.{FetchesNothing, MayFetch}
 use Rattle.plan_io.specs.Held.{Held}
-use Rattle.command_base.specs.Answers.{Answer, Refusal, affirmed, denied, full, no_memory, refused}
+use Rattle.command_base.specs.Answers.{Answer, Refusal, denied, full, no_memory, refused}
 use Rattle.command_base.specs.Faults.{IsQuietAt}
 use Rattle.command_base.specs.Fetching.{FetchesBoth, HoldsDomain}
 use Rattle.command_base.specs.Grounding.{has_goal_for}

@@ -1,5 +1,5 @@
 -- The plan that `plan` finds, as it is read back: no two of its rules count in one configuration.
-use Rattle.std.proofs.Common.{◌≡◌, ◌≢◌, ◌+◌, ◌<◌, ◌≤◌, ℕ, suc, Bool, inl, inr, List, [], Option, Some, None, length, map, refl, sym, ap, ◌∙◌, subst, arith}
+use Rattle.std.proofs.Common.{◌≡◌, ◌≢◌, ◌≤◌, ℕ, Bool, inl, inr, List, [], Option, Some, None, length, map, refl, sym, ◌∙◌, subst, arith}
 use Rattle.std.specs.List.{All}
 use Rattle.std.specs.Option.{option_and_then}
 use Rattle.std.proofs.lemmas.List.{length-map}
@@ -8,33 +8,32 @@ use Rattle.pddl_system.specs.CtlGoals.{ctl_tree}
 use Rattle.pddl_system.specs.Systems.{action_names, fluent_names, system}
 use Rattle.pddl_system.proofs.States.{they_have_a_system}
 use Rattle.ctl_syntax.specs.ContextGoals.{PlainGoal, plain_goal, plain_patrol, plain_until}
-use Rattle.task_core.specs.Cubes.{Cube, SetOfVectors}
 use Rattle.task_core.specs.Names.{Name, name_bytes, name_of}
 use Rattle.task_core.specs.Systems.{IsSystem, System}
-use Rattle.task_core.specs.Tasks.{action_count, action_names as names_of_actions, fluent_count, fluent_names as names_of_fluents, system_of}
+use Rattle.task_core.specs.Tasks.{action_count, action_names as names_of_actions, fluent_count, fluent_names as names_of_fluents}
 use Rattle.task_core.specs.declared.classes.Class.{Class}
 use Rattle.task_core.specs.declared.classes.Class.TheVariants.{Weak, Strong, Cyclic}
 use Rattle.task_core.specs.declared.tasks.Task.{Task}
-use Rattle.plan_rules.specs.Plans.{IsAutomatonOf, IsContextOf, IsContextRuleOf, IsPlainPlanOf, IsRuleOf, most_contexts}
+use Rattle.plan_rules.specs.Plans.{IsPlainPlanOf, IsRuleOf}
 use Rattle.plan_rules.specs.Readings.{SpellsPlain}
-use Rattle.plan_rules.specs.Rules.{ContextRule, PlainPlan, PlanRule, automaton, table}
+use Rattle.plan_rules.specs.Rules.{PlainPlan, PlanRule, automaton, table}
 use Rattle.plan_rules.specs.Texts.{text_of}
 use Rattle.plan_rules.proofs.Spelled.{one_plan, printed_spells}
 use Rattle.plan_theory.specs.CyclicPlans.{cyclic_rules}
 use Rattle.plan_theory.specs.LayerPlans.{printed_rules}
 use Rattle.plan_theory.specs.Pairs.{Pairs, restricted}
-use Rattle.plan_theory.specs.UntilChains.{UntilSets, until_contexts}
+use Rattle.plan_theory.specs.UntilChains.{until_contexts}
 use Rattle.plan_theory.proofs.PatrolRules.{patrol_rules_within}
-use Rattle.plan_theory.proofs.PrintedWithin.{CubeIsBelow, printed_within}
+use Rattle.plan_theory.proofs.PrintedWithin.{printed_within}
 use Rattle.plan_theory.proofs.UntilRules.{until_rules_within}
-use Rattle.command_base.specs.Answers.{Answer, affirmed, denied, refused}
+use Rattle.command_base.specs.Answers.{affirmed}
 use Rattle.command_base.specs.Grounded.{IsTaskOf}
 use Rattle.command_base.specs.Words.{Bytes, PlanKind, PlanWords, of_class, with_contexts}
 use Rattle.command_base.proofs.TaskNames.{same_actions, same_fluents}
 use Rattle.plan_command.specs.ContextGoals.{context_goal, most_parts, part_count}
-use Rattle.plan_command.specs.GoalSets.{GoalSets, contexts_for, goal_sets, guarded_stage, of_patrol, of_until, one_holds, rules_for, until_chained}
+use Rattle.plan_command.specs.GoalSets.{contexts_for, goal_sets, guarded_stage, one_holds, rules_for, until_chained}
 use Rattle.plan_theory.specs.PrintedRules.{ArePrintedRules}
-use Rattle.plan_command.specs.PlanCommand.{IsPlanFound, IsPlanResult, IsResultFrom, IsResultOf, IsTextPrinted, IsWrittenFor, PlanThen}
+use Rattle.plan_command.specs.PlanCommand.{IsPlanFound, IsResultFrom, IsResultOf, IsTextPrinted, IsWrittenFor, PlanThen}
 use Rattle.plan_command.proofs.GoalParts.{HasVisit, has_visit}
 use Rattle.plan_meets.specs.Meets.{PlanMeets}
 use Rattle.apart_rules.proofs.ApartPlans.{IsApartPlan, cyclic_plan, patrol_plan, printed_plan, until_plan}

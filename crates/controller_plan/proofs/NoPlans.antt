@@ -1,5 +1,5 @@
 -- Where a certificate is accepted there is no plan, and that is told.
-use Rattle.std.proofs.Common.{◌≡◌, ◌++◌, ◌∙◌, ap, Bool, true, false, List, refl, subst, sym}
+use Rattle.std.proofs.Common.{◌≡◌, ◌++◌, Bool, true, false, List, refl, subst, sym}
 use Rattle.pddl_ast.specs.Trees.{DomainTree, ProblemTree}
 use Rattle.pddl_system.specs.Systems.{fluent_names, system}
 use Rattle.pddl_system.proofs.States.{they_have_a_system}
@@ -9,7 +9,7 @@ use Rattle.task_core.specs.Solutions.{HasNoSolution}
 use Rattle.task_core.specs.Systems.{IsSystem, System}
 use Rattle.task_core.specs.Tasks.{fluent_names as names_of_fluents, system_of}
 use Rattle.task_core.specs.declared.tasks.Task.{Task}
-use Rattle.command_base.specs.Answers.{Answer, denied}
+use Rattle.command_base.specs.Answers.{denied}
 use Rattle.command_base.specs.Grounded.{IsTaskOf}
 use Rattle.command_base.specs.Values.{bytes_of}
 use Rattle.command_base.specs.Words.{PlanKind, of_class}

@@ -1,18 +1,16 @@
 -- The plan that `plan` finds is a controller: with those of its rules that serve, or, where what it reaches
 -- is too much to be listed, with all of them.
-use Rattle.std.proofs.Common.{◌≡◌, ◌↔◌, ◌≤◌, ◌<◌, ℕ, true, List, [], arith, Some, inl, inr, length, refl, sym, ap, ◌∙◌, subst}
-use Rattle.std.specs.Prelude.{IfNone, IfSome, IsTrue, None, Option}
-use Rattle.std.specs.List.{All, Contains}
+use Rattle.std.proofs.Common.{◌≡◌, ◌≤◌, ◌<◌, ℕ, true, List, [], arith, Some, inl, inr, length, refl, sym, ◌∙◌, subst}
+use Rattle.std.specs.Prelude.{IfNone, IfSome, None, Option, Vec}
+use Rattle.std.specs.List.{Contains}
 use Rattle.std.proofs.lemmas.List.Elements.{All-contains}
-use Rattle.pddl_ast.specs.Trees.{DomainTree, ProblemTree, TemporalTree}
+use Rattle.pddl_ast.specs.Trees.{DomainTree, ProblemTree}
 use Rattle.pddl_system.specs.CtlGoals.{FormulaHoldsAt, ctl_tree}
 use Rattle.pddl_system.specs.Fluents.{fluents}
 use Rattle.pddl_system.specs.Settings.{setting}
 use Rattle.pddl_system.specs.Systems.{system}
 use Rattle.pddl_system.proofs.States.{they_have_a_system}
-use Rattle.task_core.specs.ContextPlans.{Configuration, IsInitial}
 use Rattle.task_core.specs.Cubes.{matches}
-use Rattle.task_core.specs.Solutions.{IsReached}
 use Rattle.task_core.specs.Systems.{System, Exec}
 use Rattle.task_core.specs.Tasks.{action_count, fluent_count, system_of}
 use Rattle.task_core.specs.Vectors.{Vector}
@@ -20,23 +18,19 @@ use Rattle.task_core.specs.declared.classes.Class.{Class}
 use Rattle.task_core.specs.declared.tasks.Task.{Task}
 use Rattle.exec_graph.specs.Graphs.{IsGraphOf, PlainGraph}
 use Rattle.exec_graph.proofs.Reaching.{reached_first, reached_state}
-use Rattle.plan_check.specs.ContextVerdicts.{MeetsGoal}
 use Rattle.plan_document.specs.Faithful.{IsToldInFull}
 use Rattle.plan_guide.specs.RunRules.{in_one_context, run_rules}
 use Rattle.plan_meets.specs.Meets.{Meaning, Meets, PlanMeets, contextual}
-use Rattle.plan_meets.specs.TemporalGoals.{HasGoal}
 use Rattle.plan_meets.proofs.Meetings.{contexts_meet, table_meets, table_solves}
-use Rattle.plan_rules.specs.Denoted.{denoted, denoted_contexts}
-use Rattle.plan_rules.specs.Plans.{IsAutomatonOf, IsContextRuleOf, IsCubeOf, IsPlainPlanOf, IsRuleOf}
-use Rattle.plan_rules.specs.Rules.{ContextRule, PlainPlan, PlanRule, automaton, table}
+use Rattle.plan_rules.specs.Denoted.{denoted_contexts}
+use Rattle.plan_rules.specs.Plans.{IsContextRuleOf, IsCubeOf, IsPlainPlanOf, IsRuleOf}
+use Rattle.plan_rules.specs.Rules.{ContextRule, PlainPlan, automaton, table}
 use Rattle.list_laws.proofs.Elements.{Contains-map, Contains-map-witness}
-use Rattle.command_base.specs.Grounded.{IsTaskOf}
 use Rattle.command_base.specs.Words.{PlanKind, of_class, with_contexts}
 use Rattle.plan_command.specs.PlanCommand.{IsWrittenFor}
-use Rattle.controller_rules.specs.AsRun.{HasNoDeadRule, HasOneMove, NamesLastContext}
+use Rattle.controller_rules.specs.AsRun.{HasNoDeadRule, NamesLastContext}
 use Rattle.controller_rules.specs.Guards.{AreGuarded, IsGuardedRule}
-use Rattle.controller_rules.specs.Serving.{IsServingPart, marked, marked_part}
-use Rattle.apart_rules.proofs.ApartCubes.{Each}
+use Rattle.controller_rules.specs.Serving.{IsServingPart, marked_part}
 use Rattle.apart_rules.proofs.ApartPlans.{IsApartPlan, serving_among, serving_is_part, serving_names, serving_told}
 use Rattle.apart_rules.proofs.Guarded.{guarded_rule}
 use Rattle.apart_rules.proofs.PartGoals.{part_complete, part_true}
@@ -52,8 +46,9 @@ use Rattle.command_base.specs.Reading.{file_limit}
 use Rattle.command_base.proofs.TaskNames.{same_actions, same_fluents}
 use Rattle.plan_rules.specs.Texts.{text_of}
 use Rattle.plan_rules.proofs.Spelled.{task_spells}
-use Rattle.controller_rules.specs.Texts.{controller_text}
-use Rattle.pddl_system.specs.Systems.{action_names, fluent_names}
+use Rattle.controller_rules.specs.Texts.{IsTextWithin, controller_text}
+use Rattle.std.specs.declared.alloc.Global.{Global}
+use Rattle.pddl_system.specs.Systems.{fluent_names}
 use Rattle.task_core.specs.Names.{Name}
 use Rattle.task_core.specs.Tasks.{action_names as names_of_actions, fluent_names as names_of_fluents}
 use Rattle.apart_rules.proofs.PartTexts.{no_notes, serving_short}
@@ -204,17 +199,18 @@ module _ (s : Sought) (ready : IsReady s) (found : Plan) (in_task : IsPlanOf (fl
       (control_words_of s.asked.now).plan by_plan).apart.told
 
   -- its text is too long
-  pub planned_long : (n : ℕ) → n < length text_written → n < length (text_found s found)
-  planned_long n long = subst (λ (bytes : Bytes). n < length bytes) same_text long
+  pub planned_long : (o : Option (Vec ℕ Global)) → o ≡ None → IsTextWithin file_limit text_written o → file_limit < length (text_found s found)
+  planned_long o is within = subst (λ (bytes : Bytes). file_limit < length bytes) same_text (subst (IsTextWithin file_limit text_written) is within)
 
   -- or it is no longer than a plan's file may be
-  pub planned_found : (f : Found) → f.plan.now ≡ found → (f.text.now ≡ text_written) × (length text_written ≤ file_limit) → IsFoundFor s f
-  planned_found f same (written, short) =
-      let text : f.text.now ≡ text_found s found = written ∙ same_text in
+  pub planned_found : (f : Found) (o : Option (Vec ℕ Global)) (bytes : Vec ℕ Global) → f.plan.now ≡ found → f.text.now ≡ bytes.items → o ≡ Some bytes → IsTextWithin file_limit text_written o → IsFoundFor s f
+  planned_found f o bytes same read is within =
+      let made : (bytes.items ≡ text_written) × (length text_written ≤ file_limit) = subst (IsTextWithin file_limit text_written) is within in
+      let text : f.text.now ≡ text_found s found = read ∙ (made.0 ∙ same_text) in
       record {
-        by_plan = subst (λ (bytes : Bytes). IsTextFound s bytes) (sym text) by_plan;
-        short = subst (λ (bytes : Bytes). length bytes ≤ file_limit) (sym written) short;
-        spelled = subst (λ (bytes : Bytes). SpellsPlain (names_of_fluents s.grounded.now.task) (names_of_actions s.grounded.now.task) bytes (plain_of f.plan.now)) (sym text)
+        by_plan = subst (λ (b : Bytes). IsTextFound s b) (sym text) by_plan;
+        short = subst (λ (b : Bytes). length b ≤ file_limit) (sym (read ∙ made.0)) made.1;
+        spelled = subst (λ (b : Bytes). SpellsPlain (names_of_fluents s.grounded.now.task) (names_of_actions s.grounded.now.task) b (plain_of f.plan.now)) (sym text)
             (subst (λ (p : Plan). SpellsPlain (names_of_fluents s.grounded.now.task) (names_of_actions s.grounded.now.task) (text_found s found) (plain_of p)) (sym same) (task_spells s.grounded.now.task found in_task));
         in_task = subst (λ (p : Plan). IsPlanOf (fluent_count s.grounded.now.task) (action_count s.grounded.now.task) p) (sym same) in_task;
       }

@@ -1,6 +1,6 @@
 -- What is judged to be good is a controller.
-use Rattle.std.proofs.Common.{◌≡◌, ◌↔◌, ◌<◌, ◌≤◌, ◌∙◌, ap, ℕ, Bool, false, true, List, length, refl, subst, sym, arith, Option, None, Some, inl, inr}
-use Rattle.std.specs.Prelude.{codes, Err, IfErr, IfOk, IfSome, IsTrue, Ok, Result, Vec}
+use Rattle.std.proofs.Common.{◌≡◌, ◌↔◌, ◌<◌, ◌≤◌, ◌∙◌, ap, ℕ, Bool, true, List, length, refl, subst, sym, arith, Option, None, Some, inl, inr}
+use Rattle.std.specs.Prelude.{Err, IfOk, IfSome, IsTrue, Ok, Result, Vec}
 use Rattle.std.specs.declared.alloc.Global.{Global}
 use Rattle.controller_rules.specs.AsRun.{HasNoDeadRule, HasNoHiddenRule, HasOneMove, NamesLastContext}
 use Rattle.controller_rules.specs.Texts.{IsTextWithin, controller_text}
@@ -12,7 +12,7 @@ use Rattle.pddl_system.proofs.States.{they_have_a_system}
 use Rattle.pddl_system.specs.Systems.{action_names, fluent_names, system}
 use Rattle.plan_check.specs.Verdicts.{SaysYes}
 use Rattle.plan_document.specs.Faithful.{IsToldInFull}
-use Rattle.plan_command.specs.PlanCommand.{IsWrittenFor, PlanThen}
+use Rattle.plan_command.specs.PlanCommand.{IsWrittenFor}
 use Rattle.first_match.specs.FirstMatch.{AreGoodAsRun}
 use Rattle.controller_rules.specs.Unlisted.{AreGoodUnlisted}
 use Rattle.plan_meets.proofs.Meetings.{table_meets}
@@ -20,7 +20,7 @@ use Rattle.task_core.specs.declared.classes.Class.{Class}
 use Rattle.plan_check.specs.declared.verdicts.Verdict.{Verdict}
 use Rattle.plan_check.specs.declared.verdicts.Verdict.TheVariants.{Yes, No}
 use Rattle.plan_rules.specs.Readings.{SpellsPlain}
-use Rattle.plan_rules.specs.Rules.{PlainPlan, PlanRule, automaton, plain_of, table}
+use Rattle.plan_rules.specs.Rules.{PlainPlan, PlanRule, automaton, table}
 use Rattle.task_core.specs.Names.{Name}
 use Rattle.task_core.specs.Systems.{IsSystem, System}
 use Rattle.task_core.specs.Tasks.{action_names as names_of_actions, fluent_names as names_of_fluents}
@@ -30,7 +30,7 @@ use Rattle.command_base.specs.Grounding.{has_goal_for}
 use Rattle.check_command.specs.Judged.{HasGoalIn, IsTaskVerdict}
 use Rattle.plan_meets.specs.Meets.{Meets, PlanMeets}
 use Rattle.command_base.specs.Reading.{file_limit}
-use Rattle.command_base.specs.Values.{kind_of, refusal_of, shown_of}
+use Rattle.command_base.specs.Values.{kind_of, shown_of}
 use Rattle.pddl_ast.specs.Values.{domain_value, problem_value}
 use Rattle.command_base.specs.declared.answers.Refusal.{Refusal as CodeRefusal}
 use Rattle.command_base.specs.declared.answers.Shown.{Shown}
@@ -39,9 +39,9 @@ use Rattle.check_command.proofs.CheckAnswers.{goal_in, verdict_for}
 use Rattle.check_command.proofs.YesMeets.{YesSolves, yes_is_met}
 use Rattle.command_base.proofs.TaskNames.{same_actions, same_fluents}
 use Rattle.controller_plan.specs.Controllers.{IsController, IsControllerShown, IsGuardedFor, IsProgramOf, IsShownAs, run_meaning, text_for}
-use Rattle.controller_plan.specs.Judged.{CanBeJudged, HasLongJudged, HasNoGraph, IsControlRefusal, IsFoundGood, IsGoodAlong, HasTextTooLong, IsJudged, IsJudgedShown, IsMadeRefusal, IsTableGoodOnSets, IsAffirmedAs, IsGuardedOver, IsShownOver, IsTextRefusal, IsTextShown, text_over}
+use Rattle.controller_plan.specs.Judged.{CanBeJudged, HasNoGraph, IsFoundGood, IsGoodAlong, HasTextTooLong, IsJudged, IsJudgedShown, IsMadeRefusal, IsTableGoodOnSets, IsAffirmedAs, IsGuardedOver, IsShownOver, IsTextRefusal, IsTextShown, text_over}
 use Rattle.controller_plan.proofs.Limits.{too_much}
-use Rattle.controller_plan.specs.Sought.{IsFoundFor, IsReady, IsRefusedFor, IsShownFor, JudgedPlansControl, wanted_for}
+use Rattle.controller_plan.specs.Sought.{IsReady, IsShownFor, JudgedPlansControl, wanted_for}
 use Rattle.controller_words.specs.Values.{control_words_of}
 use Rattle.controller_words.specs.Words.{ControlWords}
 use Rattle.controller_words.specs.declared.shapes.Form.{Form}
@@ -50,7 +50,6 @@ use Rattle.controller_words.specs.declared.shapes.Shape.{Shape}
 use Rattle.controller_code.specs.declared.texts.Language.{Language}
 use Rattle.task_core.specs.declared.tasks.Task.{Task}
 use Rattle.controller_plan.specs.declared.made.Wanted.{Wanted}
-use Rattle.controller_plan.specs.declared.sought.Found.{Found}
 use Rattle.controller_plan.specs.declared.sought.Sought.{Sought}
 
 -- what is known of rules that are good as they are run
