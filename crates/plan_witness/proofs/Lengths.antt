@@ -1,5 +1,5 @@
 -- The longest walk of a plan's graph is its longest run.
-use Rattle.std.proofs.Common.{◌≡◌, ◌<◌, ◌≤◌, ℕ, List, [], ◌∷◌, ◌++◌, length, map, refl, sym, ap, ◌∙◌, subst, arith}
+use Rattle.std.proofs.Common.{◌≡◌, ◌≤◌, ℕ, List, [], ◌∷◌, ◌++◌, length, map, refl, sym, ap, ◌∙◌, subst, arith}
 use Rattle.std.specs.List.{Contains}
 use Rattle.std.proofs.lemmas.List.{length-append, length-map}
 use Rattle.task_core.specs.ContextPlans.{Configuration, IsInitial}
@@ -61,8 +61,8 @@ module _ (task : Task) (plan : Plan) (graph : Graph) (g : IsGraphIn task plan gr
     ends_walk numbers down = none (followers_at graph (last_number start numbers)) (λ j c. not_longer j c)
       where
         none : (xs : List ℕ) → ((j : ℕ) → Contains xs j → ⊥) → xs ≡ []
-        none [] no = refl
-        none (x ∷ xs) no = absurd (no x (0, omega arith, refl))
+        none [] never = refl
+        none (x ∷ xs) never = absurd (never x (0, omega arith, refl))
 
         not_longer : (j : ℕ) → Contains (followers_at graph (last_number start numbers)) j → ⊥
         not_longer j c =

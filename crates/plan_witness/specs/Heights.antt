@@ -3,7 +3,6 @@ use Rattle.std.specs.Prelude.{◌≡◌, ◌<◌, ◌≤◌, ◌+◌, ◌-◌, �
 use Rattle.std.specs.List.{Contains}
 use Rattle.exec_graph.specs.declared.graphs.Graph.{Graph}
 use Rattle.plan_check.specs.Walks.{IsWalk}
-use Rattle.exec_graph.specs.Values.{graph_size}
 use Rattle.plan_witness.specs.Ways.{at}
 
 -- Private: no walk from a number below n has more steps than the bound says

@@ -23,35 +23,34 @@ ghost use Rattle.exec_graph.specs.Values.{IsWithinFluents, graph_size};
 ghost use Rattle.plan_check.specs.Walks.{IsMarked};
 ghost use Rattle.plan_witness.specs.Marked.{place_at};
 ghost use Rattle.plan_witness.specs.Onward.{AreMet, AreOnward, places_in};
-ghost use Rattle.plan_witness.specs.Scenes.{IsFollowed, plan_in, sys_in};
+ghost use Rattle.plan_witness.specs.Scenes.{IsFollowed, place_of, plan_in, sys_in};
 ghost use Rattle.plan_witness.specs.Ways.{at};
 
-use crate::scenes::Scene;
+use crate::scenes::{Scene, Spot};
 use crate::ways::{FAR, Ways, ways_from};
 use exec_graph::{Graph, Steps};
 use std::alloc::{AllocError, Global};
 use std::sync::ledger::Ledger;
 use task_core::State;
 
-/// The numbers of the configurations to which paths of the plan lead from the one of a state and a context,
-/// which the plan may reach; least first.
+/// The numbers of the configurations to which paths of the plan lead from one that it may reach; least
+/// first.
 pub fn onward_numbers<L: Ledger>(
     alloc: Global,
     scene: &Scene<'_>,
-    state: &State,
-    context: u32,
+    spot: &Spot<'_>,
     steps: &mut Steps<L>,
 ) -> Result<Vec<u32>, AllocError>
     requires scene { IsFollowed scene.now }
-    requires state { IsWithin (fluent_count scene.now.task.now) state.now }
-    requires reached { let v = vector (fluent_count scene.now.task.now) state.now in
-        IsReachedBy (sys_in scene.now) (plan_in scene.now) (record { state = v; context = context }) }
+    requires state { IsWithin (fluent_count scene.now.task.now) spot.now.state.now }
+    requires reached { IsReachedBy (sys_in scene.now) (plan_in scene.now)
+        (place_of (fluent_count scene.now.task.now) spot.now) }
     ensures met { AreMet (sys_in scene.now) (plan_in scene.now) (places_in scene.now) }
-    ensures onward { let v = vector (fluent_count scene.now.task.now) state.now in
-        IfOk result (λ numbers. AreOnward (sys_in scene.now) (plan_in scene.now)
-        (places_in scene.now) (record { state = v; context = context }) numbers.items) }
+    ensures onward { IfOk result (λ numbers. AreOnward (sys_in scene.now) (plan_in scene.now)
+        (places_in scene.now) (place_of (fluent_count scene.now.task.now) spot.now)
+        numbers.items) }
 {
-    let starts = marks_of(alloc, scene.graph, state, context)?;
+    let starts = marks_of(alloc, scene.graph, spot.state, spot.context)?;
     let ways = ways_from(alloc, scene.graph, &starts, steps)?;
     reached_numbers(alloc, scene.graph, &ways)
 }

@@ -1,4 +1,4 @@
-use Rattle.std.proofs.Common.{sym, subst}
+use Rattle.std.proofs.Common.{[], refl, sym, subst}
 use Rattle.exec_graph.specs.Values.{followers_at}
 use Rattle.plan_witness.specs.Heights.{GoesFor}
 use Rattle.plan_witness.proofs.heights.heights_within.Goals as goal

@@ -1,4 +1,4 @@
-use Rattle.std.proofs.Common.{◌≡◌, ◌+◌, ◌-◌, ◌<◌, sym, ap, subst, arith}
+use Rattle.std.proofs.Common.{◌≡◌, ◌+◌, ◌-◌, ◌<◌, sym, subst, arith}
 use Rattle.exec_graph.specs.Values.{followers_at, graph_size}
 use Rattle.plan_witness.proofs.Tall.{IsRaising, raising_first, raising_found, raising_same}
 use Rattle.plan_witness.proofs.heights.raise_all.Goals as goal

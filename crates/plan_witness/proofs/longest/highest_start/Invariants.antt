@@ -1,5 +1,4 @@
 -- The highest start so far.
-use Rattle.std.proofs.Common.{◌<◌}
 use Rattle.std.specs.Option.{MatchOption}
 use Rattle.plan_witness.specs.Heights.{HasNoStart, IsHighestStart}
 use Rattle.plan_witness.proofs.longest.highest_start.Given as goal

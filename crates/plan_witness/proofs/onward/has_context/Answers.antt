@@ -1,4 +1,4 @@
-use Rattle.std.proofs.Common.{ap, eqb, sym, ◌∙◌}
+use Rattle.std.proofs.Common.{sym, ◌∙◌}
 use Rattle.std.proofs.lemmas.Bool.{eq-eqb, eqb-true}
 use Rattle.plan_witness.proofs.onward.has_context.Goals as goal
 

@@ -1,7 +1,7 @@
 use Rattle.std.specs.Prelude.{IfNone, IfSome, Option}
-use Rattle.std.proofs.Common.{sym, subst}
+use Rattle.std.proofs.Common.{subst}
 use Rattle.exec_graph.specs.Values.{followers_at}
-use Rattle.plan_check.specs.Walks.{IsMarked, last_number}
+use Rattle.plan_check.specs.Walks.{IsMarked}
 use Rattle.plan_witness.specs.Ways.{IsShortestWay, NoneLeads}
 use Rattle.plan_witness.specs.declared.shortest.Way.{Way}
 use Rattle.plan_witness.proofs.FoundRuns.{marked_none, marked_run, start_below}

@@ -1,4 +1,4 @@
-use Rattle.std.proofs.Common.{length, sym, ◌∙◌, ap, subst, take, ◌+◌}
+use Rattle.std.proofs.Common.{sym, ◌∙◌, subst, take, ◌+◌}
 use Rattle.std.proofs.lemmas.Grind.{get_or_default_zero}
 use Rattle.std.proofs.lemmas.List.Elements.{All-push}
 use Rattle.task_core.specs.States.{IsWithin}

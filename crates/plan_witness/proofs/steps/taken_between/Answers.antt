@@ -1,17 +1,15 @@
-use Rattle.std.proofs.Common.{◌≡◌, ℕ, List, map, sym, ap, ◌∙◌, subst}
+use Rattle.std.proofs.Common.{ℕ, List, map, sym, subst}
 use Rattle.std.specs.List.{All}
-use Rattle.list_laws.proofs.Elements.{All-unmap}
 use Rattle.task_core.specs.ContextPlans.{Configuration, Follows, first_context}
 use Rattle.task_core.specs.States.{vector}
 use Rattle.task_core.specs.Tables.{Leads}
 use Rattle.task_core.specs.Tasks.{action_count, fluent_count, system_of}
 use Rattle.plan_guide.specs.RunRules.{IsRunRuleOf}
 use Rattle.plan_rules.specs.Denoted.{denoted, denoted_contexts}
-use Rattle.plan_rules.specs.Plans.{IsPlanOf, IsRuleOf}
+use Rattle.plan_rules.specs.Plans.{IsRuleOf}
 use Rattle.plan_rules.specs.Rules.{context_rule_of, plain_of, rule_of}
 use Rattle.plan_rules.specs.declared.rules.AutoRule.{AutoRule}
 use Rattle.plan_rules.specs.declared.rules.Rule.{Rule}
-use Rattle.plan_rules.specs.declared.rules.Plan.{Plan}
 use Rattle.exec_graph.specs.Executions.{GoesTo}
 use Rattle.plan_witness.specs.Runs.{IsContextStep, IsStepOf, IsTableStep, PlainStep}
 use Rattle.plan_witness.proofs.Counting.{auto_rules, table_rules}
