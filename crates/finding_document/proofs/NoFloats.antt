@@ -8,9 +8,11 @@ use Rattle.task_core.specs.Names.{Name}
 use Rattle.task_core.specs.Vectors.{Vector}
 use Rattle.plan_document.specs.Documents.{count_data}
 use Rattle.plan_finding.specs.Findings.{PlainFound, cycle_from, lines_in}
+use Rattle.plan_finding.specs.ForVerdicts.{PlainFinding}
+use Rattle.plan_finding.specs.Stays.{PlainStays}
 use Rattle.plan_finding.specs.Texts.{Source}
 use Rattle.plan_witness.specs.Runs.{PlainStep}
-use Rattle.finding_document.specs.Documents.{changed_below, document, fluent_data, line_data, outcome_data, rule_data, step_data, steps_data}
+use Rattle.finding_document.specs.Documents.{besides_of, changed_below, document, fluent_data, line_data, longest_data, outcome_data, rule_data, stays_data, step_data, steps_data, told_object, told_of}
 
 -- no item of a mapped list has one where no value has
 items_free : {X : Type 0} (f : X → Data) → ((x : X) → has_float (f x) ≡ false) → (xs : List X) → items_have_float (items_of (map f xs)) ≡ false
@@ -32,7 +34,19 @@ place_free : (place : Option ℕ) → has_float (option_map_or count_data place 
 place_free None = refl
 place_free (Some place) = refl
 
-pub document_free : (source : Source) (verdict : List ℕ) (found : Option PlainFound) → has_float (document source verdict found) ≡ false
-document_free source verdict None = refl
-document_free source verdict (Some found) =
-    rw (place_free (cycle_from found), items_free outcome_data (λ step. refl) found.run.steps, items_free (line_data source.fluents) (λ line. refl) (lines_in found.ending), items_free rule_data (λ step. refl) found.run.steps, steps_free source found.run.start.state found.run.steps) refl
+longest_free : (source : Source) (longest : Option PlainFound) → has_float (option_map_or (longest_data source) longest null) ≡ false
+longest_free source None = refl
+longest_free source (Some found) =
+    rw (items_free outcome_data (λ step. refl) found.run.steps, items_free rule_data (λ step. refl) found.run.steps, steps_free source found.run.start.state found.run.steps) refl
+
+stays_free : (stays : Option PlainStays) → has_float (option_map_or stays_data stays null) ≡ false
+stays_free None = refl
+stays_free (Some stays) = rw (items_free count_data (λ number. refl) stays.numbers) refl
+
+pub document_free : (source : Source) (verdict : List ℕ) (finding : PlainFinding) → has_float (document source verdict finding) ≡ false
+document_free source verdict finding = free finding.run
+  where
+    free : (run : Option PlainFound) → has_float (told_object verdict (told_of source run) (besides_of source finding)) ≡ false
+    free None = rw (longest_free source finding.longest, stays_free finding.stays) refl
+    free (Some found) =
+        rw (place_free (cycle_from found), longest_free source finding.longest, items_free outcome_data (λ step. refl) found.run.steps, items_free (line_data source.fluents) (λ line. refl) (lines_in found.ending), items_free rule_data (λ step. refl) found.run.steps, stays_free finding.stays, steps_free source found.run.start.state found.run.steps) refl

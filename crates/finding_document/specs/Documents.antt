@@ -10,6 +10,8 @@ use Rattle.plan_document.specs.Documents.{count_data, name_data}
 use Rattle.goal_witness.specs.Lines.{PlainLine}
 use Rattle.goal_witness.specs.Texts.{goal_text}
 use Rattle.plan_finding.specs.Findings.{PlainFound, cycle_from as cycle_of, lines_in}
+use Rattle.plan_finding.specs.ForVerdicts.{PlainFinding}
+use Rattle.plan_finding.specs.Stays.{PlainStays}
 use Rattle.plan_finding.specs.Texts.{Source, line_of, sentence as sentence_of}
 use Rattle.plan_rules.specs.Texts.{line_feed, name_at}
 use Rattle.plan_witness.specs.Runs.{PlainStep}
@@ -75,7 +77,22 @@ outcome_data step = count_data step.outcome
 abbrev pub rule_data : PlainStep → Data
 rule_data step = count_data step.rule
 
--- what is told besides the verdict
+-- a longest run: the number of its initial state, and its outcomes, rules and steps
+abbrev pub longest_data : Source → PlainFound → Data
+longest_data source found =
+    object (member (codes "initial") (count_data found.number)
+    (member (codes "outcomes") (list_data outcome_data found.run.steps)
+    (member (codes "rules") (list_data rule_data found.run.steps)
+    (member (codes "steps") (array (items_of (steps_data source found.run.start.state found.run.steps)))
+    no_members))))
+
+-- in which states a plan stays: how many are left, and the numbers of the first ones
+abbrev pub stays_data : PlainStays → Data
+stays_data stays =
+    object (member (codes "more") (count_data stays.more)
+    (member (codes "states") (list_data count_data stays.numbers) no_members))
+
+-- what is told of the run that shows a verdict
 pub record Told : Type 0 where
   pub cycle_from : Data
   pub initial : Data
@@ -85,7 +102,7 @@ pub record Told : Type 0 where
   pub sentence : Data
   pub steps : Data
 
--- what is told of a run; where there is none, nothing
+-- of a run; where there is none, nothing
 abbrev pub told_of : Source → Option PlainFound → Told
 told_of source None = record {
   cycle_from = null;
@@ -106,21 +123,35 @@ told_of source (Some found) = record {
   steps = array (items_of (steps_data source found.run.start.state found.run.steps));
 }
 
-abbrev pub told_object : List ℕ → Told → Data
-told_object verdict told =
+-- what is told besides the run, or null
+pub record Besides : Type 0 where
+  pub longest : Data
+  pub stays : Data
+
+abbrev pub besides_of : Source → PlainFinding → Besides
+besides_of source finding = record {
+  longest = option_map_or (longest_data source) finding.longest null;
+  stays = option_map_or stays_data finding.stays null;
+}
+
+abbrev pub told_object : List ℕ → Told → Besides → Data
+told_object verdict told besides =
     object (member (codes "cycle_from") told.cycle_from
     (member (codes "initial") told.initial
+    (member (codes "longest") besides.longest
     (member (codes "outcomes") told.outcomes
     (member (codes "parts") told.parts
     (member (codes "rules") told.rules
     (member (codes "sentence") told.sentence
+    (member (codes "stays") besides.stays
     (member (codes "steps") told.steps
-    (member (codes "verdict") (string verdict) no_members))))))))
+    (member (codes "verdict") (string verdict) no_members))))))))))
 
--- the document of a verdict in these words, and of the run that shows it, where there is one
-abbrev pub document : Source → List ℕ → Option PlainFound → Data
-document source verdict found = told_object verdict (told_of source found)
+-- the document of a verdict in these words, and of what is told of it
+abbrev pub document : Source → List ℕ → PlainFinding → Data
+document source verdict finding =
+    told_object verdict (told_of source finding.run) (besides_of source finding)
 
 -- its text: without spaces, in one line with a line feed at its end
-abbrev pub document_text : Source → List ℕ → Option PlainFound → List ℕ
-document_text source verdict found = compact_text (document source verdict found) ++ line_feed
+abbrev pub document_text : Source → List ℕ → PlainFinding → List ℕ
+document_text source verdict finding = compact_text (document source verdict finding) ++ line_feed

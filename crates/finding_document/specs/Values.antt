@@ -1,6 +1,7 @@
 -- Private: what the code's own types stand for.
 use Rattle.serde_json.specs.View.{view}
-use Rattle.finding_document.specs.Documents.{Told}
+use Rattle.finding_document.specs.Documents.{Besides, Told}
+use Rattle.finding_document.specs.declared.besides.Besides.{Besides as CodeBesides}
 use Rattle.finding_document.specs.declared.documents.Told.{Told as CodeTold}
 
 abbrev pub told_value : CodeTold → Told
@@ -13,3 +14,6 @@ told_value told = record {
   sentence = view told.sentence;
   steps = view told.steps;
 }
+
+abbrev pub besides_value : CodeBesides → Besides
+besides_value besides = record { longest = view besides.longest; stays = view besides.stays }

@@ -6,10 +6,10 @@ ghost use Rattle.finding_document.specs.Documents.{
   told_object as object_of,
   told_of as told_data,
 };
-ghost use Rattle.finding_document.specs.Values.{told_value};
+ghost use Rattle.finding_document.specs.Values.{besides_value, told_value};
 ghost use Rattle.plan_document.specs.Documents.{count_data};
 ghost use Rattle.plan_finding.specs.Texts.{Source as PlainSource};
-ghost use Rattle.plan_finding.specs.Values.{finding_value, found_value, source_value};
+ghost use Rattle.plan_finding.specs.Values.{finding_value, found_value, run_found_value, source_value};
 ghost use Rattle.plan_rules.specs.Texts.{line_feed};
 ghost use Rattle.serde_json.specs.Data.{null};
 ghost use Rattle.serde_json.specs.View.{view};
@@ -18,26 +18,27 @@ ghost use Rattle.std.specs.Option.{option_map_or};
 ghost use Rattle.std.specs.Prelude.{◌≡◌, ◌++◌, IfOk, None, Some, false};
 ghost use Rattle.task_core.specs.Tasks.{fluent_count};
 
+use crate::besides::{Besides, besides_of};
 use crate::parts::part_values;
 use crate::steps::{number_value, outcome_values, rule_values, step_values};
-use plan_finding::{Found, Source, cycle_from, ending_sentence};
+use plan_finding::{Finding, Found, Source, cycle_from, ending_sentence};
 use serde_json::{Map, Value, put};
 use std::alloc::{AllocError, Global};
 
-/// The document of a verdict in these words, and of the run that shows it, as JSON in one line with a line
-/// feed at its end. It is an object with the members `cycle_from`, `initial`, `outcomes`, `parts`,
-/// `rules`, `sentence`, `steps` and `verdict`; where there is no run, the lists are empty, and the others but the
-/// verdict are null.
+/// The document of a verdict in these words, and of what is told of it, as JSON in one line with a line
+/// feed at its end. It is an object with the members `cycle_from`, `initial`, `longest`, `outcomes`, `parts`,
+/// `rules`, `sentence`, `stays`, `steps` and `verdict`. Where there is no run, the lists are empty; what isn't
+/// told is null.
 pub fn finding_document(
     alloc: Global,
     source: &Source<'_>,
     verdict: &str,
-    found: &Option<Found<'_>>,
+    finding: &Finding<'_>,
 ) -> Result<Vec<u8>, AllocError>
     ensures { let n = fluent_count source.now.task.now in IfOk result (λ text. text.items
-        ≡ document_text (source_value source.now) verdict.now (finding_value n found.now)) }
+        ≡ document_text (source_value source.now) verdict.now (finding_value n finding.now)) }
 {
-    let value = document_value(alloc, source, verdict, found)?;
+    let value = document_value(alloc, source, verdict, finding)?;
     value_text(alloc, &value)
 }
 
@@ -56,16 +57,17 @@ fn document_value(
     alloc: Global,
     source: &Source<'_>,
     verdict: &str,
-    found: &Option<Found<'_>>,
+    finding: &Finding<'_>,
 ) -> Result<Value, AllocError>
     ensures { let n = fluent_count source.now.task.now in IfOk result (λ value. view value
-        ≡ document (source_value source.now) verdict.now (finding_value n found.now)) }
+        ≡ document (source_value source.now) verdict.now (finding_value n finding.now)) }
 {
-    let told = told_if_found(alloc, source, found)?;
-    told_object(alloc, verdict, told)
+    let told = told_if_found(alloc, source, &finding.run)?;
+    let besides = besides_of(alloc, source, finding)?;
+    told_object(alloc, verdict, told, besides)
 }
 
-/// What is told besides the verdict.
+/// What is told of the run that shows a verdict.
 #[derive(Drop)]
 struct Told {
     cycle_from: Value,
@@ -78,8 +80,14 @@ struct Told {
 }
 
 /// The object of a verdict and what is told besides.
-fn told_object(alloc: Global, verdict: &str, told: Told) -> Result<Value, AllocError>
-    ensures { IfOk result (λ value. view value ≡ object_of verdict.now (told_value told)) }
+fn told_object(
+    alloc: Global,
+    verdict: &str,
+    told: Told,
+    besides: Besides,
+) -> Result<Value, AllocError>
+    ensures { IfOk result (λ value. view value
+        ≡ object_of verdict.now (told_value told) (besides_value besides)) }
 {
     let Told {
         cycle_from,
@@ -90,6 +98,7 @@ fn told_object(alloc: Global, verdict: &str, told: Told) -> Result<Value, AllocE
         sentence,
         steps,
     } = told;
+    let Besides { longest, stays } = besides;
     let mut members = Map::new(alloc);
     put(
         &mut members,
@@ -98,10 +107,12 @@ fn told_object(alloc: Global, verdict: &str, told: Told) -> Result<Value, AllocE
         Value::try_from_str(alloc, verdict)?,
     )?;
     put(&mut members, alloc, "steps", steps)?;
+    put(&mut members, alloc, "stays", stays)?;
     put(&mut members, alloc, "sentence", sentence)?;
     put(&mut members, alloc, "rules", rules)?;
     put(&mut members, alloc, "parts", parts)?;
     put(&mut members, alloc, "outcomes", outcomes)?;
+    put(&mut members, alloc, "longest", longest)?;
     put(&mut members, alloc, "initial", initial)?;
     put(&mut members, alloc, "cycle_from", cycle_from)?;
     Ok(Value::from(members))
@@ -114,7 +125,7 @@ fn told_if_found(
     found: &Option<Found<'_>>,
 ) -> Result<Told, AllocError>
     ensures { let n = fluent_count source.now.task.now in IfOk result (λ told. told_value told
-        ≡ told_data (source_value source.now) (finding_value n found.now)) }
+        ≡ told_data (source_value source.now) (run_found_value n found.now)) }
 {
     match found {
         Some(found) => told_of(alloc, source, found),

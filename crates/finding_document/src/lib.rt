@@ -3,6 +3,7 @@
 //! `specs/Documents.antt` says which document it is.
 #![tactic(auto)]
 
+mod besides;
 mod documents;
 mod parts;
 mod steps;

@@ -49,7 +49,7 @@ pub(crate) fn number_value(number: usize) -> Value
 }
 
 /// A number of 32 bits.
-fn count_value(count: u32) -> Value
+pub(crate) fn count_value(count: u32) -> Value
     ensures { view result ≡ count_data count }
 {
     Value::from(u64::from(count))

@@ -8,7 +8,7 @@ use Rattle.ctl_syntax.specs.declared.goals.Ctl.{Ctl}
 use Rattle.plan_check.specs.Labels.{ComesAfter, HoldsIn}
 use Rattle.task_core.specs.Tasks.{fluent_count}
 use Rattle.task_core.specs.declared.conditions.Cond.{Cond}
-use Rattle.goal_witness.specs.declared.scenes.Scene.{Scene}
+use Rattle.plan_witness.specs.declared.scenes.Scene.{Scene}
 
 abbrev pub row : List Ctl → CtlTree Cond
 row parts = all (goal_row (map ctl_value parts))

@@ -26,7 +26,7 @@ use Rattle.goal_witness.specs.Failing.{FailsFrom, LeadsInside, goal_size, goals_
 use Rattle.goal_witness.specs.Failures.{FailsAlong, FailsBy, How, IsFalseIn, PlainLink, SomePart, by_lasso, by_way, is_false}
 use Rattle.goal_witness.specs.Scenes.{IsFalseAtNumber, IsScene, place_in, plan_in, size_in, sys_in}
 use Rattle.goal_witness.specs.Walks.{IsAlong, IsLassoFound, IsWayFound, Lacks, NoneWithout}
-use Rattle.goal_witness.specs.declared.scenes.Scene.{Scene}
+use Rattle.plan_witness.specs.declared.scenes.Scene.{Scene}
 use Rattle.goal_witness.proofs.Conjunctions.{TrueSoFar, row, so_far_names}
 use Rattle.goal_witness.proofs.Through.{lasso_through, true_in, way_through}
 use Rattle.goal_witness.proofs.Truths.{keeps_everywhere, lacks_right}

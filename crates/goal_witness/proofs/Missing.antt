@@ -35,7 +35,7 @@ use Rattle.goal_witness.proofs.Ran.{fails_run}
 use Rattle.goal_witness.specs.Scenes.{IsFalseAtNumber, IsScene, place_in, plan_in, size_in, sys_in}
 use Rattle.goal_witness.specs.Walks.{Lacks}
 use Rattle.goal_witness.specs.Witnesses.{IsWitness, MissesGoal, witness_value}
-use Rattle.goal_witness.specs.declared.scenes.Scene.{Scene}
+use Rattle.plan_witness.specs.declared.scenes.Scene.{Scene}
 use Rattle.goal_witness.proofs.Fails.{meaning}
 use Rattle.goal_witness.proofs.Through.{true_in}
 

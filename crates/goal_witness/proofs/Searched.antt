@@ -12,7 +12,7 @@ use Rattle.plan_witness.specs.Ways.{IsShortestWay, NoneLeads}
 use Rattle.goal_witness.specs.Scenes.{IsScene, size_in}
 use Rattle.goal_witness.specs.Walks.{IsAlong, IsLassoFound, IsLeastRound, IsLeastWithout, IsRoundWithout, Lacks, NoneWithout}
 use Rattle.goal_witness.specs.Zones.{HasNoRound, IsZone, IsZoneLasso, kept}
-use Rattle.goal_witness.specs.declared.scenes.Scene.{Scene}
+use Rattle.plan_witness.specs.declared.scenes.Scene.{Scene}
 use Rattle.goal_witness.proofs.Kept.{lasso_back, lasso_end, lasso_stem, least_without, no_lasso, none_without}
 
 -- a number that lacks the second mark has neither where it lacks the first

@@ -23,7 +23,7 @@ use Rattle.task_core.specs.declared.conditions.Cond.{Cond}
 use Rattle.goal_witness.specs.Failures.{ComesBackThrough, EachOn, IsLassoThrough, IsShortestBack, IsShortestThrough, IsTrueIn, places}
 use Rattle.goal_witness.specs.Scenes.{IsScene, place_in, plan_in, size_in, sys_in}
 use Rattle.goal_witness.specs.Walks.{IsAlong, IsLassoFound, IsLeastRound, IsLeastWithout, IsRoundWithout, IsWalkWithout, Lacks}
-use Rattle.goal_witness.specs.declared.scenes.Scene.{Scene}
+use Rattle.plan_witness.specs.declared.scenes.Scene.{Scene}
 
 module _ (scene : Scene) (s : IsScene scene) where
   abbrev n : ℕ

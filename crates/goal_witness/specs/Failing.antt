@@ -10,7 +10,7 @@ use Rattle.goal_witness.specs.Links.{how_value}
 use Rattle.goal_witness.specs.Scenes.{IsFalseAtNumber, place_in, plan_in, sys_in}
 use Rattle.goal_witness.specs.declared.failing.Failing.{Failing}
 use Rattle.goal_witness.specs.declared.failing.Failing.TheVariants.{Ends, Leads}
-use Rattle.goal_witness.specs.declared.scenes.Scene.{Scene}
+use Rattle.plan_witness.specs.declared.scenes.Scene.{Scene}
 
 abbrev mutual
   -- Private: how many forms a goal is made of

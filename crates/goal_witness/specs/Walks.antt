@@ -7,7 +7,7 @@ use Rattle.plan_witness.specs.Marked.{IsRunAlong}
 use Rattle.plan_witness.specs.Runs.{PlainStep}
 use Rattle.goal_witness.specs.Failures.{EachOn}
 use Rattle.goal_witness.specs.Scenes.{place_in, plan_in, sys_in}
-use Rattle.goal_witness.specs.declared.scenes.Scene.{Scene}
+use Rattle.plan_witness.specs.declared.scenes.Scene.{Scene}
 
 -- Private: number i has no mark
 abbrev pub Lacks : List Bool → ℕ → Type 0

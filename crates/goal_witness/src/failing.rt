@@ -12,12 +12,12 @@ ghost use Rattle.goal_witness.specs.Scenes.{IsFalseAtNumber, IsScene, size_in};
 ghost use Rattle.goal_witness.specs.Walks.{Lacks};
 
 use crate::links::How;
-use crate::runs::{endless, step_to, way_without};
-use crate::scenes::Scene;
+use crate::runs::{Sides, endless, step_to, way_without};
 use crate::zones::is_marked;
 use ctl_syntax::Ctl;
 use exec_graph::{Graph, Steps};
 use plan_check::{labels, same_label};
+use plan_witness::Scene;
 use std::alloc::{AllocError, Global};
 use std::sync::ledger::Ledger;
 
@@ -28,6 +28,13 @@ pub(crate) enum Failing<'a> {
     Ends(How),
     /// So, and then this part fails at the configuration of this number.
     Leads(How, &'a Ctl, u32),
+}
+
+/// Two parts of a goal.
+#[derive(Clone, Copy)]
+struct Pair<'a> {
+    left: &'a Ctl,
+    right: &'a Ctl,
 }
 
 /// How a goal fails at the configuration of a number.
@@ -48,8 +55,8 @@ pub(crate) fn failing_at<'a, L: Ledger>(
         Ctl::Ax(part) => false_next(alloc, scene, part, number, steps),
         Ctl::Ag(part) => false_later(alloc, scene, part, number, steps),
         Ctl::Af(part) => false_always(alloc, scene, part, number, steps),
-        Ctl::Au(left, right) => false_until(alloc, scene, left, right, number, steps),
-        Ctl::Aw(left, right) => false_before(alloc, scene, left, right, number, steps),
+        Ctl::Au(left, right) => false_until(alloc, scene, Pair { left, right }, number, steps),
+        Ctl::Aw(left, right) => false_before(alloc, scene, Pair { left, right }, number, steps),
         Ctl::Plain(_) => Ok(Failing::Ends(How::False)),
         Ctl::Not(_) => Ok(Failing::Ends(How::False)),
         Ctl::Any(_) => Ok(Failing::Ends(How::False)),
@@ -157,7 +164,16 @@ fn false_later<'a, L: Ledger>(
 {
     let left = label_of(alloc, scene, part, steps)?;
     let right = same_label(alloc, scene.graph, false)?;
-    match way_without(alloc, scene, &left, &right, number, steps)? {
+    match way_without(
+        alloc,
+        scene,
+        Sides {
+            left: &left,
+            right: &right,
+        },
+        number,
+        steps,
+    )? {
         Some(reached) => Ok(Failing::Leads(How::Way(reached.steps), part, reached.end)),
         None => Ok(Failing::Ends(How::False)),
     }
@@ -177,7 +193,16 @@ fn false_always<'a, L: Ledger>(
 {
     let left = same_label(alloc, scene.graph, true)?;
     let right = label_of(alloc, scene, part, steps)?;
-    let lasso = endless(alloc, scene, &left, &right, number, steps)?;
+    let lasso = endless(
+        alloc,
+        scene,
+        Sides {
+            left: &left,
+            right: &right,
+        },
+        number,
+        steps,
+    )?;
     Ok(Failing::Ends(How::Lasso(lasso.stem, lasso.back)))
 }
 
@@ -187,23 +212,40 @@ fn false_always<'a, L: Ledger>(
 fn false_until<'a, L: Ledger>(
     alloc: Global,
     scene: &Scene<'_>,
-    left_part: &'a Ctl,
-    right_part: &Ctl,
+    parts: Pair<'a>,
     number: u32,
     steps: &mut Steps<L>,
 ) -> Result<Failing<'a>, AllocError>
     requires scene { IsScene scene.now }
     requires fails { IsFalseAtNumber scene.now
-        (au (ctl_value left_part.now) (ctl_value right_part.now)) number }
+        (au (ctl_value parts.left.now) (ctl_value parts.right.now)) number }
     ensures { IfOk result (IsFailing scene.now
-        (au (ctl_value left_part.now) (ctl_value right_part.now)) number) }
+        (au (ctl_value parts.entry.left.now) (ctl_value parts.entry.right.now)) number) }
 {
-    let left = label_of(alloc, scene, left_part, steps)?;
-    let right = label_of(alloc, scene, right_part, steps)?;
-    match way_without(alloc, scene, &left, &right, number, steps)? {
-        Some(reached) => Ok(Failing::Leads(How::Way(reached.steps), left_part, reached.end)),
+    let left = label_of(alloc, scene, parts.left, steps)?;
+    let right = label_of(alloc, scene, parts.right, steps)?;
+    match way_without(
+        alloc,
+        scene,
+        Sides {
+            left: &left,
+            right: &right,
+        },
+        number,
+        steps,
+    )? {
+        Some(reached) => Ok(Failing::Leads(How::Way(reached.steps), parts.left, reached.end)),
         None => {
-            let lasso = endless(alloc, scene, &left, &right, number, steps)?;
+            let lasso = endless(
+                alloc,
+                scene,
+                Sides {
+                    left: &left,
+                    right: &right,
+                },
+                number,
+                steps,
+            )?;
             Ok(Failing::Ends(How::Lasso(lasso.stem, lasso.back)))
         }
     }
@@ -214,21 +256,29 @@ fn false_until<'a, L: Ledger>(
 fn false_before<'a, L: Ledger>(
     alloc: Global,
     scene: &Scene<'_>,
-    left_part: &'a Ctl,
-    right_part: &Ctl,
+    parts: Pair<'a>,
     number: u32,
     steps: &mut Steps<L>,
 ) -> Result<Failing<'a>, AllocError>
     requires scene { IsScene scene.now }
     requires fails { IsFalseAtNumber scene.now
-        (aw (ctl_value left_part.now) (ctl_value right_part.now)) number }
+        (aw (ctl_value parts.left.now) (ctl_value parts.right.now)) number }
     ensures { IfOk result (IsFailing scene.now
-        (aw (ctl_value left_part.now) (ctl_value right_part.now)) number) }
+        (aw (ctl_value parts.entry.left.now) (ctl_value parts.entry.right.now)) number) }
 {
-    let left = label_of(alloc, scene, left_part, steps)?;
-    let right = label_of(alloc, scene, right_part, steps)?;
-    match way_without(alloc, scene, &left, &right, number, steps)? {
-        Some(reached) => Ok(Failing::Leads(How::Way(reached.steps), left_part, reached.end)),
+    let left = label_of(alloc, scene, parts.left, steps)?;
+    let right = label_of(alloc, scene, parts.right, steps)?;
+    match way_without(
+        alloc,
+        scene,
+        Sides {
+            left: &left,
+            right: &right,
+        },
+        number,
+        steps,
+    )? {
+        Some(reached) => Ok(Failing::Leads(How::Way(reached.steps), parts.left, reached.end)),
         None => Ok(Failing::Ends(How::False)),
     }
 }

@@ -9,7 +9,6 @@ mod lines;
 mod links;
 mod rounds;
 mod runs;
-mod scenes;
 mod shortest;
 mod texts;
 mod ways;

@@ -108,38 +108,15 @@ fn nearest_round<L: Ledger>(
     let mut nearest = None;
     let mut least = FAR;
     for i in 0..zone.graph.len() {
-        if is_nearer(alloc, zone, ways, i, least, steps)? {
+        if ways.length_at(i) >= least {
+            continue;
+        }
+        if is_on_round(alloc, zone, i, steps)? {
             least = ways.length_at(i);
             nearest = Some(i);
         }
     }
     Ok(nearest)
-}
-
-/// Whether the way to a number is shorter than a length, and some way from the number comes back.
-fn is_nearer<L: Ledger>(
-    alloc: Global,
-    zone: &Zone<'_>,
-    ways: &Ways,
-    number: u32,
-    bound: u32,
-    steps: &mut Steps<L>,
-) -> Result<bool, AllocError>
-    requires zone { IsZone zone.now.graph.now zone.now.inside.now }
-    requires count { length ways.now.lengths.items ≡ graph_size zone.now.graph.now }
-    requires number { number < graph_size zone.now.graph.now }
-    ensures nearer { IfOk result (λ nearer.
-        nearer ≡ true → at ways.now.lengths.items number < bound) }
-    ensures on { IfOk result (λ nearer. nearer ≡ true
-        → IsOnRound (next_in zone.now.graph.now zone.now.inside.now) number) }
-    ensures not { IfOk result (λ nearer. nearer ≡ false
-        → IsOnRound (next_in zone.now.graph.now zone.now.inside.now) number
-        → bound ≤ at ways.now.lengths.items number) }
-{
-    if ways.length_at(number) >= bound {
-        return Ok(false);
-    }
-    is_on_round(alloc, zone, number, steps)
 }
 
 /// Whether some way from a number comes back to it.

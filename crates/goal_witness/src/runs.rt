@@ -19,12 +19,11 @@ ghost use Rattle.goal_witness.specs.Walks.{
 };
 
 use crate::rounds::{WayBack, lasso_from, only_mark};
-use crate::scenes::Scene;
 use crate::shortest::shortest_way;
 use crate::zones::Zone;
 use exec_graph::Steps;
 use plan_check::{Along, Join, Need, joined, negated, spread};
-use plan_witness::{RunStep, steps_along};
+use plan_witness::{RunStep, Scene, steps_along};
 use std::alloc::{AllocError, Global};
 use std::sync::ledger::Ledger;
 
@@ -42,29 +41,35 @@ pub(crate) struct Lasso {
     pub(crate) back: Vec<RunStep>,
 }
 
+/// Two marks for each number.
+#[derive(Clone, Copy)]
+pub(crate) struct Sides<'a> {
+    pub(crate) left: &'a [bool],
+    pub(crate) right: &'a [bool],
+}
+
 /// A shortest run from a number, through those that lack the second mark, to one that lacks both;
 /// `None` where there is none.
 pub(crate) fn way_without<L: Ledger>(
     alloc: Global,
     scene: &Scene<'_>,
-    left: &[bool],
-    right: &[bool],
+    sides: Sides<'_>,
     number: u32,
     steps: &mut Steps<L>,
 ) -> Result<Option<Reached>, AllocError>
     requires scene { IsScene scene.now }
-    requires left { length left.now ≡ size_in scene.now }
-    requires right { length right.now ≡ size_in scene.now }
+    requires left { length sides.left.now ≡ size_in scene.now }
+    requires right { length sides.right.now ≡ size_in scene.now }
     requires number { number < size_in scene.now }
-    requires lacks { Lacks right.now number }
+    requires lacks { Lacks sides.right.now number }
     ensures some { let n = fluent_count scene.now.task.now in
-        IfOk result (λ found. IfSome found (λ reached. IsWayFound scene.now left.now right.now number
+        IfOk result (λ found. IfSome found (λ reached. IsWayFound scene.now sides.entry.left.now sides.entry.right.now number
         (steps_value n reached.steps.items) reached.end)) }
     ensures none { IfOk result (λ found. IfNone found
-        (NoneWithout (followers_at scene.now.graph.now) right.now (Lacks left.now) number)) }
+        (NoneWithout (followers_at scene.now.graph.now) sides.entry.right.now (Lacks sides.entry.left.now) number)) }
 {
-    let inside = negated(alloc, right)?;
-    let ends = joined(alloc, Join::Neither, left, right)?;
+    let inside = negated(alloc, sides.right)?;
+    let ends = joined(alloc, Join::Neither, sides.left, sides.right)?;
     let only = only_mark(alloc, scene.graph, number)?;
     let zone = Zone {
         graph: scene.graph,
@@ -95,7 +100,7 @@ fn steps_of(
     ensures { let n = fluent_count scene.now.task.now in IfOk result (λ steps.
         IsAlong scene.now start numbers.now (steps_value n steps.items)) }
 {
-    let steps = steps_along(alloc, scene.task, scene.plan, scene.graph, start, numbers)?;
+    let steps = steps_along(alloc, scene, start, numbers)?;
     Ok(Vec::from(steps))
 }
 
@@ -173,30 +178,29 @@ fn steps_back(alloc: Global, scene: &Scene<'_>, lasso: &WayBack) -> Result<Vec<R
 pub(crate) fn endless<L: Ledger>(
     alloc: Global,
     scene: &Scene<'_>,
-    left: &[bool],
-    right: &[bool],
+    sides: Sides<'_>,
     number: u32,
     steps: &mut Steps<L>,
 ) -> Result<Lasso, AllocError>
     requires scene { IsScene scene.now }
-    requires left { length left.now ≡ size_in scene.now }
-    requires right { length right.now ≡ size_in scene.now }
+    requires left { length sides.left.now ≡ size_in scene.now }
+    requires right { length sides.right.now ≡ size_in scene.now }
     requires number { number < size_in scene.now }
-    requires none { NoneWithout (followers_at scene.now.graph.now) right.now (Lacks left.now) number }
-    requires misses { EveryPathMeets (ComesAfter scene.now.graph.now) (λ i. mark_at left.now i ≡ true)
-        (λ i. mark_at right.now i ≡ true) number → ⊥ }
+    requires none { NoneWithout (followers_at scene.now.graph.now) sides.right.now (Lacks sides.left.now) number }
+    requires misses { EveryPathMeets (ComesAfter scene.now.graph.now) (λ i. mark_at sides.left.now i ≡ true)
+        (λ i. mark_at sides.right.now i ≡ true) number → ⊥ }
     ensures { let n = fluent_count scene.now.task.now in IfOk result (λ lasso.
-        IsLassoFound scene.now right.now number (steps_value n lasso.stem.items)
+        IsLassoFound scene.now sides.entry.right.now number (steps_value n lasso.stem.items)
         (steps_value n lasso.back.items)) }
 {
-    let mut whole = Vec::from_slice(alloc, right)?;
+    let mut whole = Vec::from_slice(alloc, sides.right)?;
     let along = Along {
         graph: scene.graph,
         need: Need::Each,
-        guard: left,
+        guard: sides.left,
     };
     spread(alloc, &along, &mut whole, steps)?;
-    match lasso_without(alloc, scene, right, number, steps)? {
+    match lasso_without(alloc, scene, sides.right, number, steps)? {
         Some(lasso) => Ok(lasso),
         None => Ok(Lasso {
             stem: Vec::new(alloc),

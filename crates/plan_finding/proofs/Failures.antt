@@ -1,19 +1,16 @@
 -- What shows why a plan fails is reached by the plan.
-use Rattle.std.proofs.Common.{◌≡◌, ◌∙◌, ℕ, List, [], ◌∷◌, map, refl, sym, subst, ap, arith}
+use Rattle.std.proofs.Common.{◌≡◌, ◌∙◌, List, [], ◌∷◌, map, refl, ap, arith}
 use Rattle.std.specs.List.{Contains}
 use Rattle.task_core.specs.ContextPlans.{Configuration}
 use Rattle.task_core.specs.Paths.{IsPath, last_of}
 use Rattle.task_core.specs.Solutions.{IsReached, MayEnd, MayReachGoal}
-use Rattle.task_core.specs.Systems.{IsSystem, System, goal_states}
+use Rattle.task_core.specs.Systems.{IsSystem, System}
 use Rattle.task_core.specs.Tables.{IsTerminal, Leads, Table}
 use Rattle.task_core.specs.Tasks.{system_of}
 use Rattle.task_core.specs.Vectors.{Vector}
 use Rattle.task_core.specs.declared.classes.Class.{Class}
 use Rattle.task_core.specs.declared.classes.Class.TheVariants.{Cyclic, Strong, Weak}
 use Rattle.task_core.proofs.TaskSystem.{is_system}
-use Rattle.plan_check.specs.ContextVerdicts.{HasContextReason}
-use Rattle.plan_check.specs.Verdicts.{HasReason}
-use Rattle.plan_check.specs.declared.verdicts.Reason.{Reason}
 use Rattle.plan_check.specs.declared.verdicts.Reason.TheVariants.{Cycle, Formula, Stuck, Terminal, Unexecutable, Unreachable}
 use Rattle.plan_rules.specs.Denoted.{denoted}
 use Rattle.plan_rules.specs.Rules.{PlainPlan, PlanRule, table}
@@ -23,7 +20,7 @@ use Rattle.exec_graph.specs.Orders.{in_first}
 use Rattle.plan_witness.specs.Ends.{IsEnd, IsEndInside, LeadsTo}
 use Rattle.plan_finding.specs.Shown.{ContextFailuresAreShown, FailuresAreShown}
 
-some_of : {X : Type 0} (xs : List X) → (xs ≡ [] → ⊥) → (x : X) × Contains xs x
+pub some_of : {X : Type 0} (xs : List X) → (xs ≡ [] → ⊥) → (x : X) × Contains xs x
 some_of [] some = absurd (some refl)
 some_of (x ∷ xs) some = (x, (0, omega arith, refl))
 
@@ -35,7 +32,7 @@ module _ (sys : System) (ok : IsSystem sys) (written : Class) (rules : List Plan
   pairs = denoted sys rules
 
   -- a path of the table is one of the plan
-  lift : (x : Configuration) (rest : List Vector) → IsPath (Leads sys pairs) x.state rest → IsPath (GoesTo sys plan) x (map in_first rest)
+  pub lift : (x : Configuration) (rest : List Vector) → IsPath (Leads sys pairs) x.state rest → IsPath (GoesTo sys plan) x (map in_first rest)
   lift x [] path = tt
   lift x (s ∷ rest) (leads, path) = ((leads, refl), lift (in_first s) rest path)
 
@@ -44,7 +41,7 @@ module _ (sys : System) (ok : IsSystem sys) (written : Class) (rules : List Plan
   lift_last s (t ∷ rest) = lift_last t rest
 
   -- and the other way round
-  lower : (x : Configuration) (rest : List Configuration) → IsPath (GoesTo sys plan) x rest → IsPath (Leads sys pairs) x.state (map (λ (y : Configuration). y.state) rest)
+  pub lower : (x : Configuration) (rest : List Configuration) → IsPath (GoesTo sys plan) x rest → IsPath (Leads sys pairs) x.state (map (λ (y : Configuration). y.state) rest)
   lower x [] path = tt
   lower x (y ∷ rest) (goes, path) = (goes.0, lower y rest path)
 
@@ -61,7 +58,7 @@ module _ (sys : System) (ok : IsSystem sys) (written : Class) (rules : List Plan
   ends : (s : Vector) → IsTerminal pairs s → IsEnd sys plan (in_first s)
   ends s terminal y goes = terminal goes.0.action goes.0.pair
 
-  terminal_at : (x : Configuration) → IsEnd sys plan x → IsTerminal pairs x.state
+  pub terminal_at : (x : Configuration) → IsEnd sys plan x → IsTerminal pairs x.state
   terminal_at x end a pair =
       let t = some_of (sys.next x.state a) (denoted-table sys ok rules x.state a pair).1 in
       end (in_first t.0) (record { action = a; pair = pair; outcome = t.1 }, refl)

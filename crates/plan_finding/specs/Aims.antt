@@ -1,5 +1,5 @@
 -- What a run is to show for a verdict on a plan.
-use Rattle.std.specs.Prelude.{◌≡◌, IsSome, ⊤}
+use Rattle.std.specs.Prelude.{IsSome, ⊤}
 use Rattle.task_core.specs.ContextPlans.{Configuration}
 use Rattle.task_core.specs.Systems.{System}
 use Rattle.task_core.specs.declared.classes.Class.{Class}
@@ -7,7 +7,6 @@ use Rattle.task_core.specs.declared.classes.Class.TheVariants.{Cyclic, Strong, W
 use Rattle.task_core.specs.declared.tasks.Task.{Task}
 use Rattle.plan_rules.specs.Rules.{PlainPlan}
 use Rattle.exec_graph.specs.Executions.{IsStuckAt, IsUnexecutableAt}
-use Rattle.plan_check.specs.declared.verdicts.Reason.{Reason}
 use Rattle.plan_check.specs.declared.verdicts.Reason.TheVariants.{Cycle, Formula, Stuck, Terminal}
 use Rattle.plan_check.specs.declared.verdicts.Reason.TheVariants.{Unexecutable, Unreachable}
 use Rattle.plan_check.specs.declared.verdicts.Verdict.{Verdict}
@@ -42,9 +41,9 @@ class_aim Strong (No Unreachable) = Nothing
 class_aim Cyclic (No Unreachable) = Endless
 class_aim class (No Formula) = Nothing
 
--- what shows a verdict on a plan with contexts
+-- what shows a verdict on a plan with contexts. No run of one that is a yes ends, so one comes back
 abbrev pub context_aim : Verdict → Aim
-context_aim (Yes bound) = Nothing
+context_aim (Yes bound) = Round
 context_aim (No Unexecutable) = Bad
 context_aim (No Stuck) = Unfinished
 context_aim (No Terminal) = Nothing

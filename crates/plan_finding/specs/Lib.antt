@@ -1,7 +1,10 @@
 pub mod Aims
 pub mod Findings
+pub mod ForVerdicts
+pub mod Longest
 pub mod Misses
 pub mod Places
 pub mod Shown
+pub mod Stays
 pub mod Texts
 pub mod Values

@@ -1,17 +1,18 @@
 -- Which verdicts a run shows.
-use Rattle.std.specs.Prelude.{◌≡◌, ℕ, List}
+use Rattle.std.specs.Prelude.{◌≡◌, ℕ, List, Option}
 use Rattle.ctl_syntax.specs.Goals.{CtlTree}
 use Rattle.task_core.specs.Tasks.{system_of}
 use Rattle.task_core.specs.declared.classes.Class.{Class}
 use Rattle.task_core.specs.declared.tasks.Task.{Task}
 use Rattle.task_core.specs.declared.conditions.Cond.{Cond}
-use Rattle.plan_check.specs.ContextVerdicts.{HasContextReason, IsTrueAt}
+use Rattle.plan_check.specs.ContextVerdicts.{HasContextReason, IsContextYes, IsTrueAt}
 use Rattle.plan_check.specs.Verdicts.{HasReason}
 use Rattle.plan_check.specs.declared.verdicts.Reason.{Reason}
 use Rattle.plan_check.specs.declared.verdicts.Reason.TheVariants.{Formula}
 use Rattle.plan_check.specs.declared.verdicts.Verdict.TheVariants.{No}
 use Rattle.plan_rules.specs.Denoted.{denoted_contexts}
 use Rattle.plan_rules.specs.Rules.{ContextRule, PlanRule, automaton, table}
+use Rattle.plan_witness.specs.Ends.{IsEnd}
 use Rattle.plan_witness.specs.Runs.{NoneReached}
 use Rattle.plan_finding.specs.Aims.{IsAimAt, class_aim, context_aim}
 
@@ -35,3 +36,12 @@ ContextFailuresAreShown =
     → NoneReached (system_of task) (automaton contexts rules)
     (IsAimAt (context_aim (No reason)) (system_of task) (automaton contexts rules))
     → ⊥
+
+-- a plan with contexts that is a yes may reach no configuration in which it ends: each run goes on for ever
+abbrev pub ContextPlansNeverEnd : Type 0
+ContextPlansNeverEnd =
+    (task : Task) (contexts : ℕ) (rules : List ContextRule) (goal : CtlTree Cond) (bound : Option ℕ)
+    → IsContextYes (system_of task) (denoted_contexts rules)
+    (IsTrueAt (system_of task) (denoted_contexts rules) goal) bound
+    → NoneReached (system_of task) (automaton contexts rules)
+    (IsEnd (system_of task) (automaton contexts rules))

@@ -1,10 +1,12 @@
 -- The text of a run with what is the matter at its end: what is printed, byte for byte.
 use Rattle.std.specs.Prelude.{◌==◌, ◌&&◌, ◌+◌, ℕ, suc, Bool, true, List, [], ◌∷◌, ◌++◌, codes, decimal}
-use Rattle.std.specs.Prelude.{if◌then◌else◌, map, false, None, Option, Some, slice_index_or}
+use Rattle.std.specs.Prelude.{if◌then◌else◌, length, map, false, None, Option, Some, slice_index_or}
 use Rattle.std.specs.List.{flat_map}
 use Rattle.plan_finding.specs.Findings.{Ending, PlainFound, again_from, comes_back, in_goal, never_ending}
 use Rattle.goal_witness.specs.Texts.{false_lines}
 use Rattle.plan_finding.specs.Findings.{goal_missed, never_in_goal, not_executable, outside_goal, without_next, without_rule}
+use Rattle.plan_finding.specs.ForVerdicts.{PlainFinding}
+use Rattle.plan_finding.specs.Stays.{PlainStays}
 use Rattle.plan_rules.specs.Rules.{PlainPlan, PlanRule, automaton, table}
 use Rattle.plan_rules.specs.Texts.{atom_text, line_feed, name_at}
 use Rattle.plan_witness.specs.Runs.{PlainRun, PlainStep}
@@ -142,10 +144,62 @@ record_line plan number run =
     then codes "(record " ++ decimal number ++ outcomes_text run.steps ++ codes ")"
     else codes "no record: some step takes a rule that isn't the first that matches") ++ line_feed
 
--- the whole text: the initial state, the steps, what is the matter at the end, and the record
-abbrev pub found_text : Source → PlainFound → List ℕ
-found_text source found =
+-- a comma and a space before each place but the first
+abbrev pub gap_text : ℕ → List ℕ
+gap_text place = if place == 0 then [] else codes ", "
+
+-- numbers, of which the first stands at this place, each after a gap
+abbrev pub numbers_from : ℕ → List ℕ → List ℕ
+numbers_from place [] = []
+numbers_from place (number ∷ numbers) =
+    gap_text place ++ decimal number ++ numbers_from (place + 1) numbers
+
+abbrev pub numbers_text : List ℕ → List ℕ
+numbers_text = numbers_from 0
+
+-- how many numbers are left, where some are
+abbrev pub more_text : ℕ → List ℕ
+more_text more = if more == 0 then [] else codes " and " ++ decimal more ++ codes " more"
+
+-- a word for so many, with an s at its end unless it is one
+abbrev pub word_for : ℕ → List ℕ → List ℕ
+word_for count word = if count == 1 then word else word ++ codes "s"
+
+-- in which states the plan stays, by their numbers, as one line
+abbrev pub stays_line : Option PlainStays → List ℕ
+stays_line None = []
+stays_line (Some stays) =
+    codes "from here the plan stays in " ++ word_for (length stays.numbers) (codes "state") ++ codes " "
+    ++ numbers_text stays.numbers ++ more_text stays.more ++ line_feed
+
+-- the whole text of a run: the initial state, the steps, what is the matter at the end, where the plan
+-- stays from there on, if that is told, and the record
+abbrev pub found_text : Source → Option PlainStays → PlainFound → List ℕ
+found_text source stays found =
     initial_line source.fluents found.number found.run.start.state
     ++ steps_text source 1 found.run.start.state found.run.steps
     ++ sentence source found ++ line_feed
+    ++ stays_line stays
     ++ record_line source.plan found.number found.run
+
+-- the text of a run that shows a verdict, where there is one
+abbrev pub run_text : Source → Option PlainStays → Option PlainFound → List ℕ
+run_text source stays None = []
+run_text source stays (Some found) = found_text source stays found
+
+-- how many steps a longest run has, as one line
+abbrev pub length_line : ℕ → List ℕ
+length_line steps =
+    codes "a longest run has " ++ decimal steps ++ codes " " ++ word_for steps (codes "step") ++ codes ":"
+    ++ line_feed
+
+-- the text of a longest run, where there is one
+abbrev pub longest_text : Source → Option PlainFound → List ℕ
+longest_text source None = []
+longest_text source (Some found) =
+    length_line (length found.run.steps) ++ found_text source None found
+
+-- the text of what is told of a verdict
+abbrev pub finding_text : Source → PlainFinding → List ℕ
+finding_text source finding =
+    run_text source finding.stays finding.run ++ longest_text source finding.longest

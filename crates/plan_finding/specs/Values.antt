@@ -10,8 +10,12 @@ use Rattle.plan_finding.specs.declared.endings.Ending.TheVariants.{NeverEnding, 
 use Rattle.plan_finding.specs.declared.endings.Ending.TheVariants.{NotExecutable, WithoutNext}
 use Rattle.plan_finding.specs.declared.endings.Ending.TheVariants.{WithoutRule}
 use Rattle.plan_finding.specs.declared.findings.Found.{Found}
+use Rattle.plan_finding.specs.ForVerdicts.{PlainFinding}
+use Rattle.plan_finding.specs.Stays.{PlainStays}
 use Rattle.plan_finding.specs.Texts.{Source}
 use Rattle.plan_finding.specs.declared.sources.Source.{Source as CodeSource}
+use Rattle.plan_finding.specs.declared.stays.Stays.{Stays}
+use Rattle.plan_finding.specs.declared.verdicts.Finding.{Finding}
 use Rattle.plan_rules.specs.Rules.{plain_of}
 use Rattle.plan_witness.specs.Values.{run_value}
 use Rattle.task_core.specs.Tasks.{action_names, fluent_names}
@@ -44,5 +48,15 @@ source_value source = record {
   lines = source.lines.now;
 }
 
-abbrev pub finding_value : ℕ → Option Found → Option PlainFound
-finding_value n = option_map (found_value n)
+abbrev pub run_found_value : ℕ → Option Found → Option PlainFound
+run_found_value n = option_map (found_value n)
+
+abbrev pub stays_value : Stays → PlainStays
+stays_value stays = record { numbers = stays.numbers.items; more = stays.more }
+
+abbrev pub finding_value : ℕ → Finding → PlainFinding
+finding_value n finding = record {
+  run = run_found_value n finding.run;
+  longest = run_found_value n finding.longest;
+  stays = option_map stays_value finding.stays;
+}

@@ -8,7 +8,7 @@ use task_core::Class;
 
 /// What a run is to show for a verdict on a plan.
 #[derive(Clone, Copy, Debug, PartialEq, Eq)]
-pub enum Aim {
+pub(crate) enum Aim {
     /// No run shows it.
     Nothing,
     /// The plan ends in the goal.
@@ -28,7 +28,7 @@ pub enum Aim {
 }
 
 /// What shows a verdict on a table as a plan of a class.
-pub fn class_aim(class: Class, verdict: &Verdict) -> Aim
+pub(crate) fn class_aim(class: Class, verdict: &Verdict) -> Aim
     ensures { result ≡ aim_of_class class verdict.now }
 {
     match verdict {
@@ -45,10 +45,11 @@ pub fn class_aim(class: Class, verdict: &Verdict) -> Aim
 }
 
 /// What shows a verdict on a plan with contexts.
-pub fn context_aim(verdict: &Verdict) -> Aim
+pub(crate) fn context_aim(verdict: &Verdict) -> Aim
     ensures { result ≡ aim_of_contexts verdict.now }
 {
     match verdict {
+        Verdict::Yes { bound: _ } => Aim::Round,
         Verdict::No(Reason::Unexecutable) => Aim::Bad,
         Verdict::No(Reason::Stuck) => Aim::Unfinished,
         _ => Aim::Nothing,

@@ -9,6 +9,7 @@ ghost use Rattle.plan_guide.specs.RunRules.{IsRunRuleOf};
 ghost use Rattle.plan_rules.specs.Plans.{IsPlanOf};
 ghost use Rattle.plan_rules.specs.Rules.{automaton, context_rule_of, plain_of};
 ghost use Rattle.plan_witness.specs.Ends.{IsLostAt, LosesOutcome};
+ghost use Rattle.plan_witness.specs.Scenes.{place_of};
 ghost use Rattle.std.specs.Prelude.{◌≡◌, ◌<◌, All, IfOk, IsSome, map, ℕ};
 ghost use Rattle.task_core.specs.States.{IsWithin, vector};
 ghost use Rattle.task_core.specs.Tasks.{action_count, fluent_count, system_of};
@@ -18,7 +19,7 @@ use crate::rules::bad_rule;
 use condition_parts::false_parts;
 use goal_witness::Line;
 use plan_rules::{AutoRule, Plan};
-use plan_witness::{counting_rule, lost_outcome};
+use plan_witness::{Spot, counting_rule, lost_outcome};
 use std::alloc::{AllocError, Global};
 use task_core::{ActionId, Cond, State, Task};
 
@@ -70,25 +71,22 @@ pub(crate) fn ending_at<'a>(
     task: &'a Task,
     plan: &Plan,
     aim: Aim,
-    state: &State,
-    context: u32,
+    spot: &Spot<'_>,
 ) -> Result<Ending<'a>, AllocError>
     requires goal { HasGoalFor aim task.now }
     requires plan { IsPlanOf (fluent_count task.now) (action_count task.now) plan.now }
-    requires inside { IsWithin (fluent_count task.now) state.now }
-    requires aim { let v = vector (fluent_count task.now) state.now in
-        IsAimAt aim (system_of task.now) (plain_of plan.now)
-        (record { state = v; context = context }) }
-    ensures { let v = vector (fluent_count task.now) state.now in
-        IfOk result (λ ending. IsEndingAt task.now (plain_of plan.now)
-        (record { state = v; context = context }) (ending_value ending)) }
+    requires inside { IsWithin (fluent_count task.now) spot.now.state.now }
+    requires aim { IsAimAt aim (system_of task.now) (plain_of plan.now)
+        (place_of (fluent_count task.now) spot.now) }
+    ensures { IfOk result (λ ending. IsEndingAt task.now (plain_of plan.now)
+        (place_of (fluent_count task.now) spot.now) (ending_value ending)) }
 {
     match aim {
         Aim::Nothing => Ok(Ending::NeverEnding),
         Aim::Inside => Ok(Ending::InGoal),
-        Aim::Outside => Ok(Ending::OutsideGoal(false_goal(alloc, task, state)?)),
-        Aim::Bad => not_executable(alloc, task, plan, state, context),
-        Aim::Unfinished => Ok(unfinished(task, plan, state, context)),
+        Aim::Outside => Ok(Ending::OutsideGoal(false_goal(alloc, task, spot.state)?)),
+        Aim::Bad => not_executable(alloc, task, plan, spot.state, spot.context),
+        Aim::Unfinished => Ok(unfinished(task, plan, spot.state, spot.context)),
         Aim::Round => Ok(Ending::ComesBack),
         Aim::Lost => Ok(Ending::NeverInGoal),
         Aim::Endless => Ok(Ending::NeverEnding),

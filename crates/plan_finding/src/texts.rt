@@ -9,26 +9,36 @@ ghost use Rattle.plan_finding.specs.Texts.{
   context_note,
   ending_text,
   first_match as first_match_of,
-  found_text as text_of,
+  finding_text as text_of,
+  found_text,
+  gap_text,
   initial_line,
   is_recorded as is_recorded_run,
+  length_line,
+  longest_text,
   missed_text,
+  more_text,
   move_text,
   number_text,
+  numbers_text,
   outcomes_text,
   record_line,
   refusal_note,
   round_text,
   rule_text,
+  run_text,
   sentence,
+  stays_line,
   step_lines,
   steps_text,
   takes_first as takes_first_of,
+  word_for,
 };
-ghost use Rattle.plan_finding.specs.Values.{ending_value, found_value, source_value};
+ghost use Rattle.plan_finding.specs.Values.{ending_value, finding_value, found_value, run_found_value, source_value, stays_value};
 ghost use Rattle.plan_rules.specs.Plans.{IsPlanOf, IsRuleOf};
 ghost use Rattle.plan_rules.specs.Rules.{plain_of, rule_of};
 ghost use Rattle.plan_witness.specs.Values.{run_value, step_value, steps_value};
+ghost use Rattle.std.specs.Option.{option_map};
 ghost use Rattle.std.specs.Prelude.{◌≡◌, ◌++◌, All, IfOk, OnOk, Some, map, string_bytes, ℕ};
 ghost use Rattle.task_core.specs.Names.{name_bytes};
 ghost use Rattle.task_core.specs.States.{vector};
@@ -37,6 +47,8 @@ ghost use Rattle.task_core.specs.Tasks.{action_count, fluent_count, fluent_names
 use crate::endings::Ending;
 use crate::findings::Found;
 use crate::sources::{Source, line_at};
+use crate::stays::Stays;
+use crate::verdicts::Finding;
 use goal_witness::{Line, push_lines};
 use plan_rules::{Plan, Rule, has_all, push_number};
 use plan_witness::{Run, RunStep};
@@ -44,25 +56,165 @@ use state_text::{push_action, push_changes, push_condition, push_true};
 use std::alloc::{AllocError, Global};
 use task_core::{Cond, State, Task};
 
-/// The text of a run with what is the matter at its end: a line for the initial state, lines for each
-/// step, a sentence, and the record.
-pub fn found_text(
+/// The text of what is told of a verdict: the run that shows it, and a longest run.
+pub fn finding_text(
     alloc: Global,
     source: &Source<'_>,
-    found: &Found<'_>,
+    finding: &Finding<'_>,
 ) -> Result<String, AllocError>
     requires { let task = source.now.task.now in
         IsPlanOf (fluent_count task) (action_count task) source.now.plan.now }
     ensures { let n = fluent_count source.now.task.now in IfOk result (λ text.
-        string_bytes text ≡ text_of (source_value source.now) (found_value n found.now)) }
+        string_bytes text ≡ text_of (source_value source.now) (finding_value n finding.now)) }
 {
     let mut out = String::new(alloc);
-    push_initial(&mut out, source.task, found.number, &found.run.start)?;
-    push_steps(&mut out, source, &found.run)?;
-    push_sentence(&mut out, source, found)?;
-    out.push('\n')?;
-    push_record(&mut out, source, found.number, &found.run)?;
+    push_run(&mut out, source, &finding.stays, &finding.run)?;
+    push_longest(&mut out, source, &finding.longest)?;
     Ok(out)
+}
+
+/// Appends the text of a run that shows a verdict, where there is one.
+fn push_run(
+    out: &mut String,
+    source: &Source<'_>,
+    stays: &Option<Stays>,
+    run: &Option<Found<'_>>,
+) -> Result<(), AllocError>
+    requires { let task = source.now.task.now in
+        IsPlanOf (fluent_count task) (action_count task) source.now.plan.now }
+    ensures { let n = fluent_count source.now.task.now in
+        OnOk result (string_bytes out.new ≡ string_bytes out.old
+        ++ run_text (source_value source.now) (option_map stays_value stays.now)
+        (run_found_value n run.now)) }
+{
+    match run {
+        Some(found) => push_found(out, source, stays, found),
+        None => Ok(()),
+    }
+}
+
+/// Appends the text of a longest run, where there is one.
+fn push_longest(
+    out: &mut String,
+    source: &Source<'_>,
+    longest: &Option<Found<'_>>,
+) -> Result<(), AllocError>
+    requires { let task = source.now.task.now in
+        IsPlanOf (fluent_count task) (action_count task) source.now.plan.now }
+    ensures { let n = fluent_count source.now.task.now in
+        OnOk result (string_bytes out.new ≡ string_bytes out.old
+        ++ longest_text (source_value source.now) (run_found_value n longest.now)) }
+{
+    match longest {
+        Some(found) => {
+            push_length(out, found.run.steps.len())?;
+            push_found(out, source, &None, found)
+        }
+        None => Ok(()),
+    }
+}
+
+/// Appends how many steps a longest run has.
+fn push_length(out: &mut String, steps: usize) -> Result<(), AllocError>
+    ensures { OnOk result (string_bytes out.new ≡ string_bytes out.old ++ length_line steps) }
+{
+    out.push_str("a longest run has ")?;
+    push_number(out, steps)?;
+    out.push_str(" ")?;
+    push_word(out, steps, "step")?;
+    out.push_str(":")?;
+    out.push_str("\n")
+}
+
+/// Appends a word for so many, with an s at its end unless it is one.
+fn push_word(out: &mut String, count: usize, word: &str) -> Result<(), AllocError>
+    ensures { OnOk result (string_bytes out.new ≡ string_bytes out.old ++ word_for count word.now) }
+{
+    out.push_str(word)?;
+    if count == 1 {
+        return Ok(());
+    }
+    out.push_str("s")
+}
+
+/// Appends the text of a run with what is the matter at its end: a line for the initial state, lines for
+/// each step, a sentence, where the plan stays, and the record.
+fn push_found(
+    out: &mut String,
+    source: &Source<'_>,
+    stays: &Option<Stays>,
+    found: &Found<'_>,
+) -> Result<(), AllocError>
+    requires { let task = source.now.task.now in
+        IsPlanOf (fluent_count task) (action_count task) source.now.plan.now }
+    ensures { let n = fluent_count source.now.task.now in
+        OnOk result (string_bytes out.new ≡ string_bytes out.old
+        ++ found_text (source_value source.now) (option_map stays_value stays.now)
+        (found_value n found.now)) }
+{
+    push_initial(out, source.task, found.number, &found.run.start)?;
+    push_steps(out, source, &found.run)?;
+    push_sentence(out, source, found)?;
+    out.push_str("\n")?;
+    push_stays(out, stays)?;
+    push_record(out, source, found.number, &found.run)
+}
+
+/// Appends in which states the plan stays, if that is told.
+fn push_stays(out: &mut String, stays: &Option<Stays>) -> Result<(), AllocError>
+    ensures { OnOk result (string_bytes out.new ≡ string_bytes out.old
+        ++ stays_line (option_map stays_value stays.now)) }
+{
+    match stays {
+        Some(stays) => push_states(out, stays),
+        None => Ok(()),
+    }
+}
+
+/// Appends in which states the plan stays.
+fn push_states(out: &mut String, stays: &Stays) -> Result<(), AllocError>
+    ensures { OnOk result (string_bytes out.new ≡ string_bytes out.old
+        ++ stays_line (Some (stays_value stays.now))) }
+{
+    out.push_str("from here the plan stays in ")?;
+    push_word(out, stays.numbers.len(), "state")?;
+    out.push_str(" ")?;
+    push_numbers(out, &stays.numbers)?;
+    push_more(out, stays.more)?;
+    out.push_str("\n")
+}
+
+/// Appends numbers, each after a comma but the first.
+fn push_numbers(out: &mut String, numbers: &[u32]) -> Result<(), AllocError>
+    ensures { OnOk result (string_bytes out.new ≡ string_bytes out.old ++ numbers_text numbers.now) }
+{
+    for place in 0..numbers.len() {
+        push_gap(out, place)?;
+        push_number(out, numbers[place])?;
+    }
+    Ok(())
+}
+
+/// Appends a comma and a space before each place but the first.
+fn push_gap(out: &mut String, place: usize) -> Result<(), AllocError>
+    ensures { OnOk result (string_bytes out.new ≡ string_bytes out.old ++ gap_text place) }
+{
+    if place == 0 {
+        return Ok(());
+    }
+    out.push_str(", ")
+}
+
+/// Appends how many numbers are left, where some are.
+fn push_more(out: &mut String, more: usize) -> Result<(), AllocError>
+    ensures { OnOk result (string_bytes out.new ≡ string_bytes out.old ++ more_text more) }
+{
+    if more == 0 {
+        return Ok(());
+    }
+    out.push_str(" and ")?;
+    push_number(out, more)?;
+    out.push_str(" more")
 }
 
 /// What is the matter at the end of a run, as a sentence.

@@ -1,5 +1,5 @@
 -- Marks at all numbers, by those below the number of all.
-use Rattle.std.proofs.Common.{◌≡◌, ◌↔◌, ◌<◌, ℕ, Bool, List, ◌∙◌, length, sym, subst}
+use Rattle.std.proofs.Common.{◌≡◌, ◌↔◌, ◌<◌, ℕ, Bool, List, length, sym, subst}
 use Rattle.plan_check.specs.Walks.{IsMarked}
 use Rattle.plan_check.proofs.MarkFacts.{marked_below}
 

@@ -1,9 +1,9 @@
 -- Runs along the ways that were found.
-use Rattle.std.proofs.Common.{◌≡◌, ◌↔◌, ℕ, suc, ◌<◌, ◌+◌, Bool, true, false, List, [], ◌∷◌, ◌++◌, length, take, get_or, nat_lt, refl, sym, ap, ◌∙◌, subst, arith}
+use Rattle.std.proofs.Common.{◌≡◌, ◌↔◌, ℕ, suc, ◌<◌, ◌+◌, Bool, false, List, [], ◌∷◌, ◌++◌, length, take, get_or, nat_lt, refl, sym, ap, ◌∙◌, subst, arith}
 use Rattle.std.specs.List.{Contains}
 use Rattle.std.proofs.lemmas.Grind.{get_or_default_zero}
 use Rattle.std.proofs.lemmas.List.{take_more}
-use Rattle.task_core.specs.ContextPlans.{Configuration, first_context}
+use Rattle.task_core.specs.ContextPlans.{Configuration}
 use Rattle.task_core.specs.States.{vector}
 use Rattle.task_core.specs.Systems.{System}
 use Rattle.task_core.specs.Tasks.{fluent_count, system_of}
@@ -12,7 +12,6 @@ use Rattle.task_core.specs.declared.tasks.Task.{Task}
 use Rattle.plan_rules.specs.Rules.{plain_of, PlainPlan}
 use Rattle.plan_rules.specs.declared.rules.Plan.{Plan}
 use Rattle.exec_graph.specs.Executions.{GoesTo}
-use Rattle.exec_graph.specs.Orders.{in_first}
 use Rattle.exec_graph.specs.Values.{followers_at, graph_size, plain_graph, state_at}
 use Rattle.exec_graph.specs.declared.graphs.Graph.{Graph}
 use Rattle.plan_check.specs.Walks.{IsMarked, IsWalk, last_number}

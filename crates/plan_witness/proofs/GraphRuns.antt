@@ -1,9 +1,9 @@
 -- The walks of a plan's graph are the paths of the plan, and the runs along them.
-use Rattle.std.proofs.Common.{◌≡◌, ◌↔◌, ℕ, ◌+◌, ◌<◌, ◌≤◌, Bool, true, false, List, [], ◌∷◌, ◌++◌, length, map, get_or, nat_lt, refl, sym, ap, ◌∙◌, subst, arith}
+use Rattle.std.proofs.Common.{◌≡◌, ◌↔◌, ℕ, ◌<◌, Bool, false, List, [], ◌∷◌, ◌++◌, length, map, get_or, refl, sym, ap, ◌∙◌, subst, arith}
 use Rattle.std.specs.List.{Contains}
 use Rattle.std.proofs.lemmas.List.{length-map}
 use Rattle.task_core.specs.Systems.{System}
-use Rattle.task_core.specs.ContextPlans.{Configuration, IsInitial, first_context}
+use Rattle.task_core.specs.ContextPlans.{Configuration, IsInitial}
 use Rattle.task_core.specs.Paths.{IsPath, last_of}
 use Rattle.plan_rules.specs.Rules.{PlainPlan}
 use Rattle.exec_graph.specs.Executions.{GoesTo, IsReachedBy}

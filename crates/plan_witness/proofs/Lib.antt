@@ -8,3 +8,6 @@ pub mod Meanings
 pub mod FoundRuns
 pub mod Leads
 pub mod Everywhere
+pub mod Tall
+pub mod Lengths
+pub mod Onwards

@@ -1,5 +1,5 @@
 -- The reasons, at the numbers of a graph and at the configurations of its plan.
-use Rattle.std.proofs.Common.{◌≡◌, ◌↔◌, ℕ, ◌<◌, Bool, true, false, not, List, [], ◌∷◌, map, nat_lt, Option, Some, None, Result, Ok, Err, refl, sym, ◌∙◌, subst, arith}
+use Rattle.std.proofs.Common.{◌≡◌, ◌↔◌, ℕ, ◌<◌, Bool, true, false, not, List, [], ◌∷◌, map, Option, Some, None, Result, Ok, Err, refl, sym, ◌∙◌, subst, arith}
 use Rattle.std.specs.List.{Contains}
 use Rattle.std.specs.Option.{IfNone, IfSome}
 use Rattle.std.specs.Result.{IfOk}
@@ -162,6 +162,11 @@ module _ (task : Task) (plan : Plan) (graph : Graph) (g : IsGraphIn task plan gr
           (λ x. record { initial = (g.initial i l).0 x.initial; misses = misses.0 x.marked }),
           (λ x. record { initial = (g.initial i l).1 x.initial; marked = misses.1 x.misses }),
         )
+
+-- the plan may reach the configuration of a number
+pub marked_reached : (task : Task) (plan : Plan) (graph : Graph) (g : IsGraphIn task plan graph) (marks : List Bool) (x : Configuration)
+    → IsMarkedPlace (fluent_count task) graph marks x → IsReachedBy (system_of task) (plain_of plan) x
+marked_reached task plan graph g marks x m = subst (IsReachedBy (system_of task) (plain_of plan)) m.place (g.reached m.number m.below)
 
 -- a shortest run to the configuration of a marked number shows what the marks mean
 pub same_run : (task : Task) (plan : Plan) (graph : Graph) (g : IsGraphIn task plan graph) (marks : List Bool) (P : Configuration → Type 0)

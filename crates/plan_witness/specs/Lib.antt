@@ -6,3 +6,7 @@ pub mod Ways
 pub mod Marked
 pub mod Leading
 pub mod Within
+pub mod Scenes
+pub mod Longest
+pub mod Heights
+pub mod Onward

@@ -21,8 +21,9 @@ ghost use Rattle.plan_rules.specs.Plans.{IsPlanOf};
 ghost use Rattle.plan_rules.specs.Rules.{plain_of};
 ghost use Rattle.exec_graph.specs.Values.{IsWithinFluents, followers_at, graph_size};
 ghost use Rattle.plan_witness.specs.Lassos.{ComesBack, IsLasso};
-ghost use Rattle.plan_witness.specs.Marked.{IsGraphIn, IsRoundOf, place_at};
+ghost use Rattle.plan_witness.specs.Marked.{IsGraphIn, IsRoundOf};
 ghost use Rattle.plan_witness.specs.Runs.{NoneReached};
+ghost use Rattle.plan_witness.specs.Scenes.{IsFollowed, place_in, plan_in, size_in, sys_in};
 ghost use Rattle.plan_witness.specs.Values.{lasso_value, steps_value};
 ghost use Rattle.plan_witness.specs.Ways.{
   AreWaysFromSome,
@@ -34,6 +35,7 @@ ghost use Rattle.plan_witness.specs.Ways.{
 ghost use Rattle.plan_witness.specs.Within.{HasStepsWithin, IsRunWithin};
 
 use crate::runs::{Run, RunStep, run_along, starts_of, step_at, steps_along};
+use crate::scenes::Scene;
 use crate::shortest::{Way, shortest_way, way_back};
 use crate::ways::{FAR, Ways, ways_from};
 use exec_graph::{Graph, Steps};
@@ -78,8 +80,9 @@ pub fn cycle_run<L: Ledger>(
     match nearest_round(alloc, graph, &ways, steps)? {
         Some(end) => {
             let way = way_back(alloc, graph, &ways, end)?;
-            let stem = run_along(alloc, task, plan, graph, &way)?;
-            let round = round_along(alloc, task, plan, graph, end, steps)?;
+            let scene = Scene { task, plan, graph };
+            let stem = run_along(alloc, &scene, &way)?;
+            let round = round_along(alloc, &scene, end, steps)?;
             Ok(Some(Lasso { stem, round }))
         }
         None => Ok(None),
@@ -103,7 +106,10 @@ fn nearest_round<L: Ledger>(
     let mut nearest = None;
     let mut least = FAR;
     for i in 0..graph.len() {
-        if is_nearer(alloc, graph, ways, i, least, steps)? {
+        if ways.length_at(i) >= least {
+            continue;
+        }
+        if is_on_round(alloc, graph, i, steps)? {
             least = ways.length_at(i);
             nearest = Some(i);
         }
@@ -111,54 +117,26 @@ fn nearest_round<L: Ledger>(
     Ok(nearest)
 }
 
-/// Whether the way to a number is shorter than a length, and some walk from the number comes back.
-fn is_nearer<L: Ledger>(
-    alloc: Global,
-    graph: &Graph,
-    ways: &Ways,
-    number: u32,
-    bound: u32,
-    steps: &mut Steps<L>,
-) -> Result<bool, AllocError>
-    requires inside { HasFollowersInside graph.now }
-    requires count { length ways.now.lengths.items ≡ graph_size graph.now }
-    requires number { number < graph_size graph.now }
-    ensures nearer { IfOk result (λ nearer.
-        nearer ≡ true → at ways.now.lengths.items number < bound) }
-    ensures on { IfOk result (λ nearer. nearer ≡ true → IsOnRound (followers_at graph.now) number) }
-    ensures not { IfOk result (λ nearer. nearer ≡ false → IsOnRound (followers_at graph.now) number
-        → bound ≤ at ways.now.lengths.items number) }
-{
-    if ways.length_at(number) >= bound {
-        return Ok(false);
-    }
-    is_on_round(alloc, graph, number, steps)
-}
-
 /// The steps of a shortest walk from a number back to it.
 fn round_along<L: Ledger>(
     alloc: Global,
-    task: &Task,
-    plan: &Plan,
-    graph: &Graph,
+    scene: &Scene<'_>,
     number: u32,
     steps: &mut Steps<L>,
 ) -> Result<Vec<RunStep>, AllocError>
-    requires plan { IsPlanOf (fluent_count task.now) (action_count task.now) plan.now }
-    requires graph { IsGraphIn task.now plan.now graph.now }
-    requires within { IsWithinFluents (fluent_count task.now) graph.now }
-    requires number { number < graph_size graph.now }
-    requires on { IsOnRound (followers_at graph.now) number }
-    ensures round { let n = fluent_count task.now in IfOk result (λ round.
-        IsRoundOf (system_of task.now) (plain_of plan.now) (place_at n graph.now)
-        (followers_at graph.now) number (steps_value n round.items)) }
+    requires scene { IsFollowed scene.now }
+    requires number { number < size_in scene.now }
+    requires on { IsOnRound (followers_at scene.now.graph.now) number }
+    ensures round { let n = fluent_count scene.now.task.now in IfOk result (λ round.
+        IsRoundOf (sys_in scene.now) (plan_in scene.now) (place_in scene.now)
+        (followers_at scene.now.graph.now) number (steps_value n round.items)) }
     ensures within { IfOk result (λ round.
-        HasStepsWithin (fluent_count task.now) round.items) }
+        HasStepsWithin (fluent_count scene.now.task.now) round.items) }
 {
-    match round_at(alloc, graph, number, steps)? {
+    match round_at(alloc, scene.graph, number, steps)? {
         Some(way) => {
-            let first = step_at(task, plan, graph, number, way.start);
-            let mut round = steps_along(alloc, task, plan, graph, way.start, &way.numbers)?;
+            let first = step_at(scene, number, way.start);
+            let mut round = steps_along(alloc, scene, way.start, &way.numbers)?;
             round.push_front(first)?;
             Ok(Vec::from(round))
         }

@@ -7,10 +7,14 @@
 #![tactic(auto)]
 
 mod cycles;
+mod heights;
 mod leading;
+mod longest;
+mod onward;
 mod reasons;
 mod rules;
 mod runs;
+mod scenes;
 mod shortest;
 mod steps;
 mod stuck;
@@ -18,8 +22,11 @@ mod unreachable;
 mod ways;
 
 pub use cycles::{Lasso, cycle_run};
+pub use longest::longest_run;
+pub use onward::onward_numbers;
 pub use reasons::{terminal_run, unexecutable_run};
 pub use rules::counting_rule;
 pub use runs::{Run, RunStep, steps_along};
+pub use scenes::{Scene, Spot};
 pub use stuck::{lost_outcome, stuck_run};
 pub use unreachable::{endless_run, goal_run, lost_run};

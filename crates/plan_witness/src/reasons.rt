@@ -31,18 +31,20 @@ ghost use Rattle.exec_graph.specs.Executions.{
   HasBadAction,
   HasBadRule,
   HasLostOutcome,
+  IsReachedBy,
   IsStuckAt,
   IsUnexecutableAt,
 };
 ghost use Rattle.exec_graph.specs.Values.{IsWithinFluents, graph_size};
 ghost use Rattle.plan_witness.specs.Ends.{IsEndOutside, IsNumberOutside};
 ghost use Rattle.plan_witness.specs.Marked.{IsGraphIn, place_at};
-ghost use Rattle.plan_witness.specs.Runs.{IsShortestRun, NoneReached};
+ghost use Rattle.plan_witness.specs.Runs.{IsShortestRun, NoneReached, end_of};
 ghost use Rattle.plan_witness.specs.Values.{run_value};
 ghost use Rattle.plan_witness.specs.Within.{IsRunWithin};
 
 use crate::rules::counting_rule;
 use crate::runs::{Run, shortest_run};
+use crate::scenes::Scene;
 use exec_graph::{Graph, Steps};
 use plan_rules::{AutoRule, Plan, Rule, has_all};
 use std::alloc::{AllocError, Global};
@@ -66,11 +68,15 @@ pub fn unexecutable_run<L: Ledger>(
         IfOk result (λ found. IfSome found (λ run. IsShortestRun sys (plain_of plan.now)
         (IsUnexecutableAt sys (plain_of plan.now)) (run_value n run))) }
     ensures within { IfOk result (λ found. IfSome found (IsRunWithin (fluent_count task.now))) }
+    ensures reached { let n = fluent_count task.now in IfOk result (λ found. IfSome found (λ run.
+        IsReachedBy (system_of task.now) (plain_of plan.now)
+        (end_of (run_value n run).start (run_value n run).steps))) }
     ensures none { let sys = system_of task.now in IfOk result (λ found.
         IfNone found (NoneReached sys (plain_of plan.now) (IsUnexecutableAt sys (plain_of plan.now)))) }
 {
     let marks = unexecutable_marks(alloc, task, plan, graph)?;
-    shortest_run(alloc, task, plan, graph, &marks, steps)
+    let scene = Scene { task, plan, graph };
+    shortest_run(alloc, &scene, &marks, steps)
 }
 
 /// A shortest run to a state outside the goal in which the plan ends; `None` exactly where the plan
@@ -90,11 +96,15 @@ pub fn terminal_run<L: Ledger>(
         IfOk result (λ found. IfSome found (λ run. IsShortestRun sys (plain_of plan.now)
         (IsEndOutside sys (plain_of plan.now)) (run_value n run))) }
     ensures within { IfOk result (λ found. IfSome found (IsRunWithin (fluent_count task.now))) }
+    ensures reached { let n = fluent_count task.now in IfOk result (λ found. IfSome found (λ run.
+        IsReachedBy (system_of task.now) (plain_of plan.now)
+        (end_of (run_value n run).start (run_value n run).steps))) }
     ensures none { let sys = system_of task.now in IfOk result (λ found.
         IfNone found (NoneReached sys (plain_of plan.now) (IsEndOutside sys (plain_of plan.now)))) }
 {
     let marks = ends_outside(alloc, task.goal.as_ref().unwrap(), graph)?;
-    shortest_run(alloc, task, plan, graph, &marks, steps)
+    let scene = Scene { task, plan, graph };
+    shortest_run(alloc, &scene, &marks, steps)
 }
 
 /// A mark for each configuration in which a rule counts whose action can't be executed there.

@@ -14,34 +14,24 @@ ghost use Rattle.std.specs.Prelude.{
 };
 ghost use Rattle.std.specs.List.{Contains};
 ghost use Rattle.task_core.specs.States.{IsWithin, vector};
-ghost use Rattle.task_core.specs.Tasks.{action_count, fluent_count, system_of};
+ghost use Rattle.task_core.specs.Tasks.{fluent_count};
 ghost use Rattle.plan_check.specs.Walks.{IsMarked, IsWalk};
-ghost use Rattle.plan_rules.specs.Plans.{IsPlanOf};
-ghost use Rattle.plan_rules.specs.Rules.{plain_of};
-ghost use Rattle.exec_graph.specs.Values.{
-  IsWithinFluents,
-  followers_at,
-  graph_size,
-  state_at,
-};
-ghost use Rattle.plan_witness.specs.Marked.{
-  IsGraphIn,
-  IsMarkedPlace,
-  IsRunAlong,
-  place_at,
-};
-ghost use Rattle.plan_witness.specs.Runs.{IsShortestRun, IsStepOf};
+ghost use Rattle.exec_graph.specs.Executions.{IsReachedBy};
+ghost use Rattle.exec_graph.specs.Values.{followers_at, graph_size, state_at};
+ghost use Rattle.plan_witness.specs.Marked.{IsMarkedPlace, IsRunAlong};
+ghost use Rattle.plan_witness.specs.Runs.{IsShortestRun, IsStepOf, end_of};
+ghost use Rattle.plan_witness.specs.Scenes.{IsFollowed, place_in, plan_in, size_in, sys_in};
 ghost use Rattle.plan_witness.specs.Within.{HasStepsWithin, IsRunWithin};
 ghost use Rattle.plan_witness.specs.Values.{run_value, step_value, steps_value};
 
+use crate::scenes::{Scene, Spot};
 use crate::shortest::{Way, shortest_way};
 use crate::steps::taken_between;
 use exec_graph::{Graph, Steps};
-use plan_rules::Plan;
 use std::alloc::{AllocError, Global};
 use std::collections::VecDeque;
 use std::sync::ledger::Ledger;
-use task_core::{ActionId, State, Task};
+use task_core::{ActionId, State};
 
 /// A step of a run: the number of the rule in the plan's text, the action, the number of the outcome
 /// among all outcomes of the action, all counted from 0, and the state and the context to which it
@@ -66,27 +56,28 @@ pub struct Run {
 /// number has a mark.
 pub(crate) fn shortest_run<L: Ledger>(
     alloc: Global,
-    task: &Task,
-    plan: &Plan,
-    graph: &Graph,
+    scene: &Scene<'_>,
     ends: &[bool],
     steps: &mut Steps<L>,
 ) -> Result<Option<Run>, AllocError>
-    requires plan { IsPlanOf (fluent_count task.now) (action_count task.now) plan.now }
-    requires graph { IsGraphIn task.now plan.now graph.now }
-    requires within { IsWithinFluents (fluent_count task.now) graph.now }
-    requires count { length ends.now ≡ graph_size graph.now }
-    ensures shortest { let n = fluent_count task.now in IfOk result (λ found. IfSome found (λ run.
-        IsShortestRun (system_of task.now) (plain_of plan.now)
-        (IsMarkedPlace n graph.now ends.now) (run_value n run))) }
-    ensures within { IfOk result (λ found. IfSome found (IsRunWithin (fluent_count task.now))) }
+    requires scene { IsFollowed scene.now }
+    requires count { length ends.now ≡ size_in scene.now }
+    ensures shortest { let n = fluent_count scene.now.task.now in
+        IfOk result (λ found. IfSome found (λ run.
+        IsShortestRun (sys_in scene.now) (plan_in scene.now)
+        (IsMarkedPlace n scene.now.graph.now ends.now) (run_value n run))) }
+    ensures within { IfOk result (λ found. IfSome found
+        (IsRunWithin (fluent_count scene.now.task.now))) }
+    ensures reached { let n = fluent_count scene.now.task.now in
+        IfOk result (λ found. IfSome found (λ run. IsReachedBy (sys_in scene.now) (plan_in scene.now)
+        (end_of (run_value n run).start (run_value n run).steps))) }
     ensures none { IfOk result (λ found. IfNone found ((i : ℕ) → IsMarked ends.now i → ⊥)) }
 {
-    let starts = starts_of(alloc, graph)?;
-    let found = shortest_way(alloc, graph, &starts, ends, steps)?;
+    let starts = starts_of(alloc, scene.graph)?;
+    let found = shortest_way(alloc, scene.graph, &starts, ends, steps)?;
     match found {
         Some(way) => {
-            let run = run_along(alloc, task, plan, graph, &way)?;
+            let run = run_along(alloc, scene, &way)?;
             Ok(Some(run))
         }
         None => Ok(None),
@@ -107,28 +98,20 @@ pub(crate) fn starts_of(alloc: Global, graph: &Graph) -> Result<Vec<bool>, Alloc
 }
 
 /// The run along a way.
-pub(crate) fn run_along(
-    alloc: Global,
-    task: &Task,
-    plan: &Plan,
-    graph: &Graph,
-    way: &Way,
-) -> Result<Run, AllocError>
-    requires plan { IsPlanOf (fluent_count task.now) (action_count task.now) plan.now }
-    requires graph { IsGraphIn task.now plan.now graph.now }
-    requires within { IsWithinFluents (fluent_count task.now) graph.now }
-    requires start { way.now.start < graph_size graph.now }
-    requires walk { IsWalk (followers_at graph.now) way.now.start way.now.numbers.items }
-    ensures start { let n = fluent_count task.now in IfOk result (λ run.
-        vector n run.start ≡ state_at n graph.now way.now.start) }
-    ensures steps { let n = fluent_count task.now in IfOk result (λ run.
-        IsRunAlong (system_of task.now) (plain_of plan.now) (place_at n graph.now)
+pub(crate) fn run_along(alloc: Global, scene: &Scene<'_>, way: &Way) -> Result<Run, AllocError>
+    requires scene { IsFollowed scene.now }
+    requires start { way.now.start < size_in scene.now }
+    requires walk { IsWalk (followers_at scene.now.graph.now) way.now.start way.now.numbers.items }
+    ensures start { let n = fluent_count scene.now.task.now in IfOk result (λ run.
+        vector n run.start ≡ state_at n scene.now.graph.now way.now.start) }
+    ensures steps { let n = fluent_count scene.now.task.now in IfOk result (λ run.
+        IsRunAlong (sys_in scene.now) (plan_in scene.now) (place_in scene.now)
         way.now.start way.now.numbers.items (steps_value n run.steps.items)) }
-    ensures within { IfOk result (IsRunWithin (fluent_count task.now)) }
+    ensures within { IfOk result (IsRunWithin (fluent_count scene.now.task.now)) }
 {
-    let steps = steps_along(alloc, task, plan, graph, way.start, &way.numbers)?;
+    let steps = steps_along(alloc, scene, way.start, &way.numbers)?;
     Ok(Run {
-        start: *graph.state(way.start),
+        start: *scene.graph.state(way.start),
         steps: Vec::from(steps),
     })
 }
@@ -136,28 +119,24 @@ pub(crate) fn run_along(
 /// The steps along a way from a number.
 pub fn steps_along(
     alloc: Global,
-    task: &Task,
-    plan: &Plan,
-    graph: &Graph,
+    scene: &Scene<'_>,
     start: u32,
     numbers: &[u32],
 ) -> Result<VecDeque<RunStep>, AllocError>
-    requires plan { IsPlanOf (fluent_count task.now) (action_count task.now) plan.now }
-    requires graph { IsGraphIn task.now plan.now graph.now }
-    requires within { IsWithinFluents (fluent_count task.now) graph.now }
-    requires start { start < graph_size graph.now }
-    requires walk { IsWalk (followers_at graph.now) start numbers.now }
-    ensures along { let n = fluent_count task.now in IfOk result (λ steps.
-        IsRunAlong (system_of task.now) (plain_of plan.now) (place_at n graph.now)
+    requires scene { IsFollowed scene.now }
+    requires start { start < size_in scene.now }
+    requires walk { IsWalk (followers_at scene.now.graph.now) start numbers.now }
+    ensures along { let n = fluent_count scene.now.task.now in IfOk result (λ steps.
+        IsRunAlong (sys_in scene.now) (plan_in scene.now) (place_in scene.now)
         start numbers.now (steps_value n steps.items)) }
     ensures within { IfOk result (λ steps.
-        HasStepsWithin (fluent_count task.now) steps.items) }
+        HasStepsWithin (fluent_count scene.now.task.now) steps.items) }
 {
     let mut steps = VecDeque::new(alloc);
     let mut from = start;
     for k in 0..numbers.len() {
         let number = number_at(numbers, k);
-        let step = step_at(task, plan, graph, from, number);
+        let step = step_at(scene, from, number);
         steps.push_back(step)?;
         from = number;
     }
@@ -173,25 +152,32 @@ fn number_at(numbers: &[u32], k: usize) -> u32
 }
 
 /// The step from a number to one that follows it.
-pub(crate) fn step_at(task: &Task, plan: &Plan, graph: &Graph, from: u32, to: u32) -> RunStep
-    requires plan { IsPlanOf (fluent_count task.now) (action_count task.now) plan.now }
-    requires graph { IsGraphIn task.now plan.now graph.now }
-    requires within { IsWithinFluents (fluent_count task.now) graph.now }
-    requires from { from < graph_size graph.now }
-    requires to { to < graph_size graph.now }
-    requires follows { Contains (followers_at graph.now from) to }
-    ensures step { let n = fluent_count task.now in
-        IsStepOf (system_of task.now) (plain_of plan.now) (place_at n graph.now from)
+pub(crate) fn step_at(scene: &Scene<'_>, from: u32, to: u32) -> RunStep
+    requires scene { IsFollowed scene.now }
+    requires from { from < size_in scene.now }
+    requires to { to < size_in scene.now }
+    requires follows { Contains (followers_at scene.now.graph.now from) to }
+    ensures step { let n = fluent_count scene.now.task.now in
+        IsStepOf (sys_in scene.now) (plan_in scene.now) (place_in scene.now from)
         (step_value n result) }
-    ensures after { let n = fluent_count task.now in
-        (step_value n result).after ≡ place_at n graph.now to }
-    ensures within { IsWithin (fluent_count task.now) result.state }
+    ensures after { let n = fluent_count scene.now.task.now in
+        (step_value n result).after ≡ place_in scene.now to }
+    ensures within { IsWithin (fluent_count scene.now.task.now) result.state }
 {
+    let graph = scene.graph;
     let source = graph.state(from);
     let target = graph.state(to);
     let context = graph.context(from);
     let next = graph.context(to);
-    let taken = taken_between(task, plan, source, context, target, next);
+    let before = Spot {
+        state: source,
+        context,
+    };
+    let after = Spot {
+        state: target,
+        context: next,
+    };
+    let taken = taken_between(scene.task, scene.plan, &before, &after);
     RunStep {
         rule: taken.rule,
         action: taken.action,

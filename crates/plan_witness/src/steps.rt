@@ -26,8 +26,10 @@ ghost use Rattle.plan_rules.specs.Plans.{IsPlanOf, IsRuleOf};
 ghost use Rattle.plan_rules.specs.Rules.{ContextRule, context_rule_of, plain_of, rule_of};
 ghost use Rattle.exec_graph.specs.Executions.{GoesTo};
 ghost use Rattle.plan_witness.specs.Runs.{IsContextStep, IsCounting, IsStepOf, IsTableStep};
+ghost use Rattle.plan_witness.specs.Scenes.{place_of};
 
 use crate::rules::counting_rule;
+use crate::scenes::Spot;
 use plan_rules::{AutoRule, Plan, Rule, has_all};
 use task_core::{ActionId, State, Task, in_space, is_exec, outcome_count, step};
 
@@ -40,34 +42,24 @@ pub(crate) struct Taken {
 }
 
 /// The step that the plan takes from a state and a context to others that follow.
-pub(crate) fn taken_between(
-    task: &Task,
-    plan: &Plan,
-    from: &State,
-    context: u32,
-    to: &State,
-    next: u32,
-) -> Taken
+pub(crate) fn taken_between(task: &Task, plan: &Plan, from: &Spot<'_>, to: &Spot<'_>) -> Taken
     requires plan { IsPlanOf (fluent_count task.now) (action_count task.now) plan.now }
-    requires from { IsWithin (fluent_count task.now) from.now }
-    requires to { IsWithin (fluent_count task.now) to.now }
+    requires from { IsWithin (fluent_count task.now) from.now.state.now }
+    requires to { IsWithin (fluent_count task.now) to.now.state.now }
     requires follows { let n = fluent_count task.now in
-        GoesTo (system_of task.now) (plain_of plan.now)
-        (record { state = vector n from.now; context = context })
-        (record { state = vector n to.now; context = next }) }
+        GoesTo (system_of task.now) (plain_of plan.now) (place_of n from.now) (place_of n to.now) }
     ensures step { let n = fluent_count task.now in
-        IsStepOf (system_of task.now) (plain_of plan.now)
-        (record { state = vector n from.now; context = context })
+        IsStepOf (system_of task.now) (plain_of plan.now) (place_of n from.now)
         (record {
           rule = result.rule;
           action = result.action.0;
           outcome = result.outcome;
-          after = record { state = vector n to.now; context = next };
+          after = place_of n to.now;
         }) }
 {
     match plan {
-        Plan::Table(table) => in_table(task, &table.rules, from, to),
-        Plan::Auto(auto) => context_step(task, &auto.rules, from, context, to, next),
+        Plan::Table(table) => in_table(task, &table.rules, from.state, to.state),
+        Plan::Auto(auto) => context_step(task, &auto.rules, from, to),
     }
 }
 
@@ -153,36 +145,27 @@ fn outcome_by(task: &Task, rule: &Rule, from: &State, to: &State) -> Option<u32>
 }
 
 /// The rule of an automaton that counts in a state and a context, and its first outcome that leads to
-/// another state, which follows with the context `next`.
-fn context_step(
-    task: &Task,
-    rules: &[AutoRule],
-    from: &State,
-    context: u32,
-    to: &State,
-    next: u32,
-) -> Taken
+/// another state, which follows with its context.
+fn context_step(task: &Task, rules: &[AutoRule], from: &Spot<'_>, to: &Spot<'_>) -> Taken
     requires rules { let n = fluent_count task.now in let m = action_count task.now in
         All (λ rule. IsRunRuleOf n m (context_rule_of rule)) rules.now }
-    requires from { IsWithin (fluent_count task.now) from.now }
-    requires to { IsWithin (fluent_count task.now) to.now }
+    requires from { IsWithin (fluent_count task.now) from.now.state.now }
+    requires to { IsWithin (fluent_count task.now) to.now.state.now }
     requires follows { let n = fluent_count task.now in
         Follows (system_of task.now) (denoted_contexts (map context_rule_of rules.now))
-        (record { state = vector n from.now; context = context })
-        (record { state = vector n to.now; context = next }) }
+        (place_of n from.now) (place_of n to.now) }
     ensures { let n = fluent_count task.now in
-        IsContextStep (system_of task.now) (map context_rule_of rules.now)
-        (record { state = vector n from.now; context = context })
+        IsContextStep (system_of task.now) (map context_rule_of rules.now) (place_of n from.now)
         (record {
           rule = result.rule;
           action = result.action.0;
           outcome = result.outcome;
-          after = record { state = vector n to.now; context = next };
+          after = place_of n to.now;
         }) }
 {
-    let number = counting_number(task, rules, from, context);
+    let number = counting_number(task, rules, from.state, from.context);
     let action = rules[number].action;
-    let outcome = outcome_between(task, from, action, to);
+    let outcome = outcome_between(task, from.state, action, to.state);
     Taken {
         rule: number,
         action,

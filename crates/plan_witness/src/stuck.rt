@@ -24,16 +24,17 @@ ghost use Rattle.plan_guide.specs.RunRules.{IsRunRuleOf};
 ghost use Rattle.plan_rules.specs.Denoted.{next_context};
 ghost use Rattle.plan_rules.specs.Plans.{IsPlanOf};
 ghost use Rattle.plan_rules.specs.Rules.{automaton, context_rule_of, next_of, plain_of};
-ghost use Rattle.exec_graph.specs.Executions.{IsStuckAt};
+ghost use Rattle.exec_graph.specs.Executions.{IsReachedBy, IsStuckAt};
 ghost use Rattle.exec_graph.specs.Values.{IsWithinFluents, graph_size};
 ghost use Rattle.plan_witness.specs.Ends.{IsLostAt, LosesOutcome};
 ghost use Rattle.plan_witness.specs.Marked.{IsGraphIn, place_at};
-ghost use Rattle.plan_witness.specs.Runs.{IsShortestRun, NoneReached};
+ghost use Rattle.plan_witness.specs.Runs.{IsShortestRun, NoneReached, end_of};
 ghost use Rattle.plan_witness.specs.Values.{run_value};
 ghost use Rattle.plan_witness.specs.Within.{IsRunWithin};
 
 use crate::rules::counting_rule;
 use crate::runs::{Run, shortest_run};
+use crate::scenes::Scene;
 use exec_graph::{Graph, Steps};
 use plan_rules::{AutoRule, Plan, context_in, onward_of};
 use std::alloc::{AllocError, Global};
@@ -57,11 +58,15 @@ pub fn stuck_run<L: Ledger>(
         IfOk result (λ found. IfSome found (λ run. IsShortestRun sys (plain_of plan.now)
         (IsStuckAt sys (plain_of plan.now)) (run_value n run))) }
     ensures within { IfOk result (λ found. IfSome found (IsRunWithin (fluent_count task.now))) }
+    ensures reached { let n = fluent_count task.now in IfOk result (λ found. IfSome found (λ run.
+        IsReachedBy (system_of task.now) (plain_of plan.now)
+        (end_of (run_value n run).start (run_value n run).steps))) }
     ensures none { let sys = system_of task.now in IfOk result (λ found.
         IfNone found (NoneReached sys (plain_of plan.now) (IsStuckAt sys (plain_of plan.now)))) }
 {
     let marks = stuck_marks(alloc, task, plan, graph)?;
-    shortest_run(alloc, task, plan, graph, &marks, steps)
+    let scene = Scene { task, plan, graph };
+    shortest_run(alloc, &scene, &marks, steps)
 }
 
 /// A mark for each configuration in which the plan doesn't go on.

@@ -23,16 +23,18 @@ ghost use Rattle.plan_check.specs.Plain.{HasFollowersInside, IsGoalEnd};
 ghost use Rattle.plan_check.specs.Walks.{IsMarked, LeadsToMarked};
 ghost use Rattle.plan_rules.specs.Plans.{IsPlanOf};
 ghost use Rattle.plan_rules.specs.Rules.{plain_of};
+ghost use Rattle.exec_graph.specs.Executions.{IsReachedBy};
 ghost use Rattle.exec_graph.specs.Values.{IsWithinFluents, followers_at, graph_size};
 ghost use Rattle.plan_witness.specs.Ends.{IsEndInside, IsEndless, IsLostStart};
 ghost use Rattle.plan_witness.specs.Leading.{IsMarkedStart};
 ghost use Rattle.plan_witness.specs.Marked.{IsGraphIn};
-ghost use Rattle.plan_witness.specs.Runs.{IsShortestRun, NoneReached};
+ghost use Rattle.plan_witness.specs.Runs.{IsShortestRun, NoneReached, end_of};
 ghost use Rattle.plan_witness.specs.Values.{run_value};
 ghost use Rattle.plan_witness.specs.Within.{IsRunWithin};
 
 use crate::leading::leading;
 use crate::runs::{Run, shortest_run};
+use crate::scenes::Scene;
 use exec_graph::{Graph, Steps};
 use plan_rules::Plan;
 use std::alloc::{AllocError, Global};
@@ -55,12 +57,16 @@ pub fn endless_run<L: Ledger>(
         IfOk result (λ found. IfSome found (λ run. IsShortestRun sys (plain_of plan.now)
         (IsEndless sys (plain_of plan.now)) (run_value n run))) }
     ensures within { IfOk result (λ found. IfSome found (IsRunWithin (fluent_count task.now))) }
+    ensures reached { let n = fluent_count task.now in IfOk result (λ found. IfSome found (λ run.
+        IsReachedBy (system_of task.now) (plain_of plan.now)
+        (end_of (run_value n run).start (run_value n run).steps))) }
     ensures none { let sys = system_of task.now in IfOk result (λ found.
         IfNone found (NoneReached sys (plain_of plan.now) (IsEndless sys (plain_of plan.now)))) }
 {
     let ends = ends_of(alloc, graph)?;
     let marks = not_leading(alloc, graph, &ends, steps)?;
-    shortest_run(alloc, task, plan, graph, &marks, steps)
+    let scene = Scene { task, plan, graph };
+    shortest_run(alloc, &scene, &marks, steps)
 }
 
 /// The run of no step in an initial state from which no path of the plan leads to an end in a goal
@@ -80,13 +86,17 @@ pub fn lost_run<L: Ledger>(
         IfOk result (λ found. IfSome found (λ run. IsShortestRun sys (plain_of plan.now)
         (IsLostStart sys (plain_of plan.now)) (run_value n run))) }
     ensures within { IfOk result (λ found. IfSome found (IsRunWithin (fluent_count task.now))) }
+    ensures reached { let n = fluent_count task.now in IfOk result (λ found. IfSome found (λ run.
+        IsReachedBy (system_of task.now) (plain_of plan.now)
+        (end_of (run_value n run).start (run_value n run).steps))) }
     ensures none { let sys = system_of task.now in IfOk result (λ found.
         IfNone found (NoneReached sys (plain_of plan.now) (IsLostStart sys (plain_of plan.now)))) }
 {
     let ends = goal_ends(alloc, task.goal.as_ref().unwrap(), graph)?;
     let lost = not_leading(alloc, graph, &ends, steps)?;
     let marks = starts_among(alloc, graph, &lost)?;
-    shortest_run(alloc, task, plan, graph, &marks, steps)
+    let scene = Scene { task, plan, graph };
+    shortest_run(alloc, &scene, &marks, steps)
 }
 
 /// A shortest run to a goal state in which the plan ends; `None` exactly where the plan may reach no
@@ -106,11 +116,15 @@ pub fn goal_run<L: Ledger>(
         IfOk result (λ found. IfSome found (λ run. IsShortestRun sys (plain_of plan.now)
         (IsEndInside sys (plain_of plan.now)) (run_value n run))) }
     ensures within { IfOk result (λ found. IfSome found (IsRunWithin (fluent_count task.now))) }
+    ensures reached { let n = fluent_count task.now in IfOk result (λ found. IfSome found (λ run.
+        IsReachedBy (system_of task.now) (plain_of plan.now)
+        (end_of (run_value n run).start (run_value n run).steps))) }
     ensures none { let sys = system_of task.now in IfOk result (λ found.
         IfNone found (NoneReached sys (plain_of plan.now) (IsEndInside sys (plain_of plan.now)))) }
 {
     let marks = goal_ends(alloc, task.goal.as_ref().unwrap(), graph)?;
-    shortest_run(alloc, task, plan, graph, &marks, steps)
+    let scene = Scene { task, plan, graph };
+    shortest_run(alloc, &scene, &marks, steps)
 }
 
 /// A mark for each configuration that none follows.

@@ -11,4 +11,4 @@ use Rattle.finding_document.proofs.documents.finding_document.Goals as goal
 pub returns : goal.returns
 returns c =
     subst (λ (d : Data). IfOk c.value_text.result (λ text. text.items ≡ compact_text d ++ line_feed)) c.in_ok-value.ensures
-    (c.value_text.ensures (rw c.in_ok-value.ensures (document_free (source_value c.args.source.now) c.args.verdict.now (finding_value (fluent_count c.args.source.now.task.now) c.args.found.now))))
+    (c.value_text.ensures (rw c.in_ok-value.ensures (document_free (source_value c.args.source.now) c.args.verdict.now (finding_value (fluent_count c.args.source.now.task.now) c.args.finding.now))))

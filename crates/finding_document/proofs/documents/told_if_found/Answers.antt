@@ -1,6 +1,6 @@
 use Rattle.std.proofs.Common.{◌≡◌, Option, subst, sym}
 use Rattle.task_core.specs.Tasks.{fluent_count}
-use Rattle.plan_finding.specs.Values.{finding_value, source_value}
+use Rattle.plan_finding.specs.Values.{run_found_value, source_value}
 use Rattle.plan_finding.specs.declared.findings.Found.{Found}
 use Rattle.finding_document.specs.Documents.{told_of}
 use Rattle.finding_document.specs.Values.{told_value}
@@ -9,4 +9,4 @@ use Rattle.finding_document.proofs.documents.told_if_found.Goals as goal
 pub returns-in-None : goal.returns-in-None
 returns-in-None c =
     let source = source_value c.args.source.now in
-    subst (λ (o : Option Found). told_value c.nothing_told.result ≡ told_of source (finding_value (fluent_count c.args.source.now.task.now) o)) (sym c.in-None.is) (c.nothing_told.ensures source)
+    subst (λ (o : Option Found). told_value c.nothing_told.result ≡ told_of source (run_found_value (fluent_count c.args.source.now.task.now) o)) (sym c.in-None.is) (c.nothing_told.ensures source)

@@ -6,7 +6,7 @@ use Rattle.plan_witness.specs.Values.{steps_value}
 use Rattle.task_core.specs.Tasks.{fluent_count}
 use Rattle.task_core.specs.declared.conditions.Cond.{Cond}
 use Rattle.goal_witness.specs.Scenes.{size_in}
-use Rattle.goal_witness.specs.declared.scenes.Scene.{Scene}
+use Rattle.plan_witness.specs.declared.scenes.Scene.{Scene}
 use Rattle.goal_witness.proofs.Fails.{ends_af, misses_af, none_everywhere}
 use Rattle.goal_witness.proofs.failing.false_always.Goals as goal
 

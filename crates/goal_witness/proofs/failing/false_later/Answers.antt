@@ -9,7 +9,7 @@ use Rattle.task_core.specs.declared.conditions.Cond.{Cond}
 use Rattle.goal_witness.specs.Scenes.{size_in}
 use Rattle.goal_witness.specs.Walks.{IsWayFound, Lacks, NoneWithout}
 use Rattle.goal_witness.specs.declared.runs.Reached.{Reached}
-use Rattle.goal_witness.specs.declared.scenes.Scene.{Scene}
+use Rattle.plan_witness.specs.declared.scenes.Scene.{Scene}
 use Rattle.goal_witness.proofs.Fails.{leads_ag, not_sat, true_ag}
 use Rattle.goal_witness.proofs.Found.{none_of, some_of}
 use Rattle.goal_witness.proofs.failing.false_later.Goals as goal

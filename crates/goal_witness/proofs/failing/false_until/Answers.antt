@@ -9,7 +9,7 @@ use Rattle.task_core.specs.declared.conditions.Cond.{Cond}
 use Rattle.goal_witness.specs.Scenes.{size_in}
 use Rattle.goal_witness.specs.Walks.{IsWayFound, Lacks, NoneWithout}
 use Rattle.goal_witness.specs.declared.runs.Reached.{Reached}
-use Rattle.goal_witness.specs.declared.scenes.Scene.{Scene}
+use Rattle.plan_witness.specs.declared.scenes.Scene.{Scene}
 use Rattle.goal_witness.proofs.Fails.{ends_au, lacks_au, leads_au, misses_au}
 use Rattle.goal_witness.proofs.Found.{none_of, some_of}
 use Rattle.goal_witness.proofs.failing.false_until.Goals as goal
@@ -32,16 +32,16 @@ way_without-requires-clause-number g c = c.requires.fails.below
 pub way_without-requires-clause-lacks : goal.way_without-requires-clause-lacks
 way_without-requires-clause-lacks g c =
     let scene = c.args.scene.now in
-    lacks_au scene c.requires.scene (ctl_value c.args.left_part.now) (ctl_value c.args.right_part.now) c.args.number c.deref-2.result.now c.requires.fails
-    (shows_as scene (ctl_value c.args.right_part.now) c.in_ok-right.right.items c.deref-2.result.now c.deref-2.ensures.value c.in_ok-right.ensures)
+    lacks_au scene c.requires.scene (ctl_value c.args.parts.left.now) (ctl_value c.args.parts.right.now) c.args.number c.deref-2.result.now c.requires.fails
+    (shows_as scene (ctl_value c.args.parts.right.now) c.in_ok-right.right.items c.deref-2.result.now c.deref-2.ensures.value c.in_ok-right.ensures)
 
 pub returns-in-Some : goal.returns-in-Some
 returns-in-Some g c =
     let scene = c.args.scene.now in
     let way = some_of c.in_ok-reached.field-0 c.in-Some.reached (λ (r : Reached). IsWayFound scene c.deref.result.now c.deref-2.result.now c.args.number (steps_value (fluent_count scene.task.now) r.steps.items) r.end) c.in-Some.is c.in_ok-reached.ensures.some in
-    let left_shows = shows_as scene (ctl_value c.args.left_part.now) c.in_ok-left.left.items c.deref.result.now c.deref.ensures.value c.in_ok-left.ensures in
-    let right_shows = shows_as scene (ctl_value c.args.right_part.now) c.in_ok-right.right.items c.deref-2.result.now c.deref-2.ensures.value c.in_ok-right.ensures in
-    leads_au scene c.requires.scene (ctl_value c.args.left_part.now) (ctl_value c.args.right_part.now) c.args.number c.deref.result.now c.deref-2.result.now (steps_value (fluent_count scene.task.now) c.in-Some.reached.steps.items) c.in-Some.reached.end c.requires.fails
+    let left_shows = shows_as scene (ctl_value c.args.parts.left.now) c.in_ok-left.left.items c.deref.result.now c.deref.ensures.value c.in_ok-left.ensures in
+    let right_shows = shows_as scene (ctl_value c.args.parts.right.now) c.in_ok-right.right.items c.deref-2.result.now c.deref-2.ensures.value c.in_ok-right.ensures in
+    leads_au scene c.requires.scene (ctl_value c.args.parts.left.now) (ctl_value c.args.parts.right.now) c.args.number c.deref.result.now c.deref-2.result.now (steps_value (fluent_count scene.task.now) c.in-Some.reached.steps.items) c.in-Some.reached.end c.requires.fails
     left_shows right_shows way
 
 pub endless-requires-clause-left : goal.endless-requires-clause-left
@@ -63,14 +63,14 @@ endless-requires-clause-none g c =
 pub endless-requires-clause-misses : goal.endless-requires-clause-misses
 endless-requires-clause-misses g c =
     let scene = c.args.scene.now in
-    let left_shows = shows_as scene (ctl_value c.args.left_part.now) c.in_ok-left.left.items c.deref-in-None.result.now c.deref-in-None.ensures.value c.in_ok-left.ensures in
-    let right_shows = shows_as scene (ctl_value c.args.right_part.now) c.in_ok-right.right.items c.deref-in-None-2.result.now c.deref-in-None-2.ensures.value c.in_ok-right.ensures in
-    misses_au scene c.requires.scene (ctl_value c.args.left_part.now) (ctl_value c.args.right_part.now) c.args.number c.deref-in-None.result.now c.deref-in-None-2.result.now c.requires.fails left_shows right_shows
+    let left_shows = shows_as scene (ctl_value c.args.parts.left.now) c.in_ok-left.left.items c.deref-in-None.result.now c.deref-in-None.ensures.value c.in_ok-left.ensures in
+    let right_shows = shows_as scene (ctl_value c.args.parts.right.now) c.in_ok-right.right.items c.deref-in-None-2.result.now c.deref-in-None-2.ensures.value c.in_ok-right.ensures in
+    misses_au scene c.requires.scene (ctl_value c.args.parts.left.now) (ctl_value c.args.parts.right.now) c.args.number c.deref-in-None.result.now c.deref-in-None-2.result.now c.requires.fails left_shows right_shows
 
 pub returns : goal.returns
 returns g c =
     let scene = c.args.scene.now in
-    let left_shows = shows_as scene (ctl_value c.args.left_part.now) c.in_ok-left.left.items c.deref-in-None.result.now c.deref-in-None.ensures.value c.in_ok-left.ensures in
-    let right_shows = shows_as scene (ctl_value c.args.right_part.now) c.in_ok-right.right.items c.deref-in-None-2.result.now c.deref-in-None-2.ensures.value c.in_ok-right.ensures in
+    let left_shows = shows_as scene (ctl_value c.args.parts.left.now) c.in_ok-left.left.items c.deref-in-None.result.now c.deref-in-None.ensures.value c.in_ok-left.ensures in
+    let right_shows = shows_as scene (ctl_value c.args.parts.right.now) c.in_ok-right.right.items c.deref-in-None-2.result.now c.deref-in-None-2.ensures.value c.in_ok-right.ensures in
     let n = fluent_count scene.task.now in
-    ends_au scene c.requires.scene (ctl_value c.args.left_part.now) (ctl_value c.args.right_part.now) c.args.number c.deref-in-None-2.result.now (steps_value n c.in_ok-lasso-in-None.lasso.stem.items) (steps_value n c.in_ok-lasso-in-None.lasso.back.items) c.requires.fails right_shows c.in_ok-lasso-in-None.ensures
+    ends_au scene c.requires.scene (ctl_value c.args.parts.left.now) (ctl_value c.args.parts.right.now) c.args.number c.deref-in-None-2.result.now (steps_value n c.in_ok-lasso-in-None.lasso.stem.items) (steps_value n c.in_ok-lasso-in-None.lasso.back.items) c.requires.fails right_shows c.in_ok-lasso-in-None.ensures

@@ -20,19 +20,19 @@ pub lasso_without-requires-clause-lacks : goal.lasso_without-requires-clause-lac
 lasso_without-requires-clause-lacks g c =
     let scene = c.args.scene.now in
     let s = c.requires.scene in
-    let copied : c.in_ok-whole.whole.items ≡ c.args.right.now = search rules in
-    let least : IsLeast (size_in scene) Each (followers_at scene.graph.now) c.args.left.now c.args.right.now c.spread.new.marks.items =
-    subst (λ ms. IsLeast (size_in scene) Each (followers_at scene.graph.now) c.args.left.now ms c.spread.new.marks.items) copied c.in_ok-spread.ensures.least in
-    let fails = whole_lacks (size_in scene) (followers_at scene.graph.now) s.graph.next_below s.followers c.args.left.now c.args.right.now c.spread.new.marks.items c.requires.left c.requires.right least c.args.number c.requires.number c.requires.none c.requires.misses in
-    right_lacks (size_in scene) (followers_at scene.graph.now) s.graph.next_below s.followers c.args.left.now c.args.right.now c.spread.new.marks.items c.requires.left c.requires.right least c.args.number c.requires.number c.requires.none c.requires.misses c.args.number fails
+    let copied : c.in_ok-whole.whole.items ≡ c.args.sides.right.now = search rules in
+    let least : IsLeast (size_in scene) Each (followers_at scene.graph.now) c.args.sides.left.now c.args.sides.right.now c.spread.new.marks.items =
+    subst (λ ms. IsLeast (size_in scene) Each (followers_at scene.graph.now) c.args.sides.left.now ms c.spread.new.marks.items) copied c.in_ok-spread.ensures.least in
+    let fails = whole_lacks (size_in scene) (followers_at scene.graph.now) s.graph.next_below s.followers c.args.sides.left.now c.args.sides.right.now c.spread.new.marks.items c.requires.left c.requires.right least c.args.number c.requires.number c.requires.none c.requires.misses in
+    right_lacks (size_in scene) (followers_at scene.graph.now) s.graph.next_below s.followers c.args.sides.left.now c.args.sides.right.now c.spread.new.marks.items c.requires.left c.requires.right least c.args.number c.requires.number c.requires.none c.requires.misses c.args.number fails
 
 pub returns : goal.returns
 returns g c =
     let scene = c.args.scene.now in
     let s = c.requires.scene in
-    let copied : c.in_ok-whole.whole.items ≡ c.args.right.now = search rules in
-    let least : IsLeast (size_in scene) Each (followers_at scene.graph.now) c.args.left.now c.args.right.now c.spread.new.marks.items =
-    subst (λ ms. IsLeast (size_in scene) Each (followers_at scene.graph.now) c.args.left.now ms c.spread.new.marks.items) copied c.in_ok-spread.ensures.least in
+    let copied : c.in_ok-whole.whole.items ≡ c.args.sides.right.now = search rules in
+    let least : IsLeast (size_in scene) Each (followers_at scene.graph.now) c.args.sides.left.now c.args.sides.right.now c.spread.new.marks.items =
+    subst (λ ms. IsLeast (size_in scene) Each (followers_at scene.graph.now) c.args.sides.left.now ms c.spread.new.marks.items) copied c.in_ok-spread.ensures.least in
     absurd
-    (comes_back (size_in scene) (followers_at scene.graph.now) s.graph.next_below s.followers c.args.left.now c.args.right.now c.spread.new.marks.items c.requires.left c.requires.right least c.args.number c.requires.number c.requires.none c.requires.misses
-    (none_of c.in_ok-lasso.field-0 (NoneWithout (followers_at scene.graph.now) c.args.right.now (IsRoundWithout (followers_at scene.graph.now) c.args.right.now) c.args.number) c.in-None.is c.in_ok-lasso.ensures.none))
+    (comes_back (size_in scene) (followers_at scene.graph.now) s.graph.next_below s.followers c.args.sides.left.now c.args.sides.right.now c.spread.new.marks.items c.requires.left c.requires.right least c.args.number c.requires.number c.requires.none c.requires.misses
+    (none_of c.in_ok-lasso.field-0 (NoneWithout (followers_at scene.graph.now) c.args.sides.right.now (IsRoundWithout (followers_at scene.graph.now) c.args.sides.right.now) c.args.number) c.in-None.is c.in_ok-lasso.ensures.none))

@@ -16,7 +16,7 @@ joined-requires g c = c.requires.right ∙ sym c.requires.left
 
 pub shortest_way-requires-clause-zone : goal.shortest_way-requires-clause-zone
 shortest_way-requires-clause-zone g c =
-    zone c.args.scene.now c.requires.scene c.args.right.now c.in_ok-inside.inside.items c.requires.right c.in_ok-inside.ensures c.args.number c.requires.number c.requires.lacks c.deref.result.now c.deref.ensures.value
+    zone c.args.scene.now c.requires.scene c.args.sides.right.now c.in_ok-inside.inside.items c.requires.right c.in_ok-inside.ensures c.args.number c.requires.number c.requires.lacks c.deref.result.now c.deref.ensures.value
 
 pub shortest_way-requires-clause-starts : goal.shortest_way-requires-clause-starts
 shortest_way-requires-clause-starts g c = ap length c.deref-2.ensures.value ∙ c.in_ok-only.ensures.count
@@ -33,8 +33,8 @@ steps_of-requires-clause-walk g c =
     let ends = c.deref-3.result.now in
     let way = c.in-Some.way in
     let shortest = some_of c.in_ok-way.field-0 way (λ (w : Way). IsShortestWay (kept next read) starts (IsMarked ends) w.start w.numbers.items) c.in-Some.is c.in_ok-way.ensures.shortest in
-    let found = found_way scene c.requires.scene c.args.right.now c.in_ok-inside.inside.items c.requires.right c.in_ok-inside.ensures c.args.number c.requires.number c.requires.lacks
-    c.args.left.now c.in_ok-ends.ends.items starts ends read c.deref.ensures.value c.requires.left c.in_ok-ends.ensures c.deref-3.ensures.value c.in_ok-only.only.items c.deref-2.ensures.value c.in_ok-only.ensures.count c.in_ok-only.ensures.marked
+    let found = found_way scene c.requires.scene c.args.sides.right.now c.in_ok-inside.inside.items c.requires.right c.in_ok-inside.ensures c.args.number c.requires.number c.requires.lacks
+    c.args.sides.left.now c.in_ok-ends.ends.items starts ends read c.deref.ensures.value c.requires.left c.in_ok-ends.ensures c.deref-3.ensures.value c.in_ok-only.only.items c.deref-2.ensures.value c.in_ok-only.ensures.count c.in_ok-only.ensures.marked
     way.start way.numbers.items shortest in
     subst (IsWalk next c.args.number) (sym c.deref-in-Some.ensures.value) found.walk.walk
 
@@ -48,11 +48,11 @@ returns-in-Some-clause-some g c =
     let way = c.in-Some.way in
     let shortest = some_of c.in_ok-way.field-0 way (λ (w : Way). IsShortestWay (kept next read) starts (IsMarked ends) w.start w.numbers.items) c.in-Some.is c.in_ok-way.ensures.shortest in
     let end = some_of c.in_ok-way.field-0 way (λ (w : Way). last_number w.start w.numbers.items ≡ w.end) c.in-Some.is c.in_ok-way.ensures.end in
-    let found = found_way scene c.requires.scene c.args.right.now c.in_ok-inside.inside.items c.requires.right c.in_ok-inside.ensures c.args.number c.requires.number c.requires.lacks
-    c.args.left.now c.in_ok-ends.ends.items starts ends read c.deref.ensures.value c.requires.left c.in_ok-ends.ensures c.deref-3.ensures.value c.in_ok-only.only.items c.deref-2.ensures.value c.in_ok-only.ensures.count c.in_ok-only.ensures.marked
+    let found = found_way scene c.requires.scene c.args.sides.right.now c.in_ok-inside.inside.items c.requires.right c.in_ok-inside.ensures c.args.number c.requires.number c.requires.lacks
+    c.args.sides.left.now c.in_ok-ends.ends.items starts ends read c.deref.ensures.value c.requires.left c.in_ok-ends.ensures c.deref-3.ensures.value c.in_ok-only.only.items c.deref-2.ensures.value c.in_ok-only.ensures.count c.in_ok-only.ensures.marked
     way.start way.numbers.items shortest in
-    let is : way.start ≡ c.args.number = found_start scene c.requires.scene c.args.right.now c.in_ok-inside.inside.items c.requires.right c.in_ok-inside.ensures c.args.number c.requires.number c.requires.lacks
-    c.args.left.now c.in_ok-ends.ends.items starts ends read c.deref.ensures.value c.requires.left c.in_ok-ends.ensures c.deref-3.ensures.value c.in_ok-only.only.items c.deref-2.ensures.value c.in_ok-only.ensures.count c.in_ok-only.ensures.marked
+    let is : way.start ≡ c.args.number = found_start scene c.requires.scene c.args.sides.right.now c.in_ok-inside.inside.items c.requires.right c.in_ok-inside.ensures c.args.number c.requires.number c.requires.lacks
+    c.args.sides.left.now c.in_ok-ends.ends.items starts ends read c.deref.ensures.value c.requires.left c.in_ok-ends.ensures c.deref-3.ensures.value c.in_ok-only.only.items c.deref-2.ensures.value c.in_ok-only.ensures.count c.in_ok-only.ensures.marked
     way.start shortest.begins in
     record {
       numbers = way.numbers.items;
@@ -68,6 +68,6 @@ returns-clause-none g c =
     let read = c.deref.result.now in
     let starts = c.deref-2.result.now in
     let ends = c.deref-3.result.now in
-    no_way scene c.requires.scene c.args.right.now c.in_ok-inside.inside.items c.requires.right c.in_ok-inside.ensures c.args.number c.requires.number c.requires.lacks
-    c.args.left.now c.in_ok-ends.ends.items starts ends read c.deref.ensures.value c.requires.left c.in_ok-ends.ensures c.deref-3.ensures.value c.in_ok-only.only.items c.deref-2.ensures.value c.in_ok-only.ensures.count c.in_ok-only.ensures.marked
+    no_way scene c.requires.scene c.args.sides.right.now c.in_ok-inside.inside.items c.requires.right c.in_ok-inside.ensures c.args.number c.requires.number c.requires.lacks
+    c.args.sides.left.now c.in_ok-ends.ends.items starts ends read c.deref.ensures.value c.requires.left c.in_ok-ends.ensures c.deref-3.ensures.value c.in_ok-only.only.items c.deref-2.ensures.value c.in_ok-only.ensures.count c.in_ok-only.ensures.marked
     (none_of c.in_ok-way.field-0 (NoneLeads (kept next read) starts (IsMarked ends)) c.in-None.is c.in_ok-way.ensures.none)

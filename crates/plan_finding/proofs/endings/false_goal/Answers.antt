@@ -1,4 +1,4 @@
-use Rattle.std.proofs.Common.{◌≡◌, Some, sym, ap, ◌∙◌}
+use Rattle.std.proofs.Common.{sym, ap, ◌∙◌}
 use Rattle.std.specs.Option.{option_copied}
 use Rattle.plan_check.proofs.GraphVerdicts.{goal_small}
 use Rattle.plan_finding.proofs.FalseParts.{found_goal}

@@ -1,4 +1,4 @@
-use Rattle.std.proofs.Common.{◌≡◌, ◌∙◌, ap, map, Some, sym}
+use Rattle.std.proofs.Common.{◌∙◌, ap, map, Some, sym}
 use Rattle.std.proofs.lemmas.Option.{slice_get-get_or}
 use Rattle.task_core.specs.ContextPlans.{Configuration}
 use Rattle.task_core.specs.States.{vector}

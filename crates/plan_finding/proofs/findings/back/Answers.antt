@@ -1,15 +1,18 @@
-use Rattle.std.proofs.Common.{◌≡◌, ◌∙◌, ap, arith, map}
+use Rattle.std.proofs.Common.{◌∙◌, ap, arith, subst, sym}
 use Rattle.std.proofs.lemmas.List.{length-map, map-append}
-use Rattle.task_core.specs.States.{vector}
+use Rattle.std.proofs.lemmas.List.Elements.{All-append}
+use Rattle.task_core.specs.States.{IsWithin, vector}
 use Rattle.task_core.specs.Tasks.{fluent_count}
 use Rattle.exec_graph.specs.Orders.{in_first}
 use Rattle.plan_rules.specs.Rules.{plain_of}
 use Rattle.plan_witness.specs.Values.{lasso_value, run_value, step_value, steps_value}
+use Rattle.plan_witness.specs.Within.{HasStepsWithin}
+use Rattle.plan_witness.specs.declared.runs.RunStep.{RunStep}
 use Rattle.plan_finding.proofs.Stems.{found_back}
 use Rattle.plan_finding.proofs.findings.back.Goals as goal
 
-pub returns : goal.returns
-returns c =
+pub returns-clause-found : goal.returns-clause-found
+returns-clause-found c =
     let n = fluent_count c.args.task.now in
     let lasso = c.args.lasso in
     found_back c.args.task.now (plain_of c.args.plan.now) c.in_ok-number.number _ (lasso_value n lasso) (run_value n c.in_ok-run.run')
@@ -17,3 +20,12 @@ returns c =
     (ap (steps_value n) c.in_ok-run.ensures.steps ∙ map-append (step_value n) lasso.stem.steps.items lasso.round.items)
     (omega (arith, lasso.stem.steps.ok.0, c.len-stem.ensures, length-map lasso.stem.steps.items (step_value n)))
     c.in_ok-number.ensures c.requires.lasso
+
+pub returns-clause-within : goal.returns-clause-within
+returns-clause-within c =
+    let n = fluent_count c.args.task.now in
+    let lasso = c.args.lasso in
+    record {
+      start = subst (IsWithin n) (sym c.in_ok-run.ensures.start) c.requires.stem.start;
+      steps = subst (HasStepsWithin n) (sym c.in_ok-run.ensures.steps) (All-append (λ (step : RunStep). IsWithin n step.state) lasso.stem.steps.items lasso.round.items c.requires.stem.steps c.requires.round);
+    }

@@ -1,5 +1,5 @@
-use Rattle.std.proofs.Common.{◌≡◌, ◌∙◌, ap, map, slice_get, Some, subst, sym}
-use Rattle.std.specs.List.{All, Contains}
+use Rattle.std.proofs.Common.{◌≡◌, ◌∙◌, ap, map, slice_get, subst, sym}
+use Rattle.std.specs.List.{All}
 use Rattle.task_core.specs.States.{IsWithin, vector}
 use Rattle.task_core.specs.Tasks.{fluent_count, initial_states}
 use Rattle.plan_finding.specs.Places.{place_in}

@@ -1,7 +1,5 @@
-use Rattle.std.proofs.Common.{◌≡◌, ◌+◌, ◌∙◌, ap, arith, length, map, sym}
-use Rattle.task_core.specs.States.{vector}
-use Rattle.plan_finding.specs.Places.{place_in}
-use Rattle.plan_finding.proofs.Placed.{drop_all, looked_at, looked_past}
+use Rattle.std.proofs.Common.{◌∙◌, sym}
+use Rattle.plan_finding.proofs.Placed.{looked_at, looked_past}
 use Rattle.plan_finding.proofs.numbers.place_of.Goals as goal
 
 pub returns-then-eq : goal.returns-then-eq

@@ -1,4 +1,4 @@
-use Rattle.std.proofs.Common.{◌≡◌, ◌↔◌, ◌∙◌, ap, map, not, subst, sym}
+use Rattle.std.proofs.Common.{◌↔◌, ◌∙◌, ap, map, not, subst, sym}
 use Rattle.std.specs.Prelude.{IsTrue}
 use Rattle.std.proofs.lemmas.Bool.{false≢true}
 use Rattle.task_core.specs.States.{vector}

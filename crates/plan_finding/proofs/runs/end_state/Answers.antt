@@ -1,4 +1,4 @@
-use Rattle.std.proofs.Common.{◌≡◌, ◌∙◌, ◌-◌, ap, length, List, slice_get, Some, subst, sym}
+use Rattle.std.proofs.Common.{◌≡◌, ◌-◌, ap, length, List, slice_get, Some, subst, sym}
 use Rattle.task_core.specs.States.{vector}
 use Rattle.exec_graph.specs.Orders.{in_first}
 use Rattle.plan_witness.specs.declared.runs.RunStep.{RunStep}

@@ -6,7 +6,6 @@ use Rattle.goal_witness.specs.declared.lines.Line.{Line}
 use Rattle.plan_finding.specs.Texts.{conditions_text, ending_text, missed_text, round_text}
 use Rattle.plan_finding.specs.Values.{ending_value, source_value}
 use Rattle.plan_finding.specs.declared.endings.Ending.{Ending as CodeEnding}
-use Rattle.plan_finding.specs.declared.endings.Ending.TheVariants.{OutsideGoal}
 use Rattle.plan_finding.proofs.Pushed.{on_ok, pushed_two, when_ok}
 use Rattle.plan_finding.proofs.texts.push_ending.Goals as goal
 

@@ -1,7 +1,6 @@
 use Rattle.std.proofs.Common.{◌≡◌, ◌++◌, string_bytes}
 use Rattle.task_core.specs.States.{vector}
 use Rattle.task_core.specs.Tasks.{fluent_count, fluent_names}
-use Rattle.plan_rules.specs.Rules.{plain_of}
 use Rattle.plan_rules.specs.Texts.{line_feed}
 use Rattle.plan_witness.specs.Values.{step_value}
 use Rattle.state_text.specs.Texts.{changes_text}

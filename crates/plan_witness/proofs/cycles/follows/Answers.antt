@@ -1,7 +1,5 @@
-use Rattle.std.proofs.Common.{◌≡◌, ◌<◌, ◌∙◌, eqb, get_or, length, refl, sym, arith}
-use borrow.Author.Count.{below_more}
-use Rattle.std.proofs.lemmas.Bool.{eqb-true, false≢true}
-use Rattle.std.proofs.lemmas.Grind.{get_or_default_zero}
+use Rattle.std.proofs.Common.{arith}
+use Rattle.std.proofs.lemmas.Bool.{false≢true}
 use Rattle.exec_graph.specs.Values.{followers_at}
 use Rattle.plan_witness.proofs.Leads.{contained_at}
 use Rattle.plan_witness.proofs.cycles.follows.Goals as goal

@@ -1,7 +1,5 @@
 -- The marks so far.
 use Rattle.std.proofs.Common.{ℕ, ◌<◌, ◌≡◌, ◌↔◌, length}
-use Rattle.std.specs.List.{Contains}
-use Rattle.exec_graph.specs.Values.{followers_at}
 use Rattle.plan_check.specs.Walks.{IsMarked}
 use Rattle.plan_witness.proofs.cycles.only_mark.Given as goal
 

@@ -1,4 +1,4 @@
-use Rattle.std.proofs.Common.{◌≡◌, ◌∙◌, Option, subst, sym}
+use Rattle.std.proofs.Common.{◌∙◌, Option, subst, sym}
 use Rattle.std.specs.Prelude.{IfSome}
 use Rattle.std.proofs.lemmas.List.Elements.{All-cons}
 use Rattle.task_core.specs.States.{IsWithin}
@@ -12,16 +12,16 @@ use Rattle.plan_witness.proofs.cycles.round_along.Goals as goal
 
 pub step_at-first-requires-clause-to : goal.step_at-first-requires-clause-to
 step_at-first-requires-clause-to g c =
-    let round = subst (λ (o : Option Way). IfSome o (λ way. IsShortestRoundAt (followers_at c.args.graph.now) c.args.number way.start way.numbers.items)) c.in-Some.is c.in_ok-way.ensures.some in
-    c.requires.graph.next_below c.args.number c.in-Some.way.start c.requires.number round.follows
+    let round = subst (λ (o : Option Way). IfSome o (λ way. IsShortestRoundAt (followers_at c.args.scene.now.graph.now) c.args.number way.start way.numbers.items)) c.in-Some.is c.in_ok-way.ensures.some in
+    c.requires.scene.graph.next_below c.args.number c.in-Some.way.start c.requires.number round.follows
 
 pub steps_along-requires-clause-start : goal.steps_along-requires-clause-start
 steps_along-requires-clause-start g c =
-    let round = subst (λ (o : Option Way). IfSome o (λ way. IsShortestRoundAt (followers_at c.args.graph.now) c.args.number way.start way.numbers.items)) c.in-Some.is c.in_ok-way.ensures.some in
-    c.requires.graph.next_below c.args.number c.in-Some.way.start c.requires.number round.follows
+    let round = subst (λ (o : Option Way). IfSome o (λ way. IsShortestRoundAt (followers_at c.args.scene.now.graph.now) c.args.number way.start way.numbers.items)) c.in-Some.is c.in_ok-way.ensures.some in
+    c.requires.scene.graph.next_below c.args.number c.in-Some.way.start c.requires.number round.follows
 
 pub returns-in_ok-push_front-in-Some-clause-within : goal.returns-in_ok-push_front-in-Some-clause-within
 returns-in_ok-push_front-in-Some-clause-within g c =
-    let n = fluent_count c.args.task.now in
+    let n = fluent_count c.args.scene.now.task.now in
     subst (HasStepsWithin n) (sym (c.from.ensures.0 ∙ c.in_ok-push_front-in-Some.ensures.items))
     (All-cons (λ (step : RunStep). IsWithin n step.state) c.step_at-first.result c.in_ok-round-in-Some.round.items c.step_at-first.ensures.within c.in_ok-round-in-Some.ensures.within)

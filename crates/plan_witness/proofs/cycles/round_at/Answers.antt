@@ -1,4 +1,4 @@
-use Rattle.std.proofs.Common.{◌≡◌, ◌↔◌, ◌<◌, ℕ, subst, sym}
+use Rattle.std.proofs.Common.{◌≡◌, ◌<◌, subst, sym}
 use Rattle.std.specs.List.{Contains}
 use Rattle.exec_graph.specs.Values.{followers_at, graph_size}
 use Rattle.plan_check.specs.Walks.{IsMarked}

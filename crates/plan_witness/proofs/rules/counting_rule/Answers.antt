@@ -1,4 +1,4 @@
-use Rattle.std.proofs.Common.{◌≡◌, false, map, refl, sym, ap, ◌∙◌, subst, arith}
+use Rattle.std.proofs.Common.{◌≡◌, false, map, sym, ap, ◌∙◌, arith}
 use Rattle.std.specs.Prelude.{slice_get, Some}
 use borrow.Author.Count.{below_more}
 use Rattle.std.proofs.lemmas.List.{length-map}
@@ -6,7 +6,7 @@ use Rattle.std.proofs.lemmas.Option.{same_Some, slice_get-get_or}
 use Rattle.task_core.specs.ContextPlans.{Configuration}
 use Rattle.task_core.specs.States.{vector}
 use Rattle.task_core.specs.Tasks.{fluent_count}
-use Rattle.plan_rules.specs.Rules.{ContextRule, context_rule_of}
+use Rattle.plan_rules.specs.Rules.{context_rule_of}
 use Rattle.plan_witness.specs.Runs.{is_for}
 use Rattle.plan_witness.proofs.Counting.{find_nothing, get_below}
 use Rattle.plan_witness.proofs.Taken.{get_mapped}

@@ -1,7 +1,6 @@
 -- No rule so far counts.
 use Rattle.std.proofs.Common.{◌≡◌, ◌<◌, ℕ, false, map}
 use Rattle.std.specs.Prelude.{slice_get, Some}
-use Rattle.task_core.specs.ContextPlans.{Configuration}
 use Rattle.task_core.specs.States.{vector}
 use Rattle.task_core.specs.Tasks.{fluent_count}
 use Rattle.plan_rules.specs.Rules.{ContextRule, context_rule_of}

@@ -11,8 +11,8 @@ use Rattle.plan_witness.proofs.runs.steps_along.Given as goal
 
 abbrev pub invariant-loop-k : goal.invariant-loop-k
 invariant-loop-k l = record {
-  below : l.from < graph_size l.graph;
+  below : l.from < graph_size l.scene.graph.now;
   last : l.from ≡ last_number l.start (take l.k l.numbers);
-  along : IsRunAlong (system_of l.task) (plain_of l.plan) (place_at (fluent_count l.task) l.graph) l.start (take l.k l.numbers) (steps_value (fluent_count l.task) l.steps.items);
-  within : HasStepsWithin (fluent_count l.task) l.steps.items;
+  along : IsRunAlong (system_of l.scene.task.now) (plain_of l.scene.plan.now) (place_at (fluent_count l.scene.task.now) l.scene.graph.now) l.start (take l.k l.numbers) (steps_value (fluent_count l.scene.task.now) l.steps.items);
+  within : HasStepsWithin (fluent_count l.scene.task.now) l.steps.items;
 }

@@ -1,4 +1,4 @@
-use Rattle.task_core.specs.Tasks.{fluent_count, system_of}
+use Rattle.task_core.specs.Tasks.{system_of}
 use Rattle.plan_witness.proofs.Counting.{outcome_exec, some_by}
 use Rattle.plan_witness.proofs.steps.outcome_between.Goals as goal
 

@@ -1,9 +1,8 @@
-use Rattle.std.proofs.Common.{◌≡◌, None, Option, Some, refl, sym, ap, ◌∙◌, subst}
+use Rattle.std.proofs.Common.{None, Some, sym, ap, ◌∙◌}
 use Rattle.std.proofs.lemmas.Bool.{cond-false, cond-true, false≢true}
 use Rattle.std.proofs.lemmas.Option.{none-some, same_Some}
 use Rattle.task_core.specs.States.{vector}
-use Rattle.task_core.specs.Tasks.{fluent_count, in_space, system_of}
-use Rattle.task_core.specs.Vectors.{Vector}
+use Rattle.task_core.specs.Tasks.{fluent_count, in_space}
 use Rattle.plan_rules.specs.Denoted.{next_context}
 use Rattle.plan_rules.specs.Rules.{next_of}
 use Rattle.plan_witness.proofs.stuck.is_lost_at.Goals as goal

@@ -1,4 +1,4 @@
-use Rattle.std.proofs.Common.{◌≡◌, ◌↔◌, get_or, map, true, sym, subst}
+use Rattle.std.proofs.Common.{◌≡◌, ◌↔◌, get_or, map, true, subst}
 use Rattle.std.proofs.lemmas.Option.{slice_get-get_or}
 use Rattle.task_core.specs.States.{vector}
 use Rattle.task_core.specs.Tasks.{fluent_count, system_of}
