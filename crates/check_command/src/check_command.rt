@@ -34,7 +34,8 @@ ghost use Rattle.pddl_system.specs.Names.{NamesAreWords};
 ghost use Rattle.pddl_system.specs.Sizes.{first_passed};
 ghost use Rattle.plan_io.specs.Fetches.{FailedLast, Fetches};
 ghost use Rattle.plan_rules.specs.Plans.{IsPlanOf};
-ghost use Rattle.plan_rules.specs.Rules.{ContextRule, PlainPlan, automaton, plain_of};
+ghost use Rattle.plan_check.specs.Verdicts.{IsVerdict};
+ghost use Rattle.plan_rules.specs.Rules.{ContextRule, PlainPlan, PlanRule, automaton, plain_of, table};
 ghost use Rattle.std.specs.Prelude.{◌≡◌, ◌⊎◌, [], ◌∷◌, IfOk, IfSome, IsSome, List, None, true, ℕ};
 ghost use Rattle.task_core.specs.Tasks.{action_count, fluent_count, initial_states, system_of};
 
@@ -48,9 +49,11 @@ use pddl_ast::{Domain, Problem};
 use pddl_system::grounded_goals_are_true;
 use plan_check::{Reason, Verdict, judge_class, judge_ctl};
 use plan_io::Shelf;
-use plan_rules::{Plan, PlanRead};
+use plan_rules::{Class, Plan, PlanRead};
 use sexpr_text::{FaultKind, InputFault};
+use short_conditions::short_task;
 use std::alloc::{AllocError, Global};
+use task_core::Task;
 
 /// The verdict on the plan in a file, for the domain and the problem in two files.
 pub fn check_files<S: Shelf>(
@@ -186,8 +189,9 @@ fn judge(
     }
 }
 
-/// The verdict on the plan of the kind whose graph this is.
-fn verdict_on(
+/// The verdict on the plan of the kind whose graph this is, for the goal of the kind, which the task has.
+/// Fails only where memory runs out.
+pub fn verdict_on(
     alloc: Global,
     kind: PlanKind,
     grounded: &Grounded,
@@ -205,9 +209,32 @@ fn verdict_on(
         → IfOk result (IsTaskVerdict (kind_of kind) grounded.now.task grounded.now.ctl plan) }
 {
     match kind {
-        PlanKind::Class(class) => judge_class(alloc, &grounded.task, graph, class),
+        PlanKind::Class(class) => class_verdict(alloc, class, &grounded.task, graph),
         PlanKind::Contexts => context_verdict(alloc, grounded, graph),
     }
+}
+
+/// The verdict on the plan of a class whose graph this is. The goal is asked in each state that the plan
+/// reaches, so it is its short form that is asked.
+fn class_verdict(
+    alloc: Global,
+    class: Class,
+    task: &Task,
+    graph: &Graph,
+) -> Result<Verdict, AllocError>
+    requires goal { IsSome task.now.goal }
+    requires graph { (word : Class) × ((rules : List PlanRule)
+        × IsGraphOf (system_of task.now) (table word rules)
+        (plain_graph (fluent_count task.now) graph.now)) }
+    ensures { (word : Class) (rules : List PlanRule)
+        → IsGraphOf (system_of task.now) (table word rules)
+        (plain_graph (fluent_count task.now) graph.now)
+        → IfOk result (IsVerdict (system_of task.now) rules class) }
+{
+    let short = short_task(alloc, task)?;
+    // The short task has a goal where the task has one. No clause says so, so the task serves else.
+    let asked = if short.goal.is_some() { &short } else { task };
+    judge_class(alloc, asked, graph, class)
 }
 
 /// The verdict on the plan with contexts whose graph this is.

@@ -12,35 +12,31 @@ ghost use Rattle.command_base.specs.Words.{IsNodeLimit};
 ghost use Rattle.ctl_syntax.specs.Values.{NamesBelow, ctl_value};
 ghost use Rattle.exec_graph.specs.Graphs.{IsGraphOf};
 ghost use Rattle.exec_graph.specs.Values.{plain_graph};
-ghost use Rattle.check_command.specs.Judged.{HasGoalIn, IsTaskVerdict};
+ghost use Rattle.check_command.specs.Judged.{HasGoalIn};
 ghost use Rattle.plan_command.specs.PlanCommand.{IsWrittenFor};
 ghost use Rattle.command_base.specs.PlanFiles.{is_of_kind};
 ghost use Rattle.command_base.specs.Values.{kind_of};
-ghost use Rattle.command_base.specs.Words.{with_contexts};
 ghost use Rattle.plan_check.specs.Verdicts.{SaysYes};
 ghost use Rattle.plan_rules.specs.Plans.{IsPlanOf};
-ghost use Rattle.plan_rules.specs.Rules.{ContextRule, PlainPlan, automaton, plain_of};
+ghost use Rattle.plan_rules.specs.Rules.{PlainPlan, plain_of};
 ghost use Rattle.std.specs.Prelude.{
   ◌≡◌,
   ◌↔◌,
   IfNone,
   IfOk,
   IfSome,
-  IsSome,
   IsTrue,
-  List,
   true,
-  ℕ,
 };
 ghost use Rattle.task_core.specs.Tasks.{action_count, fluent_count, system_of};
 
 use crate::set_judge::are_good_rules;
+use check_command::verdict_on;
 use command_base::PlanKind;
 use controller_rules::{is_plan_of, names_last_context, rules_serve};
-use ctl_syntax::Ctl;
 use exec_graph::{Graph, GraphErr, explore};
 use ground_task::Grounded;
-use plan_check::{Verdict, judge_class, judge_ctl};
+use plan_check::Verdict;
 use plan_document::is_told_in_full;
 use plan_rules::{Class, Plan};
 use std::alloc::{AllocError, Global};
@@ -175,58 +171,6 @@ fn is_yes(
 {
     let verdict = verdict_on(alloc, kind, grounded, graph)?;
     Ok(says_yes(&verdict))
-}
-
-/// The verdict on the plan of the kind whose graph this is.
-fn verdict_on(
-    alloc: Global,
-    kind: PlanKind,
-    grounded: &Grounded,
-    graph: &Graph,
-) -> Result<Verdict, AllocError>
-    requires goal { HasGoalIn (kind_of kind) grounded.now.task grounded.now.ctl }
-    requires goal_names { IfSome grounded.now.ctl
-        (λ goal. NamesBelow (fluent_count grounded.now.task) (ctl_value goal)) }
-    requires graph { (plan : PlainPlan) × ((is_of_kind (kind_of kind) plan ≡ true)
-        × IsGraphOf (system_of grounded.now.task) plan
-        (plain_graph (fluent_count grounded.now.task) graph.now)) }
-    ensures { (plan : PlainPlan) → is_of_kind (kind_of kind) plan ≡ true
-        → IsGraphOf (system_of grounded.now.task) plan
-        (plain_graph (fluent_count grounded.now.task) graph.now)
-        → IfOk result (IsTaskVerdict (kind_of kind) grounded.now.task grounded.now.ctl plan) }
-{
-    match kind {
-        PlanKind::Class(class) => judge_class(alloc, &grounded.task, graph, class),
-        PlanKind::Contexts => context_verdict(alloc, grounded, graph),
-    }
-}
-
-/// The verdict on the plan with contexts whose graph this is.
-fn context_verdict(alloc: Global, grounded: &Grounded, graph: &Graph) -> Result<Verdict, AllocError>
-    requires goal { IsSome grounded.now.ctl }
-    requires goal_names { IfSome grounded.now.ctl
-        (λ goal. NamesBelow (fluent_count grounded.now.task) (ctl_value goal)) }
-    requires graph { (contexts : ℕ) × ((rules : List ContextRule)
-        × IsGraphOf (system_of grounded.now.task) (automaton contexts rules)
-        (plain_graph (fluent_count grounded.now.task) graph.now)) }
-    ensures { (contexts : ℕ) (rules : List ContextRule)
-        → IsGraphOf (system_of grounded.now.task) (automaton contexts rules)
-        (plain_graph (fluent_count grounded.now.task) graph.now)
-        → IfOk result (IsTaskVerdict with_contexts grounded.now.task grounded.now.ctl
-        (automaton contexts rules)) }
-{
-    judge_ctl(alloc, &grounded.task, graph, goal_in(grounded))
-}
-
-/// The goal in computation tree logic.
-fn goal_in(grounded: &Grounded) -> &Ctl
-    requires { IsSome grounded.now.ctl }
-    ensures { grounded.now.ctl ≡ Some result.now }
-{
-    match &grounded.ctl {
-        Some(goal) => goal,
-        None => unreachable!(),
-    }
 }
 
 /// Whether a verdict is yes.

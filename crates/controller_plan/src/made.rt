@@ -204,8 +204,7 @@ fn shown_rules(
     ensures refused { IfErr result (λ refusal.
         IsMadeRefusal (kind_of wanted.now.kind) wanted.now.grounded.now (refusal_of refusal)) }
 {
-    let fluents = wanted.grounded.task.fluents.len() as u32;
-    let rules = rules_of(alloc, followed, fluents, length)?;
+    let rules = rules_of(alloc, followed, &wanted.grounded.task, length)?;
     let plan = plan_of(alloc, wanted.kind, &rules)?;
     let steps = steps_of(alloc, &rules)?;
     shown_made(alloc, wanted, &plan, &steps)

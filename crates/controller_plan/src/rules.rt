@@ -3,8 +3,10 @@
 ghost use Rattle.std.specs.Prelude.{◌<◌, IfSome, length};
 
 use crate::followed::{Followed, Move, Place};
+use sexpr_text::MAX_BYTES;
 use std::alloc::{AllocError, Global};
-use task_core::{FluentId, State};
+use std::rc::RcStr;
+use task_core::{FluentId, State, Task};
 
 /// The most fluents of a state.
 const MOST_FLUENTS: u32 = 256;
@@ -18,6 +20,10 @@ const MOST_LOOKS: u64 = 1 << 32;
 
 /// How many rules are made at most: so many are more than a plan's file may hold.
 const MOST_RULES: usize = 65_536;
+
+/// How many bytes the names in these rules may have together: so many are more than a plan's file may hold,
+/// even if most of the rules go again.
+const MOST_BYTES: usize = 4 * MAX_BYTES;
 
 /// What a rule asks of a state: that the kept fluents have the values that they have in this one.
 #[derive(Clone, Copy)]
@@ -92,15 +98,15 @@ pub(crate) enum Length {
 /// A rule for each configuration in which the plan does anything and that no earlier rule covers;
 /// then those go whose configurations other rules cover. The rules stand in the order of the first
 /// configurations that they serve, where no rule before them counts, and with the steps of these.
-/// `fluents` says how many fluents there are.
+/// No more are made once their text is too long for a plan's file.
 pub(crate) fn rules_of(
     alloc: Global,
     followed: &Followed,
-    fluents: u32,
+    task: &Task,
     length: Length,
 ) -> Result<Vec<ShortRule>, AllocError> {
     let mut maker = Maker {
-        fluents,
+        fluents: task.fluents.len() as u32,
         length,
         looks: 0,
         covers: Vec::new(alloc),
@@ -109,16 +115,41 @@ pub(crate) fn rules_of(
         maker.covers.push(0)?;
     }
     let mut rules = Vec::new(alloc);
+    let mut bytes = 0_usize;
     for (number, place) in followed.places.iter().enumerate() {
-        if rules.len() < MOST_RULES {
+        if rules.len() < MOST_RULES && bytes < MOST_BYTES {
             if let Some(rule) = maker.rule_at(alloc, followed, number, place)? {
                 maker.note(followed, number, &rule);
+                bytes = bytes.saturating_add(bytes_in(task, &rule));
                 rules.push(rule)?;
             }
         }
     }
     let wanted = wanted_rules(alloc, &mut maker, followed, &rules)?;
     in_order_served(alloc, &mut maker, followed, &wanted)
+}
+
+/// How many bytes the names in a rule have: those of its literals' fluents, and that of its action.
+fn bytes_in(task: &Task, rule: &ShortRule) -> usize {
+    let mut bytes = 0_usize;
+    for (number, name) in task.fluents.iter().enumerate() {
+        if rule.pattern.kept.get(FluentId(number as u32)) {
+            bytes = bytes.saturating_add(bytes_of_name(name));
+        }
+    }
+    match task.actions.get(rule.taken.action.0 as usize) {
+        Some(action) => bytes.saturating_add(bytes_of_name(&action.name)),
+        None => bytes,
+    }
+}
+
+/// How many bytes the words of a name have.
+fn bytes_of_name(name: &[RcStr]) -> usize {
+    let mut bytes = 0_usize;
+    for word in name {
+        bytes = bytes.saturating_add(word.len());
+    }
+    bytes
 }
 
 /// Those rules in the order of the first configurations that they serve.
