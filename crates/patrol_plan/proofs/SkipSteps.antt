@@ -1,9 +1,9 @@
 -- An action is passed over: what stays where nothing would be added, or taken.
 use Rattle.std.proofs.Common.{◌≡◌, ◌≢◌, ℕ, ◌+◌, ◌<◌, ◌≤◌, Bool, true, false, not, ◌&&◌, ◌||◌, length, refl, sym, ap, subst, ◌∙◌, ⊎_elim, arith}
 use Rattle.std.specs.List.{list_any, range_with_len}
-use Rattle.std.proofs.lemmas.Bool.{and_parts, cases_eq, true≢false}
+use Rattle.std.proofs.lemmas.Bool.{and_parts, cases_eq, false≢true, true≢false}
 use Rattle.dd_nodes.specs.Subfunctions.{Function}
-use Rattle.dd_ops.specs.Operations.{minus_of}
+use Rattle.dd_ops.specs.Operations.{and_of}
 use Rattle.dd_sets.specs.LiveSets.{nothing, set_of}
 use Rattle.dd_sets.specs.declared.slots.SetId.{SetId}
 use Rattle.encode_task.specs.Slots.{exec_slot}
@@ -29,39 +29,39 @@ use Rattle.patrol_plan.proofs.Guards.{must_inside}
 
 -- one place was written, or none
 pub same_hits : (start : Start) (x : Scene) → IsGuarded start x → OnlyHits start x x
-same_hits start x ready = record { ready = ready; kept = λ k within differs. refl }
+same_hits start x ready = record { ready = ready; kept = λ k within differs apart. refl }
 
-pub moved_hits : (start : Start) (x m y : Scene) (f g : Function) → IsGuarded start x → Moved start x m 2 f → Moved start m y 2 g → OnlyHits start x y
+pub moved_hits : (start : Start) (x m y : Scene) (f g : Function) → IsGuarded start x → Moved start x m 2 f → Moved start m y 4 g → OnlyHits start x y
 moved_hits start x m y f g ready first second = record {
-  ready = moved_in start m y 2 g (moved_in start x m 2 f ready (λ e. absurd (omega arith)) first) (λ e. absurd (omega arith)) second;
-  kept = λ k within differs.
+  ready = moved_in start m y 4 g (moved_in start x m 2 f ready (λ e. absurd (omega arith)) first) (λ e. absurd (omega arith)) second;
+  kept = λ k within differs apart.
       let long : length y.1 ≡ length m.1 = same_length start m y first.at second.at in
-      moved_other start m y 2 g second k within differs ∙ moved_other start x m 2 f first k (omega arith) differs;
+      moved_other start m y 4 g second k within apart ∙ moved_other start x m 2 f first k (omega arith) differs;
 }
 
 hits_worked : (start : Start) (x y : Scene) → OnlyHits start x y → WorkedIn start x y
-hits_worked start x y h = record { ready = h.ready; kept = λ k high within. h.kept k within (λ e. absurd (omega arith)) }
+hits_worked start x y h = record { ready = h.ready; kept = λ k high within. h.kept k within (λ e. absurd (omega arith)) (λ e. absurd (omega arith)) }
 
--- a set is among another where nothing of it is outside
-minus_none : (x y : Bool) → (x && not y) ≡ false → x ≡ true → y ≡ true
-minus_none true true e h = refl
-minus_none true false e h = sym e
-minus_none false true e h = refl
-minus_none false false e h = h
+-- a set is among another where it is its part there
+meet_all : (x y : Bool) → (x && y) ≡ x → x ≡ true → y ≡ true
+meet_all true y e h = e
+meet_all false y e h = absurd (false≢true h)
 
 -- an action leads into a set only from where it can be executed
 pub leads_among : (start : Start) (x m y : Scene) (a : ℕ) (exec : SetId) → IsGuarded start x → a < length x.0.actions → exec ≡ exec_slot x.0 a
-    → Moved start x m 2 (set_of x.0.sets exec.0) → Moved start m y 2 (minus_of (set_at m.0.sets m.1 2) (set_at m.0.sets m.1 1)) → set_at y.0.sets y.1 2 ≡ nothing → LeadsAmong start x a
-leads_among start x m y a exec ready within is_exec first second none v is leads =
+    → Moved start x m 2 (set_of x.0.sets exec.0) → Moved start m y 4 (and_of (set_at m.0.sets m.1 2) (set_at m.0.sets m.1 1)) → set_at y.0.sets y.1 4 ≡ set_at y.0.sets y.1 2 → LeadsAmong start x a
+leads_among start x m y a exec ready within is_exec first second same v is leads =
     let task = start.task in
     let f : Function = set_at x.0.sets x.1 0 in
     let holds = (exec_holds task x.0 a exec (made_at (board_of start) x.0 x.1 ready.at) within is_exec).holds in
     let strong : strong_preimage task a f (value_of v) ≡ true = strong_agrees (board_of start) a f (states_at x 0) (depends_at start x (unguarded start x ready) 0) (λ u at. refl) v is ∙ (and_parts (start.guard v) (must_lead (sys_of start) (states_at x 0) v a) (sym (must_inside (sys_of start) start.guard (states_at x 0) v a) ∙ leads)).1 in
     let can = and_parts (exec_set task a (value_of v)) (every_outcome_in task a f (value_of v)) strong in
-    minus_none (exec_set task a (value_of v)) (states_at x 1 v)
-    (ap (λ (g : Function). g (value_of v) && not (states_at x 1 v)) (sym holds ∙ sym first.here)
-    ∙ ap (λ (g : _). states_at m 2 v && not (g v)) (sym (moved_low start x m 2 _ first 1 (omega arith) (λ e. absurd (omega arith))))
-    ∙ ap (λ (g : Function). g (value_of v)) (sym second.here ∙ none)) can.0
+    meet_all (exec_set task a (value_of v)) (states_at x 1 v)
+    (ap (λ (g : Function). g (value_of v) && states_at x 1 v) (sym holds ∙ sym first.here)
+    ∙ ap (λ (g : _). states_at m 2 v && g v) (sym (moved_low start x m 2 _ first 1 (omega arith) (λ e. absurd (omega arith))))
+    ∙ ap (λ (g : Function). g (value_of v)) (sym second.here ∙ same)
+    ∙ ap (λ (g : _). g v) (moved_low start m y 4 _ second 2 (omega arith) (λ e. absurd (omega arith)))
+    ∙ ap (λ (g : Function). g (value_of v)) (first.here ∙ holds)) can.0
 
 -- a round that shrinks adds states that it began with, and one that grows those that the action
 -- leads from
@@ -80,27 +80,27 @@ or_same false false up = refl
 pub adds_same : (way : Way) (start : Start) (x y : Scene) (a : ℕ) → OnlyHits start x y → HitsAmong way start x a → AddsHits way start x y a
 adds_same way start x y a h among = record {
   worked = hits_worked start x y h;
-  near = h.kept 0 (low start y h.ready.at 0 (omega arith)) (λ e. absurd (omega arith));
+  near = h.kept 0 (low start y h.ready.at 0 (omega arith)) (λ e. absurd (omega arith)) (λ e. absurd (omega arith));
   next = λ v is.
-      ap (λ (f : _). f v) (h.kept 1 (low start y h.ready.at 1 (omega arith)) (λ e. absurd (omega arith)))
+      ap (λ (f : _). f v) (h.kept 1 (low start y h.ready.at 1 (omega arith)) (λ e. absurd (omega arith)) (λ e. absurd (omega arith)))
       ∙ or_same (states_at x 1 v) (hits_by way (states_at x 0) (λ u. must_lead (sys_in start) (states_at x 0) u a) v) (among v is);
 }
 
 -- the same after a change that no round sees
 pub adds_after : (way : Way) (start : Start) (x y z : Scene) (a : ℕ) → OnlyHits start x y → AddsHits way start y z a → AddsHits way start x z a
 adds_after way start x y z a h adds =
-    let near_is : states_at y 0 ≡ states_at x 0 = h.kept 0 (low start y h.ready.at 0 (omega arith)) (λ e. absurd (omega arith)) in
+    let near_is : states_at y 0 ≡ states_at x 0 = h.kept 0 (low start y h.ready.at 0 (omega arith)) (λ e. absurd (omega arith)) (λ e. absurd (omega arith)) in
     record {
       worked = record {
         ready = adds.worked.ready;
         kept = λ k high within.
             let long : length z.1 ≡ length y.1 = same_length start y z h.ready.at adds.worked.ready.at in
-            adds.worked.kept k high within ∙ h.kept k (omega arith) (λ e. absurd (omega arith));
+            adds.worked.kept k high within ∙ h.kept k (omega arith) (λ e. absurd (omega arith)) (λ e. absurd (omega arith));
       };
       near = adds.near ∙ near_is;
       next = λ v is.
           adds.next v is
-          ∙ ap (λ (f : _). f v || hits_by way (states_at y 0) (λ u. must_lead (sys_in start) (states_at y 0) u a) v) (h.kept 1 (low start y h.ready.at 1 (omega arith)) (λ e. absurd (omega arith)))
+          ∙ ap (λ (f : _). f v || hits_by way (states_at y 0) (λ u. must_lead (sys_in start) (states_at y 0) u a) v) (h.kept 1 (low start y h.ready.at 1 (omega arith)) (λ e. absurd (omega arith)) (λ e. absurd (omega arith)))
           ∙ ap (λ (f : _). states_at x 1 v || hits_by way f (λ u. must_lead (sys_in start) f u a) v) near_is;
     }
 
@@ -109,19 +109,19 @@ module _ (start : Start) (x w y : Scene) (takers a : ℕ) (high : 8 ≤ takers) 
   same_long : length y.1 ≡ length w.1
   same_long = same_length start w y climbs.changed.ready.at h.ready.at
 
-  place_kept : (k : ℕ) → k < length w.1 → k ≢ 2 → states_at y k ≡ states_at w k
-  place_kept k within differs = let e = same_long in h.kept k (omega arith) differs
+  place_kept : (k : ℕ) → k < length w.1 → 8 ≤ k → states_at y k ≡ states_at w k
+  place_kept k within above = let e = same_long in h.kept k (omega arith) (λ e. absurd (omega arith)) (λ e. absurd (omega arith))
 
-  low_kept : (k : ℕ) → k < 8 → k ≢ 2 → states_at y k ≡ states_at w k
-  low_kept k less differs = h.kept k (low start y h.ready.at k (omega arith)) differs
+  low_kept : (k : ℕ) → k < 2 → states_at y k ≡ states_at w k
+  low_kept k less = h.kept k (low start y h.ready.at k (omega arith)) (λ e. absurd (omega arith)) (λ e. absurd (omega arith))
 
   pub climbs_after : Climbs start x y takers a
   climbs_after = record {
     changed = changed_chain_in start x w y takers (takers + action_count start.task) climbs.changed (worked_changed_in start w y takers (takers + action_count start.task) (hits_worked start w y h));
-    near = low_kept 0 (omega arith) (λ e. absurd (omega arith)) ∙ climbs.near;
-    next = λ v is. ap (λ (f : _). f v) (low_kept 1 (omega arith) (λ e. absurd (omega arith))) ∙ climbs.next v is;
-    taken = λ b within less v is. ap (λ (f : _). f v) (place_kept (takers + b) (omega arith) (λ e. absurd (omega arith))) ∙ climbs.taken b within less v is;
-    later = λ b within from. place_kept (takers + b) (omega arith) (λ e. absurd (omega arith)) ∙ climbs.later b within from;
+    near = low_kept 0 (omega arith) ∙ climbs.near;
+    next = λ v is. ap (λ (f : _). f v) (low_kept 1 (omega arith)) ∙ climbs.next v is;
+    taken = λ b within less v is. ap (λ (f : _). f v) (place_kept (takers + b) (omega arith) (omega arith)) ∙ climbs.taken b within less v is;
+    later = λ b within from. place_kept (takers + b) (omega arith) (omega arith) ∙ climbs.later b within from;
   }
 
   -- where the action leads from states that are joined already, it has none that are new

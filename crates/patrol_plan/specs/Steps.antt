@@ -29,10 +29,10 @@ use Rattle.patrol_plan.specs.WorkingSets.{kept_states, met_first}
 use Rattle.patrol_plan.specs.declared.rounds.Way.{Way}
 use Rattle.patrol_plan.specs.declared.rounds.Way.TheVariants.{Growing}
 
--- the states at 2 alone changed
+-- the states at 2 and at 4 alone changed
 pub record OnlyHits (start : Start) (x y : Scene) : Type 0 where
   pub ready : IsGuarded start y
-  pub kept : (k : ℕ) → k < length y.1 → k ≢ 2 → states_at y k ≡ states_at x k
+  pub kept : (k : ℕ) → k < length y.1 → k ≢ 2 → k ≢ 4 → states_at y k ≡ states_at x k
 
 -- an action leads into the states at 0 from states at 1 alone
 abbrev pub LeadsAmong : Start → Scene → ℕ → Type 0

@@ -11,7 +11,7 @@ ghost use Rattle.patrol_plan.specs.Sizes.{ExecFits, HitFits, IsSmall, RoundFits,
 ghost use Rattle.patrol_plan.specs.Steps.{AddsHits, HasLast, HitsAmong, KeepsHits, Leads};
 ghost use Rattle.patrol_plan.specs.Steps.{LeadsAmong, OnlyHits, TurnedFrom};
 
-use crate::places::{GUARD, HITS, NEAR, NEXT};
+use crate::places::{GUARD, HITS, NEAR, NEW, NEXT};
 use dd_sets::SetErr;
 use encode_task::Enc;
 use slot_board::{Board, Operation, Outcomes};
@@ -76,8 +76,8 @@ pub(crate) fn is_joined(enc: &mut Enc, board: &mut Board, a: ActionId) -> Result
 {
     let executable = enc.exec(a);
     board.copy(enc, HITS, executable)?;
-    board.combine(enc, HITS, Operation::Minus, HITS, NEXT)?;
-    Ok(board.is_empty(enc, HITS))
+    board.combine(enc, NEW, Operation::Meet, HITS, NEXT)?;
+    Ok(board.is_same(enc, NEW, HITS))
 }
 
 /// Whether the states that a round adds by an action are all among the next ones already, as far as
