@@ -1,10 +1,13 @@
-//! A planner over the twin of the diagrams, which bench/twin builds: the searches of `reach_plan` and `cyclic_plan`, without text.
+//! A planner over the twin of the diagrams, which bench/twin builds: the searches of `reach_plan`, `cyclic_plan` and `patrol_plan`,
+//! without text.
 //!
 //!     twin FILE weak|strong|cyclic [NODES]
+//!     twin FILE until|patrol [NODES]
 //!
 //! FILE is a grounded problem: `fluents N` and N lines with their names; `actions N` and for each `action OUTCOMES NAME`,
 //! `exec CONDITION` and its outcomes, each `outcome N` and N changes, a literal and a condition; `init N` and the facts;
-//! `entries N`, each `entry N` of `alt N` and literals; `goal CONDITION`. A literal is the number of its fluent, counted from 1,
+//! `entries N`, each `entry N` of `alt N` and literals; `goal CONDITION`. For `until`, the place of `goal` has `stages N` with a guard
+//! and a target each, and `keep CONDITION`; for `patrol`, `visits N` and conditions. bench/patrols writes such files. A literal is the number of its fluent, counted from 1,
 //! negative where it is deleted. A condition is `T`, `F`, a fluent counted from 0, `! C`, `& N C ..` or `| N C ..`.
 //! The fluents stand in the order of their first objects. NODES is 16777216 if left out.
 //!
@@ -42,12 +45,23 @@ struct GroundAction {
     outcomes: Vec<Vec<Change>>,
 }
 
+struct Stage {
+    guard: Condition,
+    target: Condition,
+}
+
+enum Goal {
+    State(Condition),
+    Chain(Vec<Stage>, Condition),
+    Patrol(Vec<Condition>),
+}
+
 struct Problem {
     fluents: Vec<String>,
     actions: Vec<GroundAction>,
     facts: Vec<usize>,
     entries: Vec<Vec<Vec<i64>>>,
-    goal: Condition,
+    goal: Goal,
 }
 
 /// The words of a file, one after another.
@@ -91,6 +105,24 @@ impl Words {
             "&" => Condition::All(self.conditions()),
             "|" => Condition::Any(self.conditions()),
             _ => Condition::Fluent(word.parse().expect("a fluent")),
+        }
+    }
+
+    fn goal(&mut self) -> Goal {
+        match self.words[self.place].as_str() {
+            "visits" => Goal::Patrol(self.list("visits", Words::condition)),
+            "stages" => {
+                let stages = self.list("stages", |words| Stage {
+                    guard: words.condition(),
+                    target: words.condition(),
+                });
+                self.want("keep");
+                Goal::Chain(stages, self.condition())
+            }
+            _ => {
+                self.want("goal");
+                Goal::State(self.condition())
+            }
         }
     }
 
@@ -146,10 +178,7 @@ fn read(path: &str) -> Problem {
         entries: words.list("entries", |words| {
             words.list("entry", |words| words.list("alt", Words::number))
         }),
-        goal: {
-            words.want("goal");
-            words.condition()
-        },
+        goal: words.goal(),
     };
     assert_eq!(
         words.place,
@@ -650,6 +679,196 @@ fn plan_cyclic(encoded: &mut Encoded) -> (bool, usize) {
     }
 }
 
+/// The search for until-chains and patrol goals. The counts are of rounds and of preimages.
+struct Rounds {
+    spent: Vec<bool>,
+    rounds: usize,
+    preimages: usize,
+}
+
+impl Rounds {
+    fn lead_inside(&mut self, encoded: &mut Encoded, guard: Slot, near: Slot, action: usize) -> Slot {
+        self.preimages += 1;
+        let hits = encoded.strong(action, near);
+        encoded.sets.replace(hits, Operation::And(guard, hits))
+    }
+
+    /// Whether an action is spent: noted as such, or from now on.
+    fn find_spent(&mut self, encoded: &mut Encoded, next: Slot, action: usize) -> bool {
+        if !self.spent[action] {
+            let exec = encoded.actions[action].exec;
+            let met = encoded.sets.make(Operation::And(exec, next));
+            self.spent[action] = encoded.sets.are_same(met, exec);
+            encoded.sets.end(met);
+        }
+        self.spent[action]
+    }
+
+    /// One round that keeps the states of a set with an action that leads into it.
+    fn shrink(&mut self, encoded: &mut Encoded, guard: Slot, near: Slot) -> Slot {
+        self.rounds += 1;
+        let mut next = encoded.sets.constant(false);
+        for action in 0..encoded.actions.len() {
+            if encoded.sets.are_same(next, near) {
+                break;
+            }
+            let mut hits = self.lead_inside(encoded, guard, near, action);
+            hits = encoded.sets.replace(hits, Operation::And(near, hits));
+            next = encoded.sets.replace(next, Operation::Or(next, hits));
+            encoded.sets.end(hits);
+        }
+        next
+    }
+
+    fn shrink_all(&mut self, encoded: &mut Encoded, guard: Slot, set: Slot) -> Slot {
+        let mut near = encoded.sets.copy(set);
+        loop {
+            let next = self.shrink(encoded, guard, near);
+            let is_last = encoded.sets.are_same(next, near);
+            encoded.sets.end(near);
+            near = next;
+            if is_last {
+                return near;
+            }
+        }
+    }
+
+    /// Rounds that add the states with an action that leads into the set, which take it where there are places for that.
+    fn grow_all(
+        &mut self,
+        encoded: &mut Encoded,
+        guard: Slot,
+        set: Slot,
+        mut takers: Option<&mut [Slot]>,
+    ) -> Slot {
+        self.spent = vec![false; encoded.actions.len()];
+        let mut near = encoded.sets.copy(set);
+        loop {
+            self.rounds += 1;
+            let mut next = encoded.sets.copy(near);
+            for action in 0..encoded.actions.len() {
+                if self.find_spent(encoded, next, action) {
+                    continue;
+                }
+                let hits = self.lead_inside(encoded, guard, near, action);
+                if let Some(takers) = &mut takers {
+                    let new = encoded.sets.make(Operation::Minus(hits, next));
+                    if !encoded.sets.is_empty(new) {
+                        takers[action] = encoded
+                            .sets
+                            .replace(takers[action], Operation::Or(takers[action], new));
+                        next = encoded.sets.replace(next, Operation::Or(next, hits));
+                    }
+                    encoded.sets.end(new);
+                } else {
+                    next = encoded.sets.replace(next, Operation::Or(next, hits));
+                }
+                encoded.sets.end(hits);
+            }
+            let is_last = encoded.sets.are_same(next, near);
+            encoded.sets.end(near);
+            near = next;
+            if is_last {
+                return near;
+            }
+        }
+    }
+
+    /// Gives each of some states the first action that leads into a set.
+    fn share(
+        &mut self,
+        encoded: &mut Encoded,
+        guard: Slot,
+        near: Slot,
+        states: Slot,
+        takers: &mut [Slot],
+    ) {
+        let mut rest = encoded.sets.copy(states);
+        for action in 0..takers.len() {
+            if encoded.sets.is_empty(rest) {
+                break;
+            }
+            let mut hits = self.lead_inside(encoded, guard, near, action);
+            hits = encoded.sets.replace(hits, Operation::And(rest, hits));
+            takers[action] = encoded
+                .sets
+                .replace(takers[action], Operation::Or(takers[action], hits));
+            rest = encoded.sets.replace(rest, Operation::Minus(rest, hits));
+            encoded.sets.end(hits);
+        }
+        encoded.sets.end(rest);
+    }
+}
+
+fn no_takers(encoded: &mut Encoded) -> Vec<Slot> {
+    (0..encoded.actions.len())
+        .map(|_| encoded.sets.constant(false))
+        .collect()
+}
+
+/// Plans for until-chains: whether there is one.
+fn plan_until(encoded: &mut Encoded, work: &mut Rounds, stages: &[Stage], keep: &Condition) -> bool {
+    let anywhere = encoded.sets.constant(true);
+    let kept = encoded.of(keep);
+    let end = work.shrink_all(encoded, anywhere, kept);
+    let mut win = encoded.sets.copy(end);
+    let mut places = Vec::new();
+    for stage in stages.iter().rev() {
+        let mut met = encoded.of(&stage.target);
+        met = encoded.sets.replace(met, Operation::And(met, win));
+        let guard = encoded.of(&stage.guard);
+        let near = work.grow_all(encoded, guard, met, None);
+        win = encoded.sets.put(win, near);
+        encoded.sets.end(near);
+        places.push((guard, met));
+    }
+    if !encoded.covers_initial(win) {
+        return false;
+    }
+    for (guard, met) in places.into_iter().rev() {
+        let mut takers = no_takers(encoded);
+        work.grow_all(encoded, guard, met, Some(&mut takers));
+    }
+    let mut takers = no_takers(encoded);
+    work.share(encoded, anywhere, end, end, &mut takers);
+    true
+}
+
+/// Plans for patrol goals: whether there is one.
+fn plan_patrol(encoded: &mut Encoded, work: &mut Rounds, visits: &[Condition]) -> bool {
+    let mut left = encoded.sets.constant(true);
+    loop {
+        let stay = work.shrink(encoded, left, left);
+        let mut kept = encoded.sets.copy(left);
+        let mut places = Vec::new();
+        for visit in visits {
+            let mut met = encoded.of(visit);
+            met = encoded.sets.replace(met, Operation::And(stay, met));
+            let near = work.grow_all(encoded, left, met, None);
+            kept = encoded.sets.replace(kept, Operation::And(kept, near));
+            encoded.sets.end(near);
+            places.push(met);
+        }
+        encoded.sets.end(stay);
+        if !encoded.covers_initial(kept) {
+            return false;
+        }
+        if encoded.sets.are_same(kept, left) {
+            for met in places {
+                let mut takers = no_takers(encoded);
+                work.share(encoded, left, left, met, &mut takers);
+                work.grow_all(encoded, left, met, Some(&mut takers));
+            }
+            return true;
+        }
+        for met in places {
+            encoded.sets.end(met);
+        }
+        encoded.sets.end(left);
+        left = kept;
+    }
+}
+
 fn main() {
     let words: Vec<String> = std::env::args().collect();
     let problem = read(&words[1]);
@@ -675,7 +894,9 @@ fn main() {
         goal,
     };
     encoded.add_initial(&problem);
-    encoded.goal = encoded.of(&problem.goal);
+    if let Goal::State(goal) = &problem.goal {
+        encoded.goal = encoded.of(goal);
+    }
     for action in &problem.actions {
         encoded.add_action(action);
     }
@@ -684,6 +905,20 @@ fn main() {
         "weak" => plan_by_layers(&mut encoded, false),
         "strong" => plan_by_layers(&mut encoded, true),
         "cyclic" => plan_cyclic(&mut encoded),
+        "until" | "patrol" => {
+            let mut work = Rounds {
+                spent: Vec::new(),
+                rounds: 0,
+                preimages: 0,
+            };
+            let is_found = match &problem.goal {
+                Goal::Chain(stages, keep) => plan_until(&mut encoded, &mut work, stages, keep),
+                Goal::Patrol(visits) => plan_patrol(&mut encoded, &mut work, visits),
+                Goal::State(_) => panic!("no chain and no visits"),
+            };
+            println!("preimages {}", work.preimages);
+            (is_found, work.rounds)
+        }
         other => panic!("no class {other}"),
     };
     let sets = &encoded.sets;

@@ -10,6 +10,7 @@ pub mod KeptSteps
 pub mod TakerSteps
 pub mod TakerFits
 pub mod SkipSteps
+pub mod SpentSteps
 pub mod WinSteps
 pub mod WinFits
 pub mod TakenSteps

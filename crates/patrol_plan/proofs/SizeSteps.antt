@@ -249,12 +249,12 @@ exec_fits start x a exec ready within is fits =
     let holds = (exec_holds start.task x.0 a exec (made_at (board_of start) x.0 x.1 ready.at) within is).holds in
     inl (subst (λ (f : Function). board.IsSmall (board_of start) f) (sym holds) fits)
 
-pub exec_minus_fits : (start : Start) (x m : Scene) (a : ℕ) (exec : SetId) → IsGuarded start x → a < length x.0.actions → exec ≡ exec_slot x.0 a → Moved start x m 2 (set_of x.0.sets exec.0) → ExecFits start a
-    → board.Fits (board_of start) 2 (minus_of (set_at m.0.sets m.1 2) (set_at m.0.sets m.1 1))
-exec_minus_fits start x m a exec ready within is first fits =
+pub exec_meet_fits : (start : Start) (x m : Scene) (a : ℕ) (exec : SetId) → IsGuarded start x → a < length x.0.actions → exec ≡ exec_slot x.0 a → Moved start x m 2 (set_of x.0.sets exec.0) → ExecFits start a
+    → board.Fits (board_of start) 4 (and_of (set_at m.0.sets m.1 2) (set_at m.0.sets m.1 1))
+exec_meet_fits start x m a exec ready within is first fits =
     let holds = (exec_holds start.task x.0 a exec (made_at (board_of start) x.0 x.1 ready.at) within is).holds in
     let after = moved_in start x m 2 _ ready (λ e. absurd (omega arith)) first in
-    fits_minus start 2 (set_at m.0.sets m.1 2) (set_at m.0.sets m.1 1) may_two (subst (λ (f : Function). board.IsSmall (board_of start) f) (sym (first.here ∙ holds)) fits)
+    fits_meet start 4 (set_at m.0.sets m.1 2) (set_at m.0.sets m.1 1) may_four (subst (λ (f : Function). board.IsSmall (board_of start) f) (sym (first.here ∙ holds)) fits)
     (placed_small start m after.at 1 (low start m after.at 1 (omega arith)) (inl (omega arith)))
 
 -- a set without itself
@@ -273,8 +273,8 @@ hits_small start x m a ready first fits =
 pub hits_after : (way : Way) (start : Start) (x y : Scene) (a : ℕ) → OnlyHits start x y → HitFits way start (states_at x 0) (states_at x 1) a → HitFits way start (states_at y 0) (states_at y 1) a
 hits_after way start x y a h fits =
     hit_fits_as way start (states_at x 0) (states_at x 1) (states_at y 0) (states_at y 1) a
-    (h.kept 0 (low start y h.ready.at 0 (omega arith)) (λ e. absurd (omega arith)))
-    (h.kept 1 (low start y h.ready.at 1 (omega arith)) (λ e. absurd (omega arith))) fits
+    (h.kept 0 (low start y h.ready.at 0 (omega arith)) (λ e. absurd (omega arith)) (λ e. absurd (omega arith)))
+    (h.kept 1 (low start y h.ready.at 1 (omega arith)) (λ e. absurd (omega arith)) (λ e. absurd (omega arith))) fits
 
 pub share_fits_as : (start : Start) (f g near rest : SetOfVectors) (p q : ℕ → SetOfVectors) → near ≡ f → rest ≡ g → ((a : ℕ) → a < action_count start.task → q a ≡ p a) → ShareFits start f g p → ShareFits start near rest q
 share_fits_as start f g near rest p q is also same fits =

@@ -3,7 +3,7 @@
 -- still without an action, or whose stage is still to be found, and at 4 those that are new, or of
 -- some rules.
 use Rattle.std.specs.Prelude.{◌≡◌, ◌≢◌, ℕ, suc, ◌+◌, ◌*◌, ◌<◌, ◌≤◌, true, false, not, ◌&&◌, ◌||◌}
-use Rattle.std.specs.Prelude.{List, drop, length}
+use Rattle.std.specs.Prelude.{Bool, List, drop, length, slice_index_or}
 use Rattle.std.specs.List.{list_any, range_with_len}
 use Rattle.plan_theory.specs.GuardedSets.{guarded_set}
 use Rattle.plan_theory.specs.UntilChains.{SetStage, UntilSets, covers_until, until_win}
@@ -27,17 +27,26 @@ use Rattle.patrol_plan.specs.Scenes.{takers_place, win_place}
 use Rattle.patrol_plan.specs.Sizes.{UntilFits}
 use Rattle.patrol_plan.specs.WorkingSets.{kept_states, met_first}
 use Rattle.patrol_plan.specs.declared.rounds.Way.{Way}
-use Rattle.patrol_plan.specs.declared.rounds.Way.TheVariants.{Growing}
+use Rattle.patrol_plan.specs.declared.rounds.Way.TheVariants.{Growing, Shrinking}
 
--- the states at 2 alone changed
+-- the states at 2 and at 4 alone changed
 pub record OnlyHits (start : Start) (x y : Scene) : Type 0 where
   pub ready : IsGuarded start y
-  pub kept : (k : ℕ) → k < length y.1 → k ≢ 2 → states_at y k ≡ states_at x k
+  pub kept : (k : ℕ) → k < length y.1 → k ≢ 2 → k ≢ 4 → states_at y k ≡ states_at x k
 
--- an action leads into the states at 0 from states at 1 alone
-abbrev pub LeadsAmong : Start → Scene → ℕ → Type 0
-LeadsAmong start x a = (v : Vector) → IsVector (sys_in start) v
-    → must_lead (sys_in start) (states_at x 0) v a ≡ true → states_at x 1 v ≡ true
+-- an action is spent where rounds grow: it leads into a set, whichever it is, from some states alone,
+-- which are found already. Where rounds shrink, none is
+abbrev pub IsSpent : Way → Start → SetOfVectors → ℕ → Type 0
+IsSpent Shrinking start found a = ⊥
+IsSpent Growing start found a = (set : SetOfVectors) (v : Vector) → IsVector (sys_in start) v
+    → must_lead (sys_in start) set v a ≡ true → found v ≡ true
+
+-- the actions that are marked are spent
+pub record AreSpent (way : Way) (start : Start) (found : SetOfVectors) (marks : List Bool)
+    : Type 0 where
+  pub long : length marks ≡ action_count start.task
+  pub each : (a : ℕ) → a < action_count start.task → slice_index_or marks a false ≡ true
+      → IsSpent way start found a
 
 -- a round on the states at 0 adds by an action states at 1 alone
 abbrev pub HitsAmong : Way → Start → Scene → ℕ → Type 0

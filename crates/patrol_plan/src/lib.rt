@@ -11,6 +11,7 @@
 #![tactic(auto)]
 
 mod found;
+mod means;
 mod patrol;
 mod patrol_rules;
 mod places;

@@ -26,6 +26,7 @@ ghost use Rattle.patrol_plan.specs.Scenes.{sys_of};
 ghost use Rattle.std.specs.Prelude.{true};
 
 use crate::found::FoundAuto;
+use crate::means::Means;
 use crate::patrol_rules::{Patrol, list_visits};
 use crate::places::places;
 use crate::visits::{LEFT, find_left, take_visits};
@@ -59,7 +60,7 @@ fn write_visits(
         → covers_patrol (sys_of start) (visit_sets conds) ≡ true
         → IfOk result (IsPatrolPlanOf start.task (visit_sets conds)) }
 {
-    take_visits(enc, board, actions, visits)?;
+    take_visits(enc, board, Means { alloc, actions }, visits)?;
     let mut rules = Vec::new(alloc);
     list_visits(enc, board, &mut rules, Patrol { actions, visits })?;
     Ok(AutoPlan {
@@ -85,7 +86,7 @@ fn search_visits(
         → PatrolEnds start (enc.new, board.new.slots.items) (visit_sets visits.now) result }
 {
     let count = count_of(visits);
-    let lost = find_left(enc, board, actions, visits)?;
+    let lost = find_left(enc, board, Means { alloc, actions }, visits)?;
     if lost {
         return Ok(FoundAuto::NoPlan);
     }
@@ -132,14 +133,15 @@ fn find_patrol(
 /// is none: no plan with contexts, whatever its contexts are and however many, goes on wherever it
 /// leads and has the goal at each initial configuration.
 ///
-/// It works on sets of states: a greatest set over least ones. Each round finds, for each visit, from
-/// which of the states that are left it can be made among them for certain, by rounds of their own,
-/// and leaves the states from which every one can. Where the initial states are among those that are
-/// left at last, each of them takes in each context the least-numbered action that leads nearer to
-/// the visit, or, where it is made, that stays. The plan has a context for each visit and goes on to
-/// the next one where the visit is made, after the last one to the first. Its rules are the cubes of
-/// these sets: contexts in rising number, for each its next contexts in rising number, and for each
-/// of these its actions.
+/// It works on sets of states: a greatest set over least ones. Each round finds, for each visit,
+/// from which of the states that are left it can be made among them for certain, by rounds of their
+/// own, and leaves the states from which every one can. There no round has a preimage for an action
+/// that can be executed only in states that are found already. Where the initial states are among
+/// those that are left at last, each of them takes in each context the least-numbered action that
+/// leads nearer to the visit, or, where it is made, that stays. The plan has a context for each
+/// visit and goes on to the next one where the visit is made, after the last one to the first. Its
+/// rules are the cubes of these sets: contexts in rising number, for each its next contexts in
+/// rising number, and for each of these its actions.
 ///
 /// There are 1 to 8 visits, and each condition names the task's fluents alone and is at most 200
 /// deep. `Full` comes only where the table holds as many nodes as it may, and its limit is tight with

@@ -1,6 +1,6 @@
 //! Rounds on sets of states: what can be kept for one step more, or met in one step more.
 
-ghost use Rattle.std.specs.Prelude.{◌≡◌, ◌<◌, length, true, IfOk};
+ghost use Rattle.std.specs.Prelude.{◌≡◌, ◌<◌, length, true, IfOk, OnOk};
 ghost use Rattle.slot_board.specs.Board as board_specs;
 ghost use Rattle.slot_board.specs.declared.board.Outcomes.TheVariants as Every;
 ghost use Rattle.task_core.specs.Tasks.{action_count};
@@ -8,13 +8,15 @@ ghost use Rattle.patrol_plan.specs.Rounds.{turn_by};
 ghost use Rattle.patrol_plan.specs.Scenes.{IsGuarded, Left, Moved, Start, board_of, led_inside};
 ghost use Rattle.patrol_plan.specs.Scenes.{states_at, sys_in};
 ghost use Rattle.patrol_plan.specs.Sizes.{ExecFits, HitFits, IsSmall, RoundFits, TurnsFit};
-ghost use Rattle.patrol_plan.specs.Steps.{AddsHits, HasLast, HitsAmong, KeepsHits, Leads};
-ghost use Rattle.patrol_plan.specs.Steps.{LeadsAmong, OnlyHits, TurnedFrom};
+ghost use Rattle.patrol_plan.specs.Steps.{AddsHits, AreSpent, HasLast, HitsAmong, IsSpent, KeepsHits};
+ghost use Rattle.patrol_plan.specs.Steps.{Leads, OnlyHits, TurnedFrom};
+ghost use Rattle.patrol_plan.specs.declared.rounds.Way.TheVariants.{Growing};
 
-use crate::places::{GUARD, HITS, NEAR, NEXT};
+use crate::means::Means;
+use crate::places::{GUARD, HITS, NEAR, NEW, NEXT};
 use dd_sets::SetErr;
 use encode_task::Enc;
-use slot_board::{Board, Operation, Outcomes};
+use slot_board::{Board, Operation, Outcomes, is_spent, none_spent, note_spent};
 use task_core::ActionId;
 
 /// What rounds do to a set of states.
@@ -24,6 +26,13 @@ pub(crate) enum Way {
     Shrinking,
     /// They add the states with an action that leads into the set.
     Growing,
+}
+
+/// How many actions a round goes through, and what it does to the set.
+#[derive(Clone, Copy, Debug)]
+pub(crate) struct Turning {
+    actions: u32,
+    way: Way,
 }
 
 /// Finds where an action can be executed in the guard and leads into the first states.
@@ -72,33 +81,83 @@ pub(crate) fn is_joined(enc: &mut Enc, board: &mut Board, a: ActionId) -> Result
     ensures joined { (start : Start) → IsGuarded start (enc.old, board.old.slots.items)
         → ExecFits start a.0
         → IfOk result (λ joined. joined ≡ true
-        → LeadsAmong start (enc.old, board.old.slots.items) a.0) }
+        → IsSpent Growing start (states_at (enc.old, board.old.slots.items) 1) a.0) }
 {
     let executable = enc.exec(a);
     board.copy(enc, HITS, executable)?;
-    board.combine(enc, HITS, Operation::Minus, HITS, NEXT)?;
-    Ok(board.is_empty(enc, HITS))
+    board.combine(enc, NEW, Operation::Meet, HITS, NEXT)?;
+    Ok(board.is_same(enc, NEW, HITS))
 }
 
-/// Whether the states that a round adds by an action are all among the next ones already, as far as
-/// that can be seen without a preimage.
-fn adds_none(enc: &mut Enc, board: &mut Board, way: Way, a: ActionId) -> Result<bool, SetErr>
+/// Whether an action is spent: noted as such, or from now on.
+pub(crate) fn find_spent(
+    enc: &mut Enc,
+    board: &mut Board,
+    spent: &mut Vec<bool>,
+    a: ActionId,
+) -> Result<bool, SetErr>
     requires ready { (start : Start) × IsGuarded start (enc.old, board.old.slots.items)
-        × ExecFits start a.0 }
+        × ExecFits start a.0 × AreSpent Growing start
+        (states_at (enc.old, board.old.slots.items) 1) spent.old.items }
     requires action { a.0 < length enc.old.actions }
+    requires long { length spent.old.items ≡ length enc.old.actions }
     ensures left { (start : Start) → IsGuarded start (enc.old, board.old.slots.items)
         → ExecFits start a.0
         → Left start (enc.new, board.new.slots.items)
         (OnlyHits start (enc.old, board.old.slots.items) (enc.new, board.new.slots.items))
         result }
+    ensures spent { (start : Start) → IsGuarded start (enc.old, board.old.slots.items)
+        → ExecFits start a.0
+        → AreSpent Growing start (states_at (enc.old, board.old.slots.items) 1) spent.old.items
+        → OnOk result (AreSpent Growing start (states_at (enc.old, board.old.slots.items) 1)
+        spent.new.items) }
+    ensures joined { (start : Start) → IsGuarded start (enc.old, board.old.slots.items)
+        → ExecFits start a.0
+        → AreSpent Growing start (states_at (enc.old, board.old.slots.items) 1) spent.old.items
+        → IfOk result (λ joined. joined ≡ true
+        → IsSpent Growing start (states_at (enc.old, board.old.slots.items) 1) a.0) }
+{
+    if is_spent(spent, a) {
+        return Ok(true);
+    }
+    let joined = is_joined(enc, board, a)?;
+    note_spent(spent, a, joined);
+    Ok(joined)
+}
+
+/// Whether the states that a round adds by an action are all among the next ones already, as far as
+/// that can be seen without a preimage.
+fn adds_none(
+    enc: &mut Enc,
+    board: &mut Board,
+    spent: &mut Vec<bool>,
+    way: Way,
+    a: ActionId,
+) -> Result<bool, SetErr>
+    requires ready { (start : Start) × IsGuarded start (enc.old, board.old.slots.items)
+        × ExecFits start a.0 × AreSpent way start
+        (states_at (enc.old, board.old.slots.items) 1) spent.old.items }
+    requires action { a.0 < length enc.old.actions }
+    requires long { length spent.old.items ≡ length enc.old.actions }
+    ensures left { (start : Start) → IsGuarded start (enc.old, board.old.slots.items)
+        → ExecFits start a.0
+        → Left start (enc.new, board.new.slots.items)
+        (OnlyHits start (enc.old, board.old.slots.items) (enc.new, board.new.slots.items))
+        result }
+    ensures spent { (start : Start) → IsGuarded start (enc.old, board.old.slots.items)
+        → ExecFits start a.0
+        → AreSpent way start (states_at (enc.old, board.old.slots.items) 1) spent.old.items
+        → OnOk result (AreSpent way start (states_at (enc.old, board.old.slots.items) 1)
+        spent.new.items) }
     ensures none { (start : Start) → IsGuarded start (enc.old, board.old.slots.items)
         → ExecFits start a.0
+        → AreSpent way start (states_at (enc.old, board.old.slots.items) 1) spent.old.items
         → IfOk result (λ none. none ≡ true
         → HitsAmong way start (enc.old, board.old.slots.items) a.0) }
 {
     match way {
         Way::Shrinking => Ok(board.is_same(enc, NEXT, NEAR)),
-        Way::Growing => is_joined(enc, board, a),
+        Way::Growing => find_spent(enc, board, spent, a),
     }
 }
 
@@ -122,19 +181,29 @@ fn join_hits(enc: &mut Enc, board: &mut Board, way: Way, a: ActionId) -> Result<
 }
 
 /// The same, with no preimage where it would add nothing.
-fn add_hits(enc: &mut Enc, board: &mut Board, way: Way, a: ActionId) -> Result<(), SetErr>
+fn add_hits(
+    enc: &mut Enc,
+    board: &mut Board,
+    spent: &mut Vec<bool>,
+    way: Way,
+    a: ActionId,
+) -> Result<(), SetErr>
     requires ready { (start : Start) × IsGuarded start (enc.old, board.old.slots.items)
         × HitFits way start (states_at (enc.old, board.old.slots.items) 0)
-        (states_at (enc.old, board.old.slots.items) 1) a.0 }
+        (states_at (enc.old, board.old.slots.items) 1) a.0 × AreSpent way start
+        (states_at (enc.old, board.old.slots.items) 1) spent.old.items }
     requires action { a.0 < length enc.old.actions }
+    requires long { length spent.old.items ≡ length enc.old.actions }
     ensures { (start : Start) → IsGuarded start (enc.old, board.old.slots.items)
         → HitFits way start (states_at (enc.old, board.old.slots.items) 0)
         (states_at (enc.old, board.old.slots.items) 1) a.0
+        → AreSpent way start (states_at (enc.old, board.old.slots.items) 1) spent.old.items
         → Left start (enc.new, board.new.slots.items)
         (AddsHits way start (enc.old, board.old.slots.items) (enc.new, board.new.slots.items)
-        a.0) result }
+        a.0 × AreSpent way start (states_at (enc.new, board.new.slots.items) 1)
+        spent.new.items) result }
 {
-    if adds_none(enc, board, way, a)? {
+    if adds_none(enc, board, spent, way, a)? {
         return Ok(());
     }
     join_hits(enc, board, way, a)
@@ -159,34 +228,73 @@ fn begin_next(enc: &mut Enc, board: &mut Board, way: Way) -> Result<(), SetErr>
 
 /// Makes a round on the first states. Each set that it makes is the first states with some from
 /// which an action leads into them, or a part of that.
-fn lead_all(enc: &mut Enc, board: &mut Board, actions: u32, way: Way) -> Result<(), SetErr>
+fn lead_all(
+    enc: &mut Enc,
+    board: &mut Board,
+    spent: &mut Vec<bool>,
+    turning: Turning,
+) -> Result<(), SetErr>
     requires ready { (start : Start) × IsGuarded start (enc.old, board.old.slots.items)
-        × RoundFits start (states_at (enc.old, board.old.slots.items) 0) }
-    requires actions { actions ≡ length enc.old.actions }
+        × RoundFits start (states_at (enc.old, board.old.slots.items) 0)
+        × AreSpent turning.way start (states_at (enc.old, board.old.slots.items) 0)
+        spent.old.items }
+    requires actions { turning.actions ≡ length enc.old.actions }
     ensures { (start : Start) → IsGuarded start (enc.old, board.old.slots.items)
         → RoundFits start (states_at (enc.old, board.old.slots.items) 0)
+        → AreSpent turning.way start (states_at (enc.old, board.old.slots.items) 0)
+        spent.old.items
         → Left start (enc.new, board.new.slots.items)
-        (Leads way start (enc.old, board.old.slots.items) (enc.new, board.new.slots.items)
-        (action_count start.task)) result }
+        (Leads turning.way start (enc.old, board.old.slots.items)
+        (enc.new, board.new.slots.items) (action_count start.task)
+        × AreSpent turning.way start (states_at (enc.new, board.new.slots.items) 1)
+        spent.new.items) result }
 {
-    begin_next(enc, board, way)?;
-    for a in 0..actions {
-        add_hits(enc, board, way, ActionId(a))?;
+    begin_next(enc, board, turning.way)?;
+    for a in 0..turning.actions {
+        add_hits(enc, board, spent, turning.way, ActionId(a))?;
     }
     Ok(())
 }
 
 /// Makes a round on the states at a place.
-pub(crate) fn turn_from(
+fn turn_from(
     enc: &mut Enc,
     board: &mut Board,
-    actions: u32,
+    spent: &mut Vec<bool>,
+    turning: Turning,
+    place: usize,
+) -> Result<(), SetErr>
+    requires ready { (start : Start) × IsGuarded start (enc.old, board.old.slots.items)
+        × RoundFits start (states_at (enc.old, board.old.slots.items) place)
+        × AreSpent turning.way start (states_at (enc.old, board.old.slots.items) place)
+        spent.old.items }
+    requires actions { turning.actions ≡ length enc.old.actions }
+    requires place { place < length board.old.slots.items }
+    ensures { (start : Start) → IsGuarded start (enc.old, board.old.slots.items)
+        → RoundFits start (states_at (enc.old, board.old.slots.items) place)
+        → AreSpent turning.way start (states_at (enc.old, board.old.slots.items) place)
+        spent.old.items
+        → Left start (enc.new, board.new.slots.items)
+        (TurnedFrom turning.way start (enc.old, board.old.slots.items)
+        (enc.new, board.new.slots.items) place
+        × AreSpent turning.way start (states_at (enc.new, board.new.slots.items) 1)
+        spent.new.items) result }
+{
+    board.copy_of(enc, NEAR, place)?;
+    lead_all(enc, board, spent, turning)
+}
+
+/// Makes a single round on the states at a place.
+pub(crate) fn turn_once(
+    enc: &mut Enc,
+    board: &mut Board,
+    means: Means,
     way: Way,
     place: usize,
 ) -> Result<(), SetErr>
     requires ready { (start : Start) × IsGuarded start (enc.old, board.old.slots.items)
         × RoundFits start (states_at (enc.old, board.old.slots.items) place) }
-    requires actions { actions ≡ length enc.old.actions }
+    requires actions { means.actions ≡ length enc.old.actions }
     requires place { place < length board.old.slots.items }
     ensures { (start : Start) → IsGuarded start (enc.old, board.old.slots.items)
         → RoundFits start (states_at (enc.old, board.old.slots.items) place)
@@ -194,21 +302,26 @@ pub(crate) fn turn_from(
         (TurnedFrom way start (enc.old, board.old.slots.items) (enc.new, board.new.slots.items)
         place) result }
 {
-    board.copy_of(enc, NEAR, place)?;
-    lead_all(enc, board, actions, way)
+    let mut spent = none_spent(means.alloc, means.actions)?;
+    let turning = Turning {
+        actions: means.actions,
+        way,
+    };
+    turn_from(enc, board, &mut spent, turning, place)
 }
 
-/// Makes rounds, from the states at a place on, until nothing changes.
+/// Makes rounds, from the states at a place on, until nothing changes. An action is not looked at
+/// again once it is spent.
 pub(crate) fn turn_all(
     enc: &mut Enc,
     board: &mut Board,
-    actions: u32,
+    means: Means,
     way: Way,
     place: usize,
 ) -> Result<(), SetErr>
     requires ready { (start : Start) × IsGuarded start (enc.old, board.old.slots.items)
         × TurnsFit way start (states_at (enc.old, board.old.slots.items) place) }
-    requires actions { actions ≡ length enc.old.actions }
+    requires actions { means.actions ≡ length enc.old.actions }
     requires place { place < length board.old.slots.items }
     ensures { (start : Start) → IsGuarded start (enc.old, board.old.slots.items)
         → TurnsFit way start (states_at (enc.old, board.old.slots.items) place)
@@ -216,9 +329,14 @@ pub(crate) fn turn_all(
         (HasLast way start (enc.old, board.old.slots.items) (enc.new, board.new.slots.items)
         (states_at (enc.old, board.old.slots.items) place)) result }
 {
-    turn_from(enc, board, actions, way, place)?;
+    let mut spent = none_spent(means.alloc, means.actions)?;
+    let turning = Turning {
+        actions: means.actions,
+        way,
+    };
+    turn_from(enc, board, &mut spent, turning, place)?;
     while !board.is_same(enc, NEXT, NEAR) {
-        turn_from(enc, board, actions, way, NEXT)?;
+        turn_from(enc, board, &mut spent, turning, NEXT)?;
     }
     Ok(())
 }

@@ -9,15 +9,17 @@ ghost use Rattle.patrol_plan.specs.Guards.{anywhere};
 ghost use Rattle.patrol_plan.specs.Scenes.{IsAt, IsGuarded, Left, Scene, Start, board_of, guarded};
 ghost use Rattle.patrol_plan.specs.Scenes.{states_at};
 ghost use Rattle.patrol_plan.specs.Sizes.{ClimbFits, ClimbsFit, SearchFits, ShareFits};
-ghost use Rattle.patrol_plan.specs.Steps.{Climbed, ClimbedFrom, Climbs, FirstTaken, HasTakers};
-ghost use Rattle.patrol_plan.specs.Steps.{Shared};
+ghost use Rattle.patrol_plan.specs.Steps.{AreSpent, Climbed, ClimbedFrom, Climbs, FirstTaken};
+ghost use Rattle.patrol_plan.specs.Steps.{HasTakers, Shared};
+ghost use Rattle.patrol_plan.specs.declared.rounds.Way.TheVariants.{Growing};
 
+use crate::means::Means;
 use crate::places::{GUARD, HITS, NEAR, NEW, NEXT, REST, met_at, takers_at, win_at};
-use crate::rounds::{is_joined, lead_inside};
+use crate::rounds::{find_spent, lead_inside};
 use ctl_syntax::UntilChain;
 use dd_sets::SetErr;
 use encode_task::Enc;
-use slot_board::{Board, Operation};
+use slot_board::{Board, Operation, none_spent};
 use task_core::{ActionId, Cond};
 
 /// Has an action taken by the states without one from which it leads into the first states.
@@ -107,48 +109,76 @@ fn climb_hits(enc: &mut Enc, board: &mut Board, takers: usize, a: ActionId) -> R
     let place = takers + a.0 as usize;
     lead_inside(enc, board, a)?;
     board.combine(enc, NEW, Operation::Minus, HITS, NEXT)?;
+    if board.is_empty(enc, NEW) {
+        return Ok(());
+    }
     board.combine(enc, place, Operation::Join, place, NEW)?;
     board.combine(enc, NEXT, Operation::Join, NEXT, HITS)
 }
 
 /// The same, with no preimage where no state would be new.
-fn climb_by(enc: &mut Enc, board: &mut Board, takers: usize, a: ActionId) -> Result<(), SetErr>
+fn climb_by(
+    enc: &mut Enc,
+    board: &mut Board,
+    spent: &mut Vec<bool>,
+    takers: usize,
+    a: ActionId,
+) -> Result<(), SetErr>
     requires ready { (start : Start) × (x : Scene)
         × Climbs start x (enc.old, board.old.slots.items) takers a.0
-        × ClimbFits start (states_at x 0) (λ k. states_at x (takers + k)) }
+        × ClimbFits start (states_at x 0) (λ k. states_at x (takers + k))
+        × AreSpent Growing start (states_at (enc.old, board.old.slots.items) 1)
+        spent.old.items }
     requires action { a.0 < length enc.old.actions }
+    requires long { length spent.old.items ≡ length enc.old.actions }
     requires places { takers + length enc.old.actions ≤ length board.old.slots.items }
     requires high { 8 ≤ takers }
     ensures { (start : Start) (x : Scene)
         → Climbs start x (enc.old, board.old.slots.items) takers a.0
         → ClimbFits start (states_at x 0) (λ k. states_at x (takers + k))
+        → AreSpent Growing start (states_at (enc.old, board.old.slots.items) 1)
+        spent.old.items
         → Left start (enc.new, board.new.slots.items)
-        (Climbs start x (enc.new, board.new.slots.items) takers (a.0 + 1)) result }
+        (Climbs start x (enc.new, board.new.slots.items) takers (a.0 + 1)
+        × AreSpent Growing start (states_at (enc.new, board.new.slots.items) 1)
+        spent.new.items) result }
 {
-    if is_joined(enc, board, a)? {
+    if find_spent(enc, board, spent, a)? {
         return Ok(());
     }
     climb_hits(enc, board, takers, a)
 }
 
 /// Makes a round on the first states, and gives each new state its action.
-fn climb_near(enc: &mut Enc, board: &mut Board, actions: u32, takers: usize) -> Result<(), SetErr>
+fn climb_near(
+    enc: &mut Enc,
+    board: &mut Board,
+    spent: &mut Vec<bool>,
+    actions: u32,
+    takers: usize,
+) -> Result<(), SetErr>
     requires ready { (start : Start) × IsGuarded start (enc.old, board.old.slots.items)
         × ClimbFits start (states_at (enc.old, board.old.slots.items) 0)
-        (λ k. states_at (enc.old, board.old.slots.items) (takers + k)) }
+        (λ k. states_at (enc.old, board.old.slots.items) (takers + k))
+        × AreSpent Growing start (states_at (enc.old, board.old.slots.items) 0)
+        spent.old.items }
     requires actions { actions ≡ length enc.old.actions }
     requires places { takers + actions ≤ length board.old.slots.items }
     requires high { 8 ≤ takers }
     ensures { (start : Start) → IsGuarded start (enc.old, board.old.slots.items)
         → ClimbFits start (states_at (enc.old, board.old.slots.items) 0)
         (λ k. states_at (enc.old, board.old.slots.items) (takers + k))
+        → AreSpent Growing start (states_at (enc.old, board.old.slots.items) 0)
+        spent.old.items
         → Left start (enc.new, board.new.slots.items)
         (Climbs start (enc.old, board.old.slots.items) (enc.new, board.new.slots.items) takers
-        (action_count start.task)) result }
+        (action_count start.task)
+        × AreSpent Growing start (states_at (enc.new, board.new.slots.items) 1)
+        spent.new.items) result }
 {
     board.copy_of(enc, NEXT, NEAR)?;
     for a in 0..actions {
-        climb_by(enc, board, takers, ActionId(a))?;
+        climb_by(enc, board, spent, takers, ActionId(a))?;
     }
     Ok(())
 }
@@ -157,41 +187,48 @@ fn climb_near(enc: &mut Enc, board: &mut Board, actions: u32, takers: usize) -> 
 fn climb_from(
     enc: &mut Enc,
     board: &mut Board,
+    spent: &mut Vec<bool>,
     actions: u32,
-    place: usize,
-    takers: usize,
+    at: StagePlaces,
 ) -> Result<(), SetErr>
     requires ready { (start : Start) × IsGuarded start (enc.old, board.old.slots.items)
-        × ClimbFits start (states_at (enc.old, board.old.slots.items) place)
-        (λ k. states_at (enc.old, board.old.slots.items) (takers + k)) }
+        × ClimbFits start (states_at (enc.old, board.old.slots.items) at.met)
+        (λ k. states_at (enc.old, board.old.slots.items) (at.takers + k))
+        × AreSpent Growing start (states_at (enc.old, board.old.slots.items) at.met)
+        spent.old.items }
     requires actions { actions ≡ length enc.old.actions }
-    requires place { place < length board.old.slots.items }
-    requires places { takers + actions ≤ length board.old.slots.items }
-    requires high { 8 ≤ takers }
+    requires place { at.met < length board.old.slots.items }
+    requires places { at.takers + actions ≤ length board.old.slots.items }
+    requires high { 8 ≤ at.takers }
     ensures { (start : Start) → IsGuarded start (enc.old, board.old.slots.items)
-        → ClimbFits start (states_at (enc.old, board.old.slots.items) place)
-        (λ k. states_at (enc.old, board.old.slots.items) (takers + k))
+        → ClimbFits start (states_at (enc.old, board.old.slots.items) at.met)
+        (λ k. states_at (enc.old, board.old.slots.items) (at.takers + k))
+        → AreSpent Growing start (states_at (enc.old, board.old.slots.items) at.met)
+        spent.old.items
         → Left start (enc.new, board.new.slots.items)
         (ClimbedFrom start (enc.old, board.old.slots.items) (enc.new, board.new.slots.items)
-        place takers) result }
+        at.met at.takers
+        × AreSpent Growing start (states_at (enc.new, board.new.slots.items) 1)
+        spent.new.items) result }
 {
-    board.copy_of(enc, NEAR, place)?;
-    climb_near(enc, board, actions, takers)
+    board.copy_of(enc, NEAR, at.met)?;
+    climb_near(enc, board, spent, actions, at.takers)
 }
 
-/// Gives each state from which a stage is met for certain the action of its rank.
+/// Gives each state from which a stage is met for certain the action of its rank. An action is not
+/// looked at again once it is spent.
 pub(crate) fn climb(
     enc: &mut Enc,
     board: &mut Board,
-    actions: u32,
+    means: Means,
     met: usize,
     takers: usize,
 ) -> Result<(), SetErr>
     requires ready { (start : Start) × IsGuarded start (enc.old, board.old.slots.items)
         × ClimbsFit start (states_at (enc.old, board.old.slots.items) met)
         (λ k. states_at (enc.old, board.old.slots.items) (takers + k)) }
-    requires actions { actions ≡ length enc.old.actions }
-    requires places { takers + actions ≤ length board.old.slots.items }
+    requires actions { means.actions ≡ length enc.old.actions }
+    requires places { takers + means.actions ≤ length board.old.slots.items }
     requires met { 8 ≤ met }
     requires apart { met < takers }
     ensures { (start : Start) → IsGuarded start (enc.old, board.old.slots.items)
@@ -201,9 +238,22 @@ pub(crate) fn climb(
         (Climbed start (enc.old, board.old.slots.items) (enc.new, board.new.slots.items) met
         takers) result }
 {
-    climb_from(enc, board, actions, met, takers)?;
+    let mut spent = none_spent(means.alloc, means.actions)?;
+    climb_from(
+        enc,
+        board,
+        &mut spent,
+        means.actions,
+        StagePlaces { met, takers },
+    )?;
     while !board.is_same(enc, NEXT, NEAR) {
-        climb_from(enc, board, actions, NEXT, takers)?;
+        climb_from(
+            enc,
+            board,
+            &mut spent,
+            means.actions,
+            StagePlaces { met: NEXT, takers },
+        )?;
     }
     Ok(())
 }
@@ -258,7 +308,7 @@ struct StagePlaces {
 fn take_stage(
     enc: &mut Enc,
     board: &mut Board,
-    actions: u32,
+    means: Means,
     guard: &Cond,
     at: StagePlaces,
 ) -> Result<(), SetErr>
@@ -267,9 +317,9 @@ fn take_stage(
         × ClimbsFit (guarded start (states_of guard.now))
         (states_at (enc.old, board.old.slots.items) at.met)
         (λ k. states_at (enc.old, board.old.slots.items) (at.takers + k)) }
-    requires actions { actions ≡ length enc.old.actions }
+    requires actions { means.actions ≡ length enc.old.actions }
     requires guard { IsConditionOver enc.old.sets.vars guard.now }
-    requires places { at.takers + actions ≤ length board.old.slots.items }
+    requires places { at.takers + means.actions ≤ length board.old.slots.items }
     requires met { 8 ≤ at.met }
     requires apart { at.met < at.takers }
     ensures { (start : Start) → IsAt start (enc.old, board.old.slots.items)
@@ -282,7 +332,7 @@ fn take_stage(
         (enc.new, board.new.slots.items) at.met at.takers) result }
 {
     board.condition(enc, GUARD, guard)?;
-    climb(enc, board, actions, at.met, at.takers)
+    climb(enc, board, means, at.met, at.takers)
 }
 
 /// Has the actions taken that keep the condition at the end.
@@ -322,14 +372,14 @@ fn take_end(
 pub(crate) fn take_all(
     enc: &mut Enc,
     board: &mut Board,
-    actions: u32,
+    means: Means,
     stages: u32,
     chain: &UntilChain,
 ) -> Result<(), SetErr>
     requires ready { (start : Start) × (start.stages ≡ stages)
         × (length chain.now.stages.items ≡ stages) × SearchFits start chain.now
         × HasTakers start (enc.old, board.old.slots.items) (until_sets chain.now) 0 }
-    requires actions { actions ≡ length enc.old.actions }
+    requires actions { means.actions ≡ length enc.old.actions }
     requires chain { IsUntilOver enc.old.sets.vars chain.now }
     ensures { (start : Start) → start.stages ≡ stages
         → length chain.now.stages.items ≡ stages → SearchFits start chain.now
@@ -342,19 +392,19 @@ pub(crate) fn take_all(
         take_stage(
             enc,
             board,
-            actions,
+            means,
             &chain.stages[i as usize].guard,
             StagePlaces {
                 met: met_at(i),
-                takers: takers_at(actions, stages, i),
+                takers: takers_at(means.actions, stages, i),
             },
         )?;
     }
     take_end(
         enc,
         board,
-        actions,
+        means.actions,
         win_at(stages),
-        takers_at(actions, stages, stages),
+        takers_at(means.actions, stages, stages),
     )
 }

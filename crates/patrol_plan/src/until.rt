@@ -26,6 +26,7 @@ ghost use Rattle.patrol_plan.specs.Tables.{HasTable, start_of};
 ghost use Rattle.patrol_plan.specs.WorkingSets.{BoundsUntilSets};
 
 use crate::found::FoundAuto;
+use crate::means::Means;
 use crate::places::{places, win_at};
 use crate::rules::{Chain, list_all};
 use crate::takers::take_all;
@@ -42,22 +43,22 @@ use task_core::Task;
 fn search(
     enc: &mut Enc,
     board: &mut Board,
-    actions: u32,
+    means: Means,
     chain: &UntilChain,
 ) -> Result<bool, SetErr>
     requires ready { (start : Start) × (start.stages ≡ length chain.now.stages.items)
         × HasNothing start (enc.old, board.old.slots.items) × SearchFits start chain.now }
-    requires actions { actions ≡ length enc.old.actions }
+    requires actions { means.actions ≡ length enc.old.actions }
     requires chain { IsUntilOver enc.old.sets.vars chain.now }
     ensures { (start : Start) → start.stages ≡ length chain.now.stages.items
         → HasNothing start (enc.old, board.old.slots.items) → SearchFits start chain.now
         → Ends start (enc.new, board.new.slots.items) (until_sets chain.now) result }
 {
-    win_all(enc, board, actions, chain)?;
+    win_all(enc, board, means, chain)?;
     if !board.covers_initial(enc, win_at(0))? {
         return Ok(false);
     }
-    take_all(enc, board, actions, chain.stages.len() as u32, chain)?;
+    take_all(enc, board, means, chain.stages.len() as u32, chain)?;
     Ok(true)
 }
 
@@ -77,7 +78,8 @@ fn search(
 /// stage, it makes these rounds once more, and each new state takes its least-numbered action. The
 /// plan has a context for each stage and one for the end; in each it turns to the first stage, from
 /// the context's own on, that isn't met. The time grows with the rounds, the stages and the actions,
-/// and not with the number of states.
+/// and not with the number of states. A round has no preimage for an action that can be executed only
+/// in states that are found already.
 ///
 /// An until-chain has at most 32 stages, and each of its conditions names the task's fluents alone
 /// and is at most 200 deep. `Full` comes only where the table holds as many nodes as it may, and its
@@ -108,7 +110,7 @@ pub fn until_takers(
 {
     let actions = task.actions.len() as u32;
     let mut board = Board::new(alloc, enc, places(actions, chain.stages.len() as u32))?;
-    match search(enc, &mut board, actions, chain) {
+    match search(enc, &mut board, Means { alloc, actions }, chain) {
         Ok(true) => Ok(Some(board)),
         Ok(false) => {
             board.close(enc);

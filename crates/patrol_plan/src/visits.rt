@@ -13,8 +13,9 @@ ghost use Rattle.slot_board.specs.Board.{Ends};
 ghost use Rattle.patrol_plan.specs.PatrolSteps.{visit_place};
 ghost use Rattle.patrol_plan.specs.Scenes.{HasNothing, Left, Start, board_of, sys_of, takers_place};
 
+use crate::means::Means;
 use crate::places::{GUARD, NEAR, NEXT, takers_at};
-use crate::rounds::{Way, turn_all, turn_from};
+use crate::rounds::{Way, turn_all, turn_once};
 use crate::takers::{SharePlaces, climb, take_first};
 use dd_sets::SetErr;
 use encode_task::Enc;
@@ -37,17 +38,17 @@ pub(crate) fn visit_at(visit: u32) -> usize
 }
 
 /// Finds from which of the states that are left one can stay among them.
-fn find_stay(enc: &mut Enc, board: &mut Board, actions: u32) -> Result<(), SetErr>
+fn find_stay(enc: &mut Enc, board: &mut Board, means: Means) -> Result<(), SetErr>
     requires ready { (start : Start) × (conds : List CondOf) × (r : ℕ)
         × IsLeft start conds (enc.old, board.old.slots.items) r }
-    requires actions { actions ≡ length enc.old.actions }
+    requires actions { means.actions ≡ length enc.old.actions }
     ensures { (start : Start) (conds : List CondOf) (r : ℕ)
         → IsLeft start conds (enc.old, board.old.slots.items) r
         → Left start (enc.new, board.new.slots.items)
         (HasStay start conds (enc.new, board.new.slots.items) r) result }
 {
     board.copy_of(enc, GUARD, LEFT)?;
-    turn_from(enc, board, actions, Way::Shrinking, LEFT)?;
+    turn_once(enc, board, means, Way::Shrinking, LEFT)?;
     board.copy_of(enc, STAY, NEXT)
 }
 
@@ -71,14 +72,14 @@ fn meet_visit(enc: &mut Enc, board: &mut Board, visit: &Cond, place: usize) -> R
 fn keep_visit(
     enc: &mut Enc,
     board: &mut Board,
-    actions: u32,
+    means: Means,
     visit: &Cond,
     place: usize,
 ) -> Result<(), SetErr>
     requires ready { (start : Start) × (conds : List CondOf) × (r : ℕ) × (i : ℕ)
         × (place ≡ visit_place i) × (i < length conds) × (visit.now ≡ get_or conds i visit.now)
         × HasVisits start conds (enc.old, board.old.slots.items) r i }
-    requires actions { actions ≡ length enc.old.actions }
+    requires actions { means.actions ≡ length enc.old.actions }
     requires visit { IsConditionOver enc.old.sets.vars visit.now }
     ensures { (start : Start) (conds : List CondOf) (r i : ℕ) → place ≡ visit_place i
         → i < length conds → visit.now ≡ get_or conds i visit.now
@@ -87,15 +88,15 @@ fn keep_visit(
         (HasVisits start conds (enc.new, board.new.slots.items) r (suc i)) result }
 {
     meet_visit(enc, board, visit, place)?;
-    turn_all(enc, board, actions, Way::Growing, place)?;
+    turn_all(enc, board, means, Way::Growing, place)?;
     board.combine(enc, KEPT, Operation::Meet, KEPT, NEAR)
 }
 
 /// Makes a round: finds from which of the states that are left every visit can be made among them.
-fn keep_all(enc: &mut Enc, board: &mut Board, actions: u32, visits: &[Cond]) -> Result<(), SetErr>
+fn keep_all(enc: &mut Enc, board: &mut Board, means: Means, visits: &[Cond]) -> Result<(), SetErr>
     requires ready { (start : Start) × (r : ℕ)
         × IsLeft start visits.now (enc.old, board.old.slots.items) r }
-    requires actions { actions ≡ length enc.old.actions }
+    requires actions { means.actions ≡ length enc.old.actions }
     requires visits { IsPatrolOver enc.old.sets.vars visits.now }
     ensures { (start : Start) (r : ℕ)
         → IsLeft start visits.now (enc.old, board.old.slots.items) r
@@ -103,19 +104,19 @@ fn keep_all(enc: &mut Enc, board: &mut Board, actions: u32, visits: &[Cond]) -> 
         (HasVisits start visits.now (enc.new, board.new.slots.items) r (length visits.now))
         result }
 {
-    find_stay(enc, board, actions)?;
+    find_stay(enc, board, means)?;
     board.copy_of(enc, KEPT, LEFT)?;
     for i in 0..visits.len() as u32 {
-        keep_visit(enc, board, actions, &visits[i as usize], visit_at(i))?;
+        keep_visit(enc, board, means, &visits[i as usize], visit_at(i))?;
     }
     Ok(())
 }
 
 /// Makes the first round, on all states.
-fn keep_first(enc: &mut Enc, board: &mut Board, actions: u32, visits: &[Cond]) -> Result<(), SetErr>
+fn keep_first(enc: &mut Enc, board: &mut Board, means: Means, visits: &[Cond]) -> Result<(), SetErr>
     requires ready { (start : Start) × (start.stages ≡ length visits.now)
         × HasNothing start (enc.old, board.old.slots.items) × PatrolFits start visits.now }
-    requires actions { actions ≡ length enc.old.actions }
+    requires actions { means.actions ≡ length enc.old.actions }
     requires visits { IsPatrolOver enc.old.sets.vars visits.now }
     ensures { (start : Start) → start.stages ≡ length visits.now
         → HasNothing start (enc.old, board.old.slots.items) → PatrolFits start visits.now
@@ -125,14 +126,14 @@ fn keep_first(enc: &mut Enc, board: &mut Board, actions: u32, visits: &[Cond]) -
 {
     let space = enc.space();
     board.copy(enc, LEFT, space)?;
-    keep_all(enc, board, actions, visits)
+    keep_all(enc, board, means, visits)
 }
 
 /// Makes one round more.
-fn keep_more(enc: &mut Enc, board: &mut Board, actions: u32, visits: &[Cond]) -> Result<(), SetErr>
+fn keep_more(enc: &mut Enc, board: &mut Board, means: Means, visits: &[Cond]) -> Result<(), SetErr>
     requires ready { (start : Start) × (r : ℕ) × HasVisits start visits.now
         (enc.old, board.old.slots.items) r (length visits.now) }
-    requires actions { actions ≡ length enc.old.actions }
+    requires actions { means.actions ≡ length enc.old.actions }
     requires visits { IsPatrolOver enc.old.sets.vars visits.now }
     ensures { (start : Start) (r : ℕ) → HasVisits start visits.now
         (enc.old, board.old.slots.items) r (length visits.now)
@@ -141,7 +142,7 @@ fn keep_more(enc: &mut Enc, board: &mut Board, actions: u32, visits: &[Cond]) ->
         (length visits.now)) result }
 {
     board.copy_of(enc, LEFT, KEPT)?;
-    keep_all(enc, board, actions, visits)
+    keep_all(enc, board, means, visits)
 }
 
 /// Whether a round lost an initial state.
@@ -165,25 +166,25 @@ fn loses_initial(enc: &mut Enc, board: &Board) -> Result<bool, SetErr>
 pub(crate) fn find_left(
     enc: &mut Enc,
     board: &mut Board,
-    actions: u32,
+    means: Means,
     visits: &[Cond],
 ) -> Result<bool, SetErr>
     requires ready { (start : Start) × (start.stages ≡ length visits.now)
         × HasNothing start (enc.old, board.old.slots.items) × PatrolFits start visits.now }
-    requires actions { actions ≡ length enc.old.actions }
+    requires actions { means.actions ≡ length enc.old.actions }
     requires visits { IsPatrolOver enc.old.sets.vars visits.now }
     ensures { (start : Start) → start.stages ≡ length visits.now
         → HasNothing start (enc.old, board.old.slots.items) → PatrolFits start visits.now
         → Ends (board_of start) enc.new board.new.slots.items
         (FoundLeft start visits.now (enc.new, board.new.slots.items)) result }
 {
-    keep_first(enc, board, actions, visits)?;
+    keep_first(enc, board, means, visits)?;
     while !board.is_same(enc, KEPT, LEFT) {
         let lost = loses_initial(enc, board)?;
         if lost {
             return Ok(true);
         }
-        keep_more(enc, board, actions, visits)?;
+        keep_more(enc, board, means, visits)?;
     }
     Ok(false)
 }
@@ -192,7 +193,7 @@ pub(crate) fn find_left(
 fn take_visit(
     enc: &mut Enc,
     board: &mut Board,
-    actions: u32,
+    means: Means,
     place: usize,
     takers: usize,
 ) -> Result<(), SetErr>
@@ -200,7 +201,7 @@ fn take_visit(
         × (takers ≡ takers_place (action_count start.task) start.stages i) × (i < start.stages)
         × HasPatrol start conds (enc.old, board.old.slots.items) i
         × (covers_patrol (sys_of start) (visit_sets conds) ≡ true) }
-    requires actions { actions ≡ length enc.old.actions }
+    requires actions { means.actions ≡ length enc.old.actions }
     ensures { (start : Start) (conds : List CondOf) (i : ℕ) → place ≡ visit_place i
         → takers ≡ takers_place (action_count start.task) start.stages i → i < start.stages
         → HasPatrol start conds (enc.old, board.old.slots.items) i
@@ -213,21 +214,21 @@ fn take_visit(
         rest: place,
         takers,
     };
-    take_first(enc, board, actions, at)?;
-    climb(enc, board, actions, place, takers)
+    take_first(enc, board, means.actions, at)?;
+    climb(enc, board, means, place, takers)
 }
 
 /// Has the actions of all contexts taken.
 pub(crate) fn take_visits(
     enc: &mut Enc,
     board: &mut Board,
-    actions: u32,
+    means: Means,
     visits: u32,
 ) -> Result<(), SetErr>
     requires ready { (start : Start) × (conds : List CondOf) × (start.stages ≡ visits)
         × HasPatrol start conds (enc.old, board.old.slots.items) 0
         × (covers_patrol (sys_of start) (visit_sets conds) ≡ true) }
-    requires actions { actions ≡ length enc.old.actions }
+    requires actions { means.actions ≡ length enc.old.actions }
     requires few { visits ≤ most_visits }
     ensures { (start : Start) (conds : List CondOf) → start.stages ≡ visits
         → HasPatrol start conds (enc.old, board.old.slots.items) 0
@@ -239,9 +240,9 @@ pub(crate) fn take_visits(
         take_visit(
             enc,
             board,
-            actions,
+            means,
             visit_at(i),
-            takers_at(actions, visits, i),
+            takers_at(means.actions, visits, i),
         )?;
     }
     Ok(())

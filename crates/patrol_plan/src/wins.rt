@@ -7,6 +7,7 @@ ghost use Rattle.patrol_plan.specs.Scenes.{IsAt, IsReady, Left, Start, board_of,
 ghost use Rattle.patrol_plan.specs.Sizes.{EndFits, IsSmall, SearchFits, StageFits};
 ghost use Rattle.patrol_plan.specs.Steps.{EndWon, HasKept, HasWins, StageMet, StageWon, met_by};
 
+use crate::means::Means;
 use crate::places::{GUARD, NEAR, win_at};
 use crate::rounds::{Way, turn_all};
 use ctl_syntax::{UntilChain, UntilStage};
@@ -39,13 +40,13 @@ fn keep_states(enc: &mut Enc, board: &mut Board, keep: &Cond, place: usize) -> R
 fn win_end(
     enc: &mut Enc,
     board: &mut Board,
-    actions: u32,
+    means: Means,
     keep: &Cond,
     place: usize,
 ) -> Result<(), SetErr>
     requires ready { (start : Start) × IsAt start (enc.old, board.old.slots.items)
         × EndFits start keep.now }
-    requires actions { actions ≡ length enc.old.actions }
+    requires actions { means.actions ≡ length enc.old.actions }
     requires keep { IsConditionOver enc.old.sets.vars keep.now }
     requires place { place < length board.old.slots.items }
     requires high { 8 ≤ place }
@@ -57,7 +58,7 @@ fn win_end(
 {
     keep_states(enc, board, keep, place)?;
     board.whole(enc, GUARD)?;
-    turn_all(enc, board, actions, Way::Shrinking, place)?;
+    turn_all(enc, board, means, Way::Shrinking, place)?;
     board.copy_of(enc, place, NEAR)
 }
 
@@ -84,13 +85,13 @@ fn meet_stage(enc: &mut Enc, board: &mut Board, target: &Cond, place: usize) -> 
 fn win_stage(
     enc: &mut Enc,
     board: &mut Board,
-    actions: u32,
+    means: Means,
     stage: &UntilStage,
     place: usize,
 ) -> Result<(), SetErr>
     requires ready { (start : Start) × IsReady start (enc.old, board.old.slots.items)
         × StageFits start stage.now (states_at (enc.old, board.old.slots.items) (place + 2)) }
-    requires actions { actions ≡ length enc.old.actions }
+    requires actions { means.actions ≡ length enc.old.actions }
     requires guard { IsConditionOver enc.old.sets.vars stage.now.guard }
     requires target { IsConditionOver enc.old.sets.vars stage.now.target }
     requires place { place + 2 < length board.old.slots.items }
@@ -103,7 +104,7 @@ fn win_stage(
 {
     meet_stage(enc, board, &stage.target, place)?;
     board.condition(enc, GUARD, &stage.guard)?;
-    turn_all(enc, board, actions, Way::Growing, place + 1)?;
+    turn_all(enc, board, means, Way::Growing, place + 1)?;
     board.copy_of(enc, place, NEAR)
 }
 
@@ -111,12 +112,12 @@ fn win_stage(
 pub(crate) fn win_all(
     enc: &mut Enc,
     board: &mut Board,
-    actions: u32,
+    means: Means,
     chain: &UntilChain,
 ) -> Result<(), SetErr>
     requires ready { (start : Start) × IsAt start (enc.old, board.old.slots.items)
         × (start.stages ≡ length chain.now.stages.items) × SearchFits start chain.now }
-    requires actions { actions ≡ length enc.old.actions }
+    requires actions { means.actions ≡ length enc.old.actions }
     requires chain { IsUntilOver enc.old.sets.vars chain.now }
     ensures { (start : Start) → IsAt start (enc.old, board.old.slots.items)
         → start.stages ≡ length chain.now.stages.items → SearchFits start chain.now
@@ -125,9 +126,9 @@ pub(crate) fn win_all(
         (until_sets chain.now) 0) result }
 {
     let stages = chain.stages.len() as u32;
-    win_end(enc, board, actions, &chain.keep, win_at(stages))?;
+    win_end(enc, board, means, &chain.keep, win_at(stages))?;
     for i in (0..stages).rev() {
-        win_stage(enc, board, actions, &chain.stages[i as usize], win_at(i))?;
+        win_stage(enc, board, means, &chain.stages[i as usize], win_at(i))?;
     }
     Ok(())
 }

@@ -1,5 +1,6 @@
 use Rattle.patrol_plan.proofs.SizeSteps.{hits_after}
 use Rattle.patrol_plan.proofs.SkipSteps.{adds_after, adds_same}
+use Rattle.patrol_plan.proofs.SpentSteps.{adds_spent, hits_spent}
 use Rattle.patrol_plan.specs.Scenes.{board_of}
 use Rattle.slot_board.proofs.BoardSlots.{left_with, passed, same_actions, went}
 use Rattle.std.proofs.Common.{◌≡◌, arith, length}
@@ -7,15 +8,17 @@ use Rattle.std.proofs.lemmas.Result.{err_from_is_err_and}
 use Rattle.patrol_plan.proofs.rounds.add_hits.Goals as goal
 
 pub returns-in_err-adds_none : goal.returns-in_err-adds_none
-returns-in_err-adds_none c start ready fits =
+returns-in_err-adds_none c start ready fits marks =
     let p = err_from_is_err_and c.from_residual.result c.from_residual.ensures.1 in
     passed (board_of start) c.adds_none.new.enc c.adds_none.new.board.slots.items _ _ c.adds_none.result c.from_residual.result _ c.in_err-adds_none.was p (c.adds_none.ensures.left start ready fits.lead.exec)
 
 pub returns-then-branch : goal.returns-then-branch
-returns-then-branch c start ready fits =
-    let o = went (board_of start) c.adds_none.new.enc c.adds_none.new.board.slots.items _ c.adds_none.result _ c.in_ok-adds_none.was (c.adds_none.ensures.left start ready fits.lead.exec) in
-    adds_same c.args.way start (c.args.enc.now, c.args.board.now.slots.items) (c.adds_none.new.enc, c.adds_none.new.board.slots.items) c.args.a.0 o
-    (c.in_ok-adds_none.ensures.none start ready fits.lead.exec (let t = c.if-branch.true in cc))
+returns-then-branch c start ready fits marks =
+    let o = went (board_of start) c.adds_none.new.enc c.adds_none.new.board.slots.items _ c.adds_none.result _ c.in_ok-adds_none.was (c.adds_none.ensures.left start ready fits.lead.exec) in (
+      adds_same c.args.way start (c.args.enc.now, c.args.board.now.slots.items) (c.adds_none.new.enc, c.adds_none.new.board.slots.items) c.args.a.0 o
+          (c.in_ok-adds_none.ensures.none start ready fits.lead.exec marks (let t = c.if-branch.true in cc)),
+      (hits_spent c.args.way start (c.args.enc.now, c.args.board.now.slots.items) (c.adds_none.new.enc, c.adds_none.new.board.slots.items) c.adds_none.new.spent.items o (c.in_ok-adds_none.ensures.spent start ready fits.lead.exec marks)),
+    )
 
 pub join_hits-requires-clause-ready : goal.join_hits-requires-clause-ready
 join_hits-requires-clause-ready c =
@@ -31,11 +34,11 @@ join_hits-requires-clause-action c =
     omega (arith, c.requires.action)
 
 pub returns : goal.returns
-returns c start ready fits =
+returns c start ready fits marks =
     let o = went (board_of start) c.adds_none.new.enc c.adds_none.new.board.slots.items _ c.adds_none.result _ c.in_ok-adds_none.was (c.adds_none.ensures.left start ready fits.lead.exec) in
     left_with (board_of start) c.join_hits.new.enc c.join_hits.new.board.slots.items _ _ c.join_hits.result
-    (λ adds. adds_after c.args.way start (c.args.enc.now, c.args.board.now.slots.items) (c.adds_none.new.enc, c.adds_none.new.board.slots.items) (c.join_hits.new.enc, c.join_hits.new.board.slots.items) c.args.a.0 o adds)
+    (λ adds. (adds_after c.args.way start (c.args.enc.now, c.args.board.now.slots.items) (c.adds_none.new.enc, c.adds_none.new.board.slots.items) (c.join_hits.new.enc, c.join_hits.new.board.slots.items) c.args.a.0 o adds, adds_spent c.args.way start (c.adds_none.new.enc, c.adds_none.new.board.slots.items) (c.join_hits.new.enc, c.join_hits.new.board.slots.items) c.args.a.0 c.adds_none.new.spent.items adds (hits_spent c.args.way start (c.args.enc.now, c.args.board.now.slots.items) (c.adds_none.new.enc, c.adds_none.new.board.slots.items) c.adds_none.new.spent.items o (c.in_ok-adds_none.ensures.spent start ready fits.lead.exec marks))))
     (c.join_hits.ensures start o.ready (hits_after c.args.way start (c.args.enc.now, c.args.board.now.slots.items) (c.adds_none.new.enc, c.adds_none.new.board.slots.items) c.args.a.0 o fits))
 
 pub adds_none-requires-clause-ready : goal.adds_none-requires-clause-ready
-adds_none-requires-clause-ready c = (c.requires.ready.0, c.requires.ready.1, c.requires.ready.2.lead.exec)
+adds_none-requires-clause-ready c = (c.requires.ready.0, c.requires.ready.1, c.requires.ready.2.lead.exec, c.requires.ready.3)

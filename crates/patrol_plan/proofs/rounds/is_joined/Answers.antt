@@ -1,4 +1,4 @@
-use Rattle.patrol_plan.proofs.SizeSteps.{exec_fits, exec_minus_fits}
+use Rattle.patrol_plan.proofs.SizeSteps.{exec_fits, exec_meet_fits}
 use Rattle.patrol_plan.proofs.SceneSteps.{low}
 use Rattle.patrol_plan.proofs.SkipSteps.{leads_among, moved_hits}
 use Rattle.patrol_plan.specs.Scenes.{board_of}
@@ -34,7 +34,7 @@ pub combine-requires-clause-place : goal.combine-requires-clause-place
 combine-requires-clause-place c =
     let start = c.requires.ready.0 in
     let m = went (board_of start) c.copy.new.enc c.copy.new.self.slots.items _ c.copy.result _ c.in_ok-copy.was (c.copy.ensures (board_of start) c.requires.ready.1.at (exec_fits start (c.args.enc.now, c.args.board.now.slots.items) c.args.a.0 c.exec-executable.result c.requires.ready.1 c.requires.action c.exec-executable.ensures c.requires.ready.2)) in
-    low start (c.copy.new.enc, c.copy.new.self.slots.items) m.at 2 (omega arith)
+    low start (c.copy.new.enc, c.copy.new.self.slots.items) m.at 4 (omega arith)
 
 pub combine-requires-clause-a : goal.combine-requires-clause-a
 combine-requires-clause-a c =
@@ -52,30 +52,37 @@ pub returns-in_err-combine-clause-left : goal.returns-in_err-combine-clause-left
 returns-in_err-combine-clause-left c start ready fits =
     let p = err_from_is_err_and c.from_residual-in_err-combine.result c.from_residual-in_err-combine.ensures.1 in
     let m = went (board_of start) c.copy.new.enc c.copy.new.self.slots.items _ c.copy.result _ c.in_ok-copy.was (c.copy.ensures (board_of start) ready.at (exec_fits start (c.args.enc.now, c.args.board.now.slots.items) c.args.a.0 c.exec-executable.result ready c.requires.action c.exec-executable.ensures fits)) in
-    passed (board_of start) c.combine.new.enc c.combine.new.self.slots.items _ _ c.combine.result c.from_residual-in_err-combine.result _ c.in_err-combine.was p (c.combine.ensures (board_of start) m.at (exec_minus_fits start (c.args.enc.now, c.args.board.now.slots.items) (c.copy.new.enc, c.copy.new.self.slots.items) c.args.a.0 c.exec-executable.result ready c.requires.action c.exec-executable.ensures m fits))
+    passed (board_of start) c.combine.new.enc c.combine.new.self.slots.items _ _ c.combine.result c.from_residual-in_err-combine.result _ c.in_err-combine.was p (c.combine.ensures (board_of start) m.at (exec_meet_fits start (c.args.enc.now, c.args.board.now.slots.items) (c.copy.new.enc, c.copy.new.self.slots.items) c.args.a.0 c.exec-executable.result ready c.requires.action c.exec-executable.ensures m fits))
 
-pub is_empty-requires-clause-working : goal.is_empty-requires-clause-working
-is_empty-requires-clause-working c =
+pub is_same-requires-clause-working : goal.is_same-requires-clause-working
+is_same-requires-clause-working c =
     let start = c.requires.ready.0 in
     let m = went (board_of start) c.copy.new.enc c.copy.new.self.slots.items _ c.copy.result _ c.in_ok-copy.was (c.copy.ensures (board_of start) c.requires.ready.1.at (exec_fits start (c.args.enc.now, c.args.board.now.slots.items) c.args.a.0 c.exec-executable.result c.requires.ready.1 c.requires.action c.exec-executable.ensures c.requires.ready.2)) in
-    let n = went (board_of start) c.combine.new.enc c.combine.new.self.slots.items _ c.combine.result _ c.in_ok-combine.was (c.combine.ensures (board_of start) m.at (exec_minus_fits start (c.args.enc.now, c.args.board.now.slots.items) (c.copy.new.enc, c.copy.new.self.slots.items) c.args.a.0 c.exec-executable.result c.requires.ready.1 c.requires.action c.exec-executable.ensures m c.requires.ready.2)) in
+    let n = went (board_of start) c.combine.new.enc c.combine.new.self.slots.items _ c.combine.result _ c.in_ok-combine.was (c.combine.ensures (board_of start) m.at (exec_meet_fits start (c.args.enc.now, c.args.board.now.slots.items) (c.copy.new.enc, c.copy.new.self.slots.items) c.args.a.0 c.exec-executable.result c.requires.ready.1 c.requires.action c.exec-executable.ensures m c.requires.ready.2)) in
     (board_of start, n.at)
 
-pub is_empty-requires-clause-place : goal.is_empty-requires-clause-place
-is_empty-requires-clause-place c =
+pub is_same-requires-clause-a : goal.is_same-requires-clause-a
+is_same-requires-clause-a c =
     let start = c.requires.ready.0 in
     let m = went (board_of start) c.copy.new.enc c.copy.new.self.slots.items _ c.copy.result _ c.in_ok-copy.was (c.copy.ensures (board_of start) c.requires.ready.1.at (exec_fits start (c.args.enc.now, c.args.board.now.slots.items) c.args.a.0 c.exec-executable.result c.requires.ready.1 c.requires.action c.exec-executable.ensures c.requires.ready.2)) in
-    let n = went (board_of start) c.combine.new.enc c.combine.new.self.slots.items _ c.combine.result _ c.in_ok-combine.was (c.combine.ensures (board_of start) m.at (exec_minus_fits start (c.args.enc.now, c.args.board.now.slots.items) (c.copy.new.enc, c.copy.new.self.slots.items) c.args.a.0 c.exec-executable.result c.requires.ready.1 c.requires.action c.exec-executable.ensures m c.requires.ready.2)) in
+    let n = went (board_of start) c.combine.new.enc c.combine.new.self.slots.items _ c.combine.result _ c.in_ok-combine.was (c.combine.ensures (board_of start) m.at (exec_meet_fits start (c.args.enc.now, c.args.board.now.slots.items) (c.copy.new.enc, c.copy.new.self.slots.items) c.args.a.0 c.exec-executable.result c.requires.ready.1 c.requires.action c.exec-executable.ensures m c.requires.ready.2)) in
+    low start (c.combine.new.enc, c.combine.new.self.slots.items) n.at 4 (omega arith)
+
+pub is_same-requires-clause-b : goal.is_same-requires-clause-b
+is_same-requires-clause-b c =
+    let start = c.requires.ready.0 in
+    let m = went (board_of start) c.copy.new.enc c.copy.new.self.slots.items _ c.copy.result _ c.in_ok-copy.was (c.copy.ensures (board_of start) c.requires.ready.1.at (exec_fits start (c.args.enc.now, c.args.board.now.slots.items) c.args.a.0 c.exec-executable.result c.requires.ready.1 c.requires.action c.exec-executable.ensures c.requires.ready.2)) in
+    let n = went (board_of start) c.combine.new.enc c.combine.new.self.slots.items _ c.combine.result _ c.in_ok-combine.was (c.combine.ensures (board_of start) m.at (exec_meet_fits start (c.args.enc.now, c.args.board.now.slots.items) (c.copy.new.enc, c.copy.new.self.slots.items) c.args.a.0 c.exec-executable.result c.requires.ready.1 c.requires.action c.exec-executable.ensures m c.requires.ready.2)) in
     low start (c.combine.new.enc, c.combine.new.self.slots.items) n.at 2 (omega arith)
 
 pub returns-clause-left : goal.returns-clause-left
 returns-clause-left c start ready fits =
     let m = went (board_of start) c.copy.new.enc c.copy.new.self.slots.items _ c.copy.result _ c.in_ok-copy.was (c.copy.ensures (board_of start) ready.at (exec_fits start (c.args.enc.now, c.args.board.now.slots.items) c.args.a.0 c.exec-executable.result ready c.requires.action c.exec-executable.ensures fits)) in
-    let n = went (board_of start) c.combine.new.enc c.combine.new.self.slots.items _ c.combine.result _ c.in_ok-combine.was (c.combine.ensures (board_of start) m.at (exec_minus_fits start (c.args.enc.now, c.args.board.now.slots.items) (c.copy.new.enc, c.copy.new.self.slots.items) c.args.a.0 c.exec-executable.result ready c.requires.action c.exec-executable.ensures m fits)) in
+    let n = went (board_of start) c.combine.new.enc c.combine.new.self.slots.items _ c.combine.result _ c.in_ok-combine.was (c.combine.ensures (board_of start) m.at (exec_meet_fits start (c.args.enc.now, c.args.board.now.slots.items) (c.copy.new.enc, c.copy.new.self.slots.items) c.args.a.0 c.exec-executable.result ready c.requires.action c.exec-executable.ensures m fits)) in
     moved_hits start (c.args.enc.now, c.args.board.now.slots.items) (c.copy.new.enc, c.copy.new.self.slots.items) (c.combine.new.enc, c.combine.new.self.slots.items) _ _ ready m n
 
 pub returns-clause-joined : goal.returns-clause-joined
 returns-clause-joined c start ready fits joined =
     let m = went (board_of start) c.copy.new.enc c.copy.new.self.slots.items _ c.copy.result _ c.in_ok-copy.was (c.copy.ensures (board_of start) ready.at (exec_fits start (c.args.enc.now, c.args.board.now.slots.items) c.args.a.0 c.exec-executable.result ready c.requires.action c.exec-executable.ensures fits)) in
-    let n = went (board_of start) c.combine.new.enc c.combine.new.self.slots.items _ c.combine.result _ c.in_ok-combine.was (c.combine.ensures (board_of start) m.at (exec_minus_fits start (c.args.enc.now, c.args.board.now.slots.items) (c.copy.new.enc, c.copy.new.self.slots.items) c.args.a.0 c.exec-executable.result ready c.requires.action c.exec-executable.ensures m fits)) in
-    leads_among start (c.args.enc.now, c.args.board.now.slots.items) (c.copy.new.enc, c.copy.new.self.slots.items) (c.combine.new.enc, c.combine.new.self.slots.items) c.args.a.0 c.exec-executable.result ready c.requires.action c.exec-executable.ensures m n (c.is_empty.ensures.0 joined)
+    let n = went (board_of start) c.combine.new.enc c.combine.new.self.slots.items _ c.combine.result _ c.in_ok-combine.was (c.combine.ensures (board_of start) m.at (exec_meet_fits start (c.args.enc.now, c.args.board.now.slots.items) (c.copy.new.enc, c.copy.new.self.slots.items) c.args.a.0 c.exec-executable.result ready c.requires.action c.exec-executable.ensures m fits)) in
+    leads_among start (c.args.enc.now, c.args.board.now.slots.items) (c.copy.new.enc, c.copy.new.self.slots.items) (c.combine.new.enc, c.combine.new.self.slots.items) c.args.a.0 c.exec-executable.result ready c.requires.action c.exec-executable.ensures m n (c.is_same.ensures.0 joined)

@@ -1,5 +1,6 @@
 use Rattle.patrol_plan.proofs.TakerFits.{climb_joins, climb_leads, climb_leaves, climb_widens, within_now}
 use Rattle.patrol_plan.proofs.SceneSteps.{low, same_length}
+use Rattle.patrol_plan.proofs.SkipSteps.{climbs_none_new}
 use Rattle.patrol_plan.proofs.TakerSteps.{climbs_more}
 use Rattle.patrol_plan.specs.Scenes.{board_of}
 use Rattle.slot_board.proofs.BoardSlots.{action_within, went, passed, left_with, made_at}
@@ -62,6 +63,34 @@ returns-in_err-combine c start x h fits =
     let p = err_from_is_err_and c.from_residual-in_err-combine.result c.from_residual-in_err-combine.ensures.1 in
     let d1 = went (board_of start) c.lead_inside.new.enc c.lead_inside.new.board.slots.items _ c.lead_inside.result _ c.in_ok-lead_inside.was (c.lead_inside.ensures start h.changed.ready (climb_leads start x (c.args.enc.now, c.args.board.now.slots.items) c.args.takers c.args.a.0 c.requires.high (within_now start (c.args.enc.now, c.args.board.now.slots.items) c.args.takers h.changed.ready.at c.requires.places) (action_within (board_of start) c.args.enc.now c.args.board.now.slots.items c.args.a.0 h.changed.ready.at c.requires.action) h fits)) in
     passed (board_of start) c.combine.new.enc c.combine.new.self.slots.items _ _ c.combine.result c.from_residual-in_err-combine.result _ c.in_err-combine.was p (c.combine.ensures (board_of start) d1.at (climb_leaves start x (c.args.enc.now, c.args.board.now.slots.items) c.args.takers c.args.a.0 c.requires.high (within_now start (c.args.enc.now, c.args.board.now.slots.items) c.args.takers h.changed.ready.at c.requires.places) (action_within (board_of start) c.args.enc.now c.args.board.now.slots.items c.args.a.0 h.changed.ready.at c.requires.action) h fits (c.lead_inside.new.enc, c.lead_inside.new.board.slots.items) d1))
+
+pub is_empty-requires-clause-working : goal.is_empty-requires-clause-working
+is_empty-requires-clause-working c =
+    let start = c.requires.ready.0 in
+    let x = c.requires.ready.1 in
+    let h = c.requires.ready.2 in
+    let fits = c.requires.ready.3 in
+    let d1 = went (board_of start) c.lead_inside.new.enc c.lead_inside.new.board.slots.items _ c.lead_inside.result _ c.in_ok-lead_inside.was (c.lead_inside.ensures start h.changed.ready (climb_leads start x (c.args.enc.now, c.args.board.now.slots.items) c.args.takers c.args.a.0 c.requires.high (within_now start (c.args.enc.now, c.args.board.now.slots.items) c.args.takers h.changed.ready.at c.requires.places) (action_within (board_of start) c.args.enc.now c.args.board.now.slots.items c.args.a.0 h.changed.ready.at c.requires.action) h fits)) in
+    let d2 = went (board_of start) c.combine.new.enc c.combine.new.self.slots.items _ c.combine.result _ c.in_ok-combine.was (c.combine.ensures (board_of start) d1.at (climb_leaves start x (c.args.enc.now, c.args.board.now.slots.items) c.args.takers c.args.a.0 c.requires.high (within_now start (c.args.enc.now, c.args.board.now.slots.items) c.args.takers h.changed.ready.at c.requires.places) (action_within (board_of start) c.args.enc.now c.args.board.now.slots.items c.args.a.0 h.changed.ready.at c.requires.action) h fits (c.lead_inside.new.enc, c.lead_inside.new.board.slots.items) d1)) in
+    (board_of start, d2.at)
+
+pub is_empty-requires-clause-place : goal.is_empty-requires-clause-place
+is_empty-requires-clause-place c =
+    let start = c.requires.ready.0 in
+    let x = c.requires.ready.1 in
+    let h = c.requires.ready.2 in
+    let fits = c.requires.ready.3 in
+    let d1 = went (board_of start) c.lead_inside.new.enc c.lead_inside.new.board.slots.items _ c.lead_inside.result _ c.in_ok-lead_inside.was (c.lead_inside.ensures start h.changed.ready (climb_leads start x (c.args.enc.now, c.args.board.now.slots.items) c.args.takers c.args.a.0 c.requires.high (within_now start (c.args.enc.now, c.args.board.now.slots.items) c.args.takers h.changed.ready.at c.requires.places) (action_within (board_of start) c.args.enc.now c.args.board.now.slots.items c.args.a.0 h.changed.ready.at c.requires.action) h fits)) in
+    let d2 = went (board_of start) c.combine.new.enc c.combine.new.self.slots.items _ c.combine.result _ c.in_ok-combine.was (c.combine.ensures (board_of start) d1.at (climb_leaves start x (c.args.enc.now, c.args.board.now.slots.items) c.args.takers c.args.a.0 c.requires.high (within_now start (c.args.enc.now, c.args.board.now.slots.items) c.args.takers h.changed.ready.at c.requires.places) (action_within (board_of start) c.args.enc.now c.args.board.now.slots.items c.args.a.0 h.changed.ready.at c.requires.action) h fits (c.lead_inside.new.enc, c.lead_inside.new.board.slots.items) d1)) in
+    low start (c.combine.new.enc, c.combine.new.self.slots.items) d2.at 4 (omega arith)
+
+pub returns-then-is_empty : goal.returns-then-is_empty
+returns-then-is_empty c start x h fits =
+    let d1 = went (board_of start) c.lead_inside.new.enc c.lead_inside.new.board.slots.items _ c.lead_inside.result _ c.in_ok-lead_inside.was (c.lead_inside.ensures start h.changed.ready (climb_leads start x (c.args.enc.now, c.args.board.now.slots.items) c.args.takers c.args.a.0 c.requires.high (within_now start (c.args.enc.now, c.args.board.now.slots.items) c.args.takers h.changed.ready.at c.requires.places) (action_within (board_of start) c.args.enc.now c.args.board.now.slots.items c.args.a.0 h.changed.ready.at c.requires.action) h fits)) in
+    let d2 = went (board_of start) c.combine.new.enc c.combine.new.self.slots.items _ c.combine.result _ c.in_ok-combine.was (c.combine.ensures (board_of start) d1.at (climb_leaves start x (c.args.enc.now, c.args.board.now.slots.items) c.args.takers c.args.a.0 c.requires.high (within_now start (c.args.enc.now, c.args.board.now.slots.items) c.args.takers h.changed.ready.at c.requires.places) (action_within (board_of start) c.args.enc.now c.args.board.now.slots.items c.args.a.0 h.changed.ready.at c.requires.action) h fits (c.lead_inside.new.enc, c.lead_inside.new.board.slots.items) d1)) in
+    climbs_none_new start x (c.args.enc.now, c.args.board.now.slots.items) (c.lead_inside.new.enc, c.lead_inside.new.board.slots.items) (c.combine.new.enc, c.combine.new.self.slots.items) c.args.takers c.args.a.0 c.requires.high
+    (within_now start (c.args.enc.now, c.args.board.now.slots.items) c.args.takers h.changed.ready.at c.requires.places) (action_within (board_of start) c.args.enc.now c.args.board.now.slots.items c.args.a.0 h.changed.ready.at c.requires.action) h d1 d2
+    (c.is_empty.ensures.0 (let t = c.if-is_empty.true in cc))
 
 pub combine-requires-2-clause-working : goal.combine-requires-2-clause-working
 combine-requires-2-clause-working c =

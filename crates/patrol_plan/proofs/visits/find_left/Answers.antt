@@ -18,8 +18,8 @@ pub returns-in_err-keep_first : goal.returns-in_err-keep_first
 returns-in_err-keep_first c start count h fits =
     ends_passed start (c.keep_first.new.enc, c.keep_first.new.board.slots.items) _ _ c.keep_first.result c.from_residual.result _ c.in_err-keep_first.was (err_from_is_err_and c.from_residual.result c.from_residual.ensures.1) (c.keep_first.ensures start count h fits)
 
-pub loop-enc-init : goal.loop-enc-init
-loop-enc-init c start count h fits =
+pub loop-means-init : goal.loop-means-init
+loop-means-init c start count h fits =
     (0, went (board_of start) c.keep_first.new.enc c.keep_first.new.board.slots.items _ c.keep_first.result _ c.in_ok-keep_first.was (c.keep_first.ensures start count h fits))
 
 pub is_same-requires-clause-working : goal.is_same-requires-clause-working
@@ -28,7 +28,7 @@ is_same-requires-clause-working c =
     let count = c.requires.ready.1 in
     let h = c.requires.ready.2 in
     let fits = c.requires.ready.3 in
-    let inv = c.loop-enc.invariant start count h fits in
+    let inv = c.loop-means.invariant start count h fits in
     (board_of start, inv.1.stay.ready.at)
 
 pub is_same-requires-clause-a : goal.is_same-requires-clause-a
@@ -37,8 +37,8 @@ is_same-requires-clause-a c =
     let count = c.requires.ready.1 in
     let h = c.requires.ready.2 in
     let fits = c.requires.ready.3 in
-    let inv = c.loop-enc.invariant start count h fits in
-    visit_low start (c.loop-enc.enc, c.loop-enc.board.slots.items) inv.1.stay.ready.at inv.1.stay.some 10 (omega arith)
+    let inv = c.loop-means.invariant start count h fits in
+    visit_low start (c.loop-means.enc, c.loop-means.board.slots.items) inv.1.stay.ready.at inv.1.stay.some 10 (omega arith)
 
 pub is_same-requires-clause-b : goal.is_same-requires-clause-b
 is_same-requires-clause-b c =
@@ -46,8 +46,8 @@ is_same-requires-clause-b c =
     let count = c.requires.ready.1 in
     let h = c.requires.ready.2 in
     let fits = c.requires.ready.3 in
-    let inv = c.loop-enc.invariant start count h fits in
-    visit_low start (c.loop-enc.enc, c.loop-enc.board.slots.items) inv.1.stay.ready.at inv.1.stay.some 8 (omega arith)
+    let inv = c.loop-means.invariant start count h fits in
+    visit_low start (c.loop-means.enc, c.loop-means.board.slots.items) inv.1.stay.ready.at inv.1.stay.some 8 (omega arith)
 
 pub keep_more-requires-clause-ready : goal.keep_more-requires-clause-ready
 keep_more-requires-clause-ready c =
@@ -55,8 +55,8 @@ keep_more-requires-clause-ready c =
     let count = c.requires.ready.1 in
     let h = c.requires.ready.2 in
     let fits = c.requires.ready.3 in
-    let inv = c.loop-enc.invariant start count h fits in
-    let visits = went (board_of start) c.loses_initial.new.enc c.loop-enc.board.slots.items _ c.loses_initial.result _ c.in_ok-lost.was (c.loses_initial.ensures.left start c.args.visits.now inv.0 inv.1) in
+    let inv = c.loop-means.invariant start count h fits in
+    let visits = went (board_of start) c.loses_initial.new.enc c.loop-means.board.slots.items _ c.loses_initial.result _ c.in_ok-lost.was (c.loses_initial.ensures.left start c.args.visits.now inv.0 inv.1) in
     (start, inv.0, visits)
 
 pub keep_more-requires-clause-actions : goal.keep_more-requires-clause-actions
@@ -65,9 +65,9 @@ keep_more-requires-clause-actions c =
     let count = c.requires.ready.1 in
     let h = c.requires.ready.2 in
     let fits = c.requires.ready.3 in
-    let inv = c.loop-enc.invariant start count h fits in
-    let visits = went (board_of start) c.loses_initial.new.enc c.loop-enc.board.slots.items _ c.loses_initial.result _ c.in_ok-lost.was (c.loses_initial.ensures.left start c.args.visits.now inv.0 inv.1) in
-    let e : length c.loses_initial.new.enc.actions ≡ length c.args.enc.now.actions = same_actions (board_of start) c.args.enc.now c.loses_initial.new.enc c.args.board.now.slots.items c.loop-enc.board.slots.items h.at visits.stay.ready.at in omega (arith, c.requires.actions)
+    let inv = c.loop-means.invariant start count h fits in
+    let visits = went (board_of start) c.loses_initial.new.enc c.loop-means.board.slots.items _ c.loses_initial.result _ c.in_ok-lost.was (c.loses_initial.ensures.left start c.args.visits.now inv.0 inv.1) in
+    let e : length c.loses_initial.new.enc.actions ≡ length c.args.enc.now.actions = same_actions (board_of start) c.args.enc.now c.loses_initial.new.enc c.args.board.now.slots.items c.loop-means.board.slots.items h.at visits.stay.ready.at in omega (arith, c.requires.actions)
 
 pub keep_more-requires-clause-visits : goal.keep_more-requires-clause-visits
 keep_more-requires-clause-visits c =
@@ -75,54 +75,54 @@ keep_more-requires-clause-visits c =
     let count = c.requires.ready.1 in
     let h = c.requires.ready.2 in
     let fits = c.requires.ready.3 in
-    let inv = c.loop-enc.invariant start count h fits in
-    let visits = went (board_of start) c.loses_initial.new.enc c.loop-enc.board.slots.items _ c.loses_initial.result _ c.in_ok-lost.was (c.loses_initial.ensures.left start c.args.visits.now inv.0 inv.1) in
-    visits_over start (c.args.enc.now, c.args.board.now.slots.items) (c.loses_initial.new.enc, c.loop-enc.board.slots.items) c.args.visits.now h.at visits.stay.ready.at c.requires.visits
+    let inv = c.loop-means.invariant start count h fits in
+    let visits = went (board_of start) c.loses_initial.new.enc c.loop-means.board.slots.items _ c.loses_initial.result _ c.in_ok-lost.was (c.loses_initial.ensures.left start c.args.visits.now inv.0 inv.1) in
+    visits_over start (c.args.enc.now, c.args.board.now.slots.items) (c.loses_initial.new.enc, c.loop-means.board.slots.items) c.args.visits.now h.at visits.stay.ready.at c.requires.visits
 
 pub returns-in_err-keep_more : goal.returns-in_err-keep_more
 returns-in_err-keep_more c start count h fits =
-    let inv = c.loop-enc.invariant start count h fits in
-    let visits = went (board_of start) c.loses_initial.new.enc c.loop-enc.board.slots.items _ c.loses_initial.result _ c.in_ok-lost.was (c.loses_initial.ensures.left start c.args.visits.now inv.0 inv.1) in
+    let inv = c.loop-means.invariant start count h fits in
+    let visits = went (board_of start) c.loses_initial.new.enc c.loop-means.board.slots.items _ c.loses_initial.result _ c.in_ok-lost.was (c.loses_initial.ensures.left start c.args.visits.now inv.0 inv.1) in
     ends_passed start (c.keep_more.new.enc, c.keep_more.new.board.slots.items) _ _ c.keep_more.result c.from_residual-in_err-keep_more.result _ c.in_err-keep_more.was (err_from_is_err_and c.from_residual-in_err-keep_more.result c.from_residual-in_err-keep_more.ensures.1) (c.keep_more.ensures start inv.0 visits)
 
-pub loop-enc-smaller : goal.loop-enc-smaller
-loop-enc-smaller c =
+pub loop-means-smaller : goal.loop-means-smaller
+loop-means-smaller c =
     let start = c.requires.ready.0 in
     let count = c.requires.ready.1 in
     let h = c.requires.ready.2 in
     let fits = c.requires.ready.3 in
-    let inv = c.loop-enc.invariant start count h fits in
-    let visits = went (board_of start) c.loses_initial.new.enc c.loop-enc.board.slots.items _ c.loses_initial.result _ c.in_ok-lost.was (c.loses_initial.ensures.left start c.args.visits.now inv.0 inv.1) in
+    let inv = c.loop-means.invariant start count h fits in
+    let visits = went (board_of start) c.loses_initial.new.enc c.loop-means.board.slots.items _ c.loses_initial.result _ c.in_ok-lost.was (c.loses_initial.ensures.left start c.args.visits.now inv.0 inv.1) in
     let more = went (board_of start) c.keep_more.new.enc c.keep_more.new.board.slots.items _ c.keep_more.result _ c.in_ok-keep_more.was (c.keep_more.ensures start inv.0 visits) in
-    visits_fewer start c.args.visits.now (c.loop-enc.enc, c.loop-enc.board.slots.items) (c.keep_more.new.enc, c.keep_more.new.board.slots.items) inv.0 c.args.enc.now.fluents inv.1 more
-    (λ same. let e = c.is_same.ensures.1 same in let f = c.loop-enc-test.true in cc)
+    visits_fewer start c.args.visits.now (c.loop-means.enc, c.loop-means.board.slots.items) (c.keep_more.new.enc, c.keep_more.new.board.slots.items) inv.0 c.args.enc.now.fluents inv.1 more
+    (λ same. let e = c.is_same.ensures.1 same in let f = c.loop-means-test.true in cc)
     (same_fluents (board_of start) c.args.enc.now c.args.board.now.slots.items h.at)
 
-pub loop-enc-preserved : goal.loop-enc-preserved
-loop-enc-preserved c start count h fits =
-    let inv = c.loop-enc.invariant start count h fits in
-    let visits = went (board_of start) c.loses_initial.new.enc c.loop-enc.board.slots.items _ c.loses_initial.result _ c.in_ok-lost.was (c.loses_initial.ensures.left start c.args.visits.now inv.0 inv.1) in
+pub loop-means-preserved : goal.loop-means-preserved
+loop-means-preserved c start count h fits =
+    let inv = c.loop-means.invariant start count h fits in
+    let visits = went (board_of start) c.loses_initial.new.enc c.loop-means.board.slots.items _ c.loses_initial.result _ c.in_ok-lost.was (c.loses_initial.ensures.left start c.args.visits.now inv.0 inv.1) in
     let more = went (board_of start) c.keep_more.new.enc c.keep_more.new.board.slots.items _ c.keep_more.result _ c.in_ok-keep_more.was (c.keep_more.ensures start inv.0 visits) in
     (suc inv.0, more)
 
 pub returns : goal.returns
 returns c start count h fits =
-    let inv = c.loop-enc.invariant start count h fits in
-    patrol_made start c.args.visits.now (c.loop-enc.enc, c.loop-enc.board.slots.items) inv.0 inv.1 (c.is_same.ensures.0 (let f = c.loop-enc-test.false in cc))
+    let inv = c.loop-means.invariant start count h fits in
+    patrol_made start c.args.visits.now (c.loop-means.enc, c.loop-means.board.slots.items) inv.0 inv.1 (c.is_same.ensures.0 (let f = c.loop-means-test.false in cc))
 
 pub loses_initial-requires : goal.loses_initial-requires
 loses_initial-requires c =
     let start = c.requires.ready.0 in
-    let inv = c.loop-enc.invariant start c.requires.ready.1 c.requires.ready.2 c.requires.ready.3 in
+    let inv = c.loop-means.invariant start c.requires.ready.1 c.requires.ready.2 c.requires.ready.3 in
     record { ready = (start, c.args.visits.now, inv.0, inv.1) }
 
 pub returns-in_err-lost : goal.returns-in_err-lost
 returns-in_err-lost c start count h fits =
-    let inv = c.loop-enc.invariant start count h fits in
-    ends_passed start (c.loses_initial.new.enc, c.loop-enc.board.slots.items) _ _ c.loses_initial.result c.from_residual-in_err-lost.result _ c.in_err-lost.was (err_from_is_err_and c.from_residual-in_err-lost.result c.from_residual-in_err-lost.ensures.1) (c.loses_initial.ensures.left start c.args.visits.now inv.0 inv.1)
+    let inv = c.loop-means.invariant start count h fits in
+    ends_passed start (c.loses_initial.new.enc, c.loop-means.board.slots.items) _ _ c.loses_initial.result c.from_residual-in_err-lost.result _ c.in_err-lost.was (err_from_is_err_and c.from_residual-in_err-lost.result c.from_residual-in_err-lost.ensures.1) (c.loses_initial.ensures.left start c.args.visits.now inv.0 inv.1)
 
 pub returns-then-lost : goal.returns-then-lost
 returns-then-lost c start count h fits =
-    let inv = c.loop-enc.invariant start count h fits in
-    let visits = went (board_of start) c.loses_initial.new.enc c.loop-enc.board.slots.items _ c.loses_initial.result _ c.in_ok-lost.was (c.loses_initial.ensures.left start c.args.visits.now inv.0 inv.1) in
+    let inv = c.loop-means.invariant start count h fits in
+    let visits = went (board_of start) c.loses_initial.new.enc c.loop-means.board.slots.items _ c.loses_initial.result _ c.in_ok-lost.was (c.loses_initial.ensures.left start c.args.visits.now inv.0 inv.1) in
     (visits.stay.ready.at, c.in_ok-lost.ensures.lost start c.args.visits.now inv.0 inv.1 c.if-lost.true)

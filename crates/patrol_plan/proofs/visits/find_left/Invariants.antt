@@ -5,9 +5,9 @@ use Rattle.patrol_plan.specs.Scenes.{HasNothing, Start}
 use Rattle.patrol_plan.proofs.VisitSteps.{still_left}
 use Rattle.patrol_plan.proofs.visits.find_left.Given as goal
 
-abbrev pub invariant-loop-enc : goal.invariant-loop-enc
-invariant-loop-enc l = (start : Start) → start.stages ≡ length l.fn.visits → HasNothing start (l.fn.enc, l.fn.board.slots.items) → PatrolFits start l.fn.visits → (r : ℕ) × HasVisits start l.fn.visits (l.enc, l.board.slots.items) r (length l.fn.visits)
+abbrev pub invariant-loop-means : goal.invariant-loop-means
+invariant-loop-means l = (start : Start) → start.stages ≡ length l.fn.visits → HasNothing start (l.fn.enc, l.fn.board.slots.items) → PatrolFits start l.fn.visits → (r : ℕ) × HasVisits start l.fn.visits (l.enc, l.board.slots.items) r (length l.fn.visits)
 
 -- how many states are left
-abbrev pub decreases-loop-enc : goal.decreases-loop-enc
-decreases-loop-enc l = still_left (l.enc, l.board.slots.items) l.fn.enc.fluents
+abbrev pub decreases-loop-means : goal.decreases-loop-means
+decreases-loop-means l = still_left (l.enc, l.board.slots.items) l.fn.enc.fluents
