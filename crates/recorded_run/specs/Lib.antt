@@ -1,0 +1,5 @@
+pub mod Rules
+pub mod RecordedRuns
+pub mod Texts
+pub mod Values
+pub mod Turns
