@@ -1,0 +1,5 @@
+mod Chosen
+mod Courses
+mod Pushed
+mod Turned
+mod Stopping

@@ -1,0 +1,6 @@
+pub mod Indexed
+pub mod Rules
+pub mod RecordedRuns
+pub mod Texts
+pub mod Values
+pub mod Turns
