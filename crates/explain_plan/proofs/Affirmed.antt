@@ -1,10 +1,9 @@
 -- What shows a yes is reached by the plan.
-use Rattle.std.proofs.Common.{◌≡◌, ◌≢◌, ◌∙◌, ◌<◌, ◌++◌, ℕ, zero, suc, List, [], ◌∷◌, Some, None, Option, length, map, refl, sym, ap, subst, arith, ⊎_elim}
+use Rattle.std.proofs.Common.{◌≡◌, ◌∙◌, ◌<◌, ◌++◌, ℕ, List, [], ◌∷◌, None, Option, length, map, refl, sym, ap, subst, arith, ⊎_elim}
 use Rattle.std.specs.List.{Contains}
 use Rattle.std.proofs.lemmas.List.{length-append}
 use Rattle.std.proofs.lemmas.Option.{none-some}
 use Rattle.list_laws.proofs.Elements.{Contains-head, Contains-nil, some_element}
-use Rattle.exec_graph.specs.Executions.{GoesTo, IsReachedBy}
 use Rattle.exec_graph.specs.Graphs.{IsGraphOf, PlainGraph}
 use Rattle.exec_graph.specs.Orders.{in_first}
 use Rattle.goal_witness.proofs.Endless.{found_round}
@@ -17,8 +16,7 @@ use Rattle.plan_witness.proofs.GraphRuns.{last_place, path_of, step_to}
 use Rattle.plan_witness.specs.Ends.{IsEnd, IsEndInside}
 use Rattle.plan_witness.specs.Lassos.{ComesBack}
 use Rattle.plan_witness.specs.Runs.{NoneReached}
-use Rattle.task_core.specs.ContextPlans.{Configuration}
-use Rattle.task_core.specs.Paths.{IsPath, last_of}
+use Rattle.task_core.specs.Paths.{last_of}
 use Rattle.task_core.specs.Solutions.{IsReached}
 use Rattle.task_core.specs.Systems.{System, goal_states}
 use Rattle.task_core.specs.Tables.{IsTerminal, Leads, Table}
@@ -108,4 +106,4 @@ module _ (task : Task) (written : Class) (rules : List PlanRule) (start : Vector
 
 -- a strong plan that is a yes has a bound
 pub has_bound : (sys : System) (rules : List PlanRule) → IsYes sys rules Strong None → ⊥
-has_bound sys rules judged = none-some judged.bounded.0 judged.bounded.1
+has_bound s rules judged = none-some judged.bounded.0 judged.bounded.1

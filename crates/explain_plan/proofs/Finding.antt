@@ -13,7 +13,7 @@ use Rattle.command_base.specs.declared.answers.Shown.{Shown}
 use Rattle.exec_graph.specs.Graphs.{IsGraphOf, PlainGraph}
 use Rattle.exec_graph.specs.Orders.{in_first}
 use Rattle.goal_witness.specs.Witnesses.{MissesGoal}
-use Rattle.plan_check.specs.ContextVerdicts.{HasContextReason, IsContextVerdict, IsFirstContextReason, IsTrueAt}
+use Rattle.plan_check.specs.ContextVerdicts.{IsFirstContextReason, IsTrueAt}
 use Rattle.plan_check.specs.declared.verdicts.Reason.{Reason}
 use Rattle.plan_check.specs.declared.verdicts.Reason.TheVariants.{Cycle, Formula, Stuck, Terminal, Unexecutable, Unreachable}
 use Rattle.plan_check.specs.declared.verdicts.Verdict.{Verdict}

@@ -8,5 +8,5 @@ pub returns : goal.returns
 returns c =
     let followed = c.args.followed.now in
     let n = fluent_count followed.grounded.now.task in
-    missing_of n c.args.fair followed.grounded.now.task followed.grounded.now.ctl c.goal_in.result.now (plain_of followed.plan.now) c.in_ok-run.run (finding_value n c.with_run.result)
+    missing_of n c.args.fair followed.grounded.now.task followed.grounded.now.ctl c.goal_in.result.now (plain_of followed.plan.now) c.in_ok-run.run' (finding_value n c.with_run.result)
     (c.with_run.ensures n) c.goal_in.ensures c.in_ok-run.ensures.found c.in_ok-run.ensures.none
