@@ -11,3 +11,4 @@ pub mod Everywhere
 pub mod Tall
 pub mod Lengths
 pub mod Onwards
+mod Ranks

@@ -10,3 +10,4 @@ pub mod Scenes
 pub mod Longest
 pub mod Heights
 pub mod Onward
+pub mod Levels

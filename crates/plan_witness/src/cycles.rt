@@ -21,6 +21,7 @@ ghost use Rattle.plan_rules.specs.Plans.{IsPlanOf};
 ghost use Rattle.plan_rules.specs.Rules.{plain_of};
 ghost use Rattle.exec_graph.specs.Values.{IsWithinFluents, followers_at, graph_size};
 ghost use Rattle.plan_witness.specs.Lassos.{ComesBack, IsLasso};
+ghost use Rattle.plan_witness.specs.Levels.{AreLevels};
 ghost use Rattle.plan_witness.specs.Marked.{IsGraphIn, IsRoundOf};
 ghost use Rattle.plan_witness.specs.Runs.{NoneReached};
 ghost use Rattle.plan_witness.specs.Scenes.{IsFollowed, place_in, plan_in, size_in, sys_in};
@@ -34,6 +35,7 @@ ghost use Rattle.plan_witness.specs.Ways.{
 };
 ghost use Rattle.plan_witness.specs.Within.{HasStepsWithin, IsRunWithin};
 
+use crate::levels::{Levels, levels_of, may_come_back};
 use crate::runs::{Run, RunStep, run_along, starts_of, step_at, steps_along};
 use crate::scenes::Scene;
 use crate::shortest::{Way, shortest_way, way_back};
@@ -103,13 +105,14 @@ fn nearest_round<L: Ledger>(
     ensures none { IfOk result (λ found. IfNone found ((i : ℕ) → i < graph_size graph.now
         → IsOnRound (followers_at graph.now) i → at ways.now.lengths.items i < FAR → ⊥)) }
 {
+    let levels = levels_of(alloc, graph, steps)?;
     let mut nearest = None;
     let mut least = FAR;
     for i in 0..graph.len() {
         if ways.length_at(i) >= least {
             continue;
         }
-        if is_on_round(alloc, graph, i, steps)? {
+        if comes_back(alloc, graph, &levels, i, steps)? {
             least = ways.length_at(i);
             nearest = Some(i);
         }
@@ -142,6 +145,25 @@ fn round_along<L: Ledger>(
         }
         None => Ok(Vec::new(alloc)),
     }
+}
+
+/// Whether some walk from a number comes back to it. By the ranks most that don't are seen at once.
+fn comes_back<L: Ledger>(
+    alloc: Global,
+    graph: &Graph,
+    levels: &Levels,
+    number: u32,
+    steps: &mut Steps<L>,
+) -> Result<bool, AllocError>
+    requires inside { HasFollowersInside graph.now }
+    requires levels { AreLevels (graph_size graph.now) (followers_at graph.now) levels.now }
+    requires number { number < graph_size graph.now }
+    ensures { IfOk result (λ is. (is ≡ true) ↔ IsOnRound (followers_at graph.now) number) }
+{
+    if !may_come_back(graph, levels, number, steps) {
+        return Ok(false);
+    }
+    is_on_round(alloc, graph, number, steps)
 }
 
 /// Whether some walk from a number comes back to it.

@@ -28,6 +28,7 @@ ghost use Rattle.plan_witness.specs.Heights.{
 };
 ghost use Rattle.plan_witness.specs.Ways.{at};
 
+use crate::components::find_components;
 use crate::shortest::Way;
 use exec_graph::{Graph, Steps};
 use std::alloc::{AllocError, Global};
@@ -47,6 +48,9 @@ pub(crate) fn heights_within<L: Ledger>(
         AreHeights (graph_size graph.now) (followers_at graph.now) heights.items) }
 {
     let mut heights = zeros(alloc, graph)?;
+    // In this order one pass is enough, if the order is what it is meant to be.
+    let parts = find_components(alloc, graph, steps)?;
+    raise_along(graph, bound, &mut heights, &parts.order, steps);
     'passes: while raise_all(graph, bound, &mut heights, steps) {}
     Ok(heights)
 }
@@ -61,6 +65,44 @@ fn zeros(alloc: Global, graph: &Graph) -> Result<Vec<u64>, AllocError>
         heights.push(0)?;
     }
     Ok(heights)
+}
+
+/// Raises configurations in this order.
+fn raise_along<L: Ledger>(
+    graph: &Graph,
+    bound: u64,
+    heights: &mut Vec<u64>,
+    order: &[u32],
+    steps: &mut Steps<L>,
+)
+    requires inside { HasFollowersInside graph.now }
+    requires within { HasWalksWithin (graph_size graph.now) (followers_at graph.now) bound }
+    requires attained { AreAttained (graph_size graph.now) (followers_at graph.now)
+        heights.old.items }
+    ensures { AreAttained (graph_size graph.now) (followers_at graph.now) heights.new.items }
+{
+    for number in order {
+        raise_if_known(graph, bound, heights, *number, steps);
+    }
+}
+
+/// Raises a number, if it is one of the graph, and isn't higher than those that follow it.
+fn raise_if_known<L: Ledger>(
+    graph: &Graph,
+    bound: u64,
+    heights: &mut Vec<u64>,
+    number: u32,
+    steps: &mut Steps<L>,
+)
+    requires inside { HasFollowersInside graph.now }
+    requires within { HasWalksWithin (graph_size graph.now) (followers_at graph.now) bound }
+    requires attained { AreAttained (graph_size graph.now) (followers_at graph.now)
+        heights.old.items }
+    ensures { AreAttained (graph_size graph.now) (followers_at graph.now) heights.new.items }
+{
+    if number < graph.len() {
+        let _raised = raise(graph, bound, heights, number, steps);
+    }
 }
 
 /// Raises each configuration that isn't higher than those that follow it. Says whether there was one.
@@ -124,7 +166,12 @@ fn raise<L: Ledger>(
 }
 
 /// The least height above all configurations that follow one.
-fn least_above<L: Ledger>(graph: &Graph, heights: &[u64], number: u32, steps: &mut Steps<L>) -> u64
+pub(crate) fn least_above<L: Ledger>(
+    graph: &Graph,
+    heights: &[u64],
+    number: u32,
+    steps: &mut Steps<L>,
+) -> u64
     requires inside { HasFollowersInside graph.now }
     requires count { length heights.now ≡ graph_size graph.now }
     requires number { number < graph_size graph.now }

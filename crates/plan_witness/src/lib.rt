@@ -6,9 +6,11 @@
 //! and `specs/Ends.antt` what its end shows.
 #![tactic(auto)]
 
+mod components;
 mod cycles;
 mod heights;
 mod leading;
+mod levels;
 mod longest;
 mod onward;
 mod reasons;

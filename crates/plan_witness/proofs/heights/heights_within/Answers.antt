@@ -3,8 +3,8 @@ use Rattle.exec_graph.specs.Values.{followers_at}
 use Rattle.plan_witness.specs.Heights.{GoesFor}
 use Rattle.plan_witness.proofs.heights.heights_within.Goals as goal
 
-pub passes-init : goal.passes-init
-passes-init g c =
+pub raise_along-requires-clause-attained : goal.raise_along-requires-clause-attained
+raise_along-requires-clause-attained g c =
     let z = c.in_ok-heights.ensures in
     record {
       count = z.count;
