@@ -9,7 +9,7 @@ use Rattle.command_base.specs.Grounding.{GoalThen, GroundThen}
 use Rattle.command_base.specs.PddlTexts.{ReadBoth}
 use Rattle.plan_io.specs.Fetches.{Fetches}
 use Rattle.command_base.specs.Frame.{FailedIn}
-use Rattle.command_base.specs.Words.{Bytes, CheckWords, Command, PlanKind, check, kind_word, of_class, with_contexts}
+use Rattle.command_base.specs.Words.{Bytes, CheckWords, PlanKind, check, kind_word, of_class, with_contexts}
 use Rattle.task_core.specs.declared.classes.Class.TheVariants.{Cyclic, Strong, Weak}
 use Rattle.command_base.proofs.Frames.{IsGivenFor}
 use Rattle.command_base.proofs.OneCommand.{one_command}

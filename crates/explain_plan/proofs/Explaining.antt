@@ -1,6 +1,6 @@
 -- The verdict on a plan of a task, explained, is that for the domain and the problem that the task comes
 -- from.
-use Rattle.std.proofs.Common.{◌≡◌, ◌⊎◌, Bool, List, inl, inr, refl, sym, subst, ap, None, Option, true}
+use Rattle.std.proofs.Common.{◌≡◌, ◌⊎◌, Bool, List, inl, inr, refl, subst, ap, None, Option, true}
 use Rattle.std.specs.Option.{option_map}
 use Rattle.ctl_syntax.specs.declared.goals.Ctl.{Ctl}
 use Rattle.exec_graph.specs.Initials.{HasTooManyInitial}

@@ -41,7 +41,7 @@ use Rattle.check_command.proofs.CheckAnswers.{verdict_for}
 use Rattle.command_base.specs.Answers.{Refusal, no_memory}
 use Rattle.command_base.specs.Words.{Bytes, PlanKind, with_contexts}
 use Rattle.sexpr_text.specs.declared.forms.Place.{Place}
-use Rattle.explain_plan.specs.Fairly.{IsFairGoal, IsFairVerdict, IsGoalFor, IsGoalRefusal, IsJudgedAs, IsVerdictFor}
+use Rattle.explain_plan.specs.Fairly.{IsFairGoal, IsGoalFor, IsGoalRefusal, IsJudgedAs, IsVerdictFor}
 
 -- what is known of goals whose actions may be tried again
 abbrev pub FairGoalsAreTrue : Type 0

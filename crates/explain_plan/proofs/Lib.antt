@@ -1,3 +1,4 @@
+mod Affirmed
 mod Answers
 mod Explaining
 mod Fairness

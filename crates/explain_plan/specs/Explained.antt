@@ -1,5 +1,5 @@
 -- Which answer explains the verdict on a plan.
-use Rattle.std.specs.Prelude.{◌≡◌, ◌++◌, ℕ, [], Bool, List, Option, None, Some, codes, decimal, false, true}
+use Rattle.std.specs.Prelude.{◌≡◌, ◌++◌, ℕ, Bool, List, Option, None, Some, codes, decimal, false, true}
 use Rattle.std.specs.Option.{option_map}
 use Rattle.check_command.specs.CheckCommand.{ExploreThen, reason_word, verdict_answer}
 use Rattle.check_command.specs.Judged.{IsTaskVerdict}
@@ -20,8 +20,8 @@ use Rattle.pddl_system.specs.Tasks.{task_of}
 use Rattle.pddl_system.specs.Values.{task_value}
 use Rattle.plan_check.specs.declared.verdicts.Verdict.{Verdict}
 use Rattle.plan_check.specs.declared.verdicts.Verdict.TheVariants.{No, Yes}
-use Rattle.plan_finding.specs.Findings.{PlainFound}
-use Rattle.plan_finding.specs.Texts.{Source, found_text}
+use Rattle.plan_finding.specs.ForVerdicts.{PlainFinding}
+use Rattle.plan_finding.specs.Texts.{Source, finding_text}
 use Rattle.plan_io.specs.Held.{Held}
 use Rattle.plan_rules.specs.Rules.{PlainPlan}
 use Rattle.task_core.specs.Tasks.{action_names as actions_in, fluent_names as fluents_in, system_of}
@@ -49,32 +49,27 @@ verdict_words (Yes None) = codes "yes"
 verdict_words (Yes (Some bound)) = codes "yes bound " ++ decimal bound
 verdict_words (No reason) = codes "no " ++ reason_word reason
 
--- the text of the run, where there is one
-abbrev pub finding_text : Source → Option PlainFound → Bytes
-finding_text source None = []
-finding_text source (Some found) = found_text source found
-
 -- what names and lines are taken from
 abbrev pub source_in : Task → PlainPlan → List ℕ → Source
 source_in task plan lines =
     record { fluents = fluents_in task; actions = actions_in task; plan = plan; lines = lines }
 
--- what is shown of a verdict and a run: the line of `check`, and the text of the run after it; or the
--- document of both
-abbrev pub shown_answer : Bool → Source → Verdict → Option PlainFound → Answer
+-- what is shown of a verdict and what is told of it: the line of `check`, and the text of what is told
+-- after it; or the document of both
+abbrev pub shown_answer : Bool → Source → Verdict → PlainFinding → Answer
 shown_answer false source verdict finding =
     with_more (verdict_answer verdict) (finding_text source finding)
 shown_answer true source verdict finding =
     with_text (verdict_answer verdict) (document_text source (verdict_words verdict) finding)
 
--- what is shown is a verdict on the plan of a task for this goal, and a run that shows it
+-- what is shown is a verdict on the plan of a task for this goal, and what is told of it
 pub record ExplainsIn (asked : ExplainWords) (task : Task) (lined : LinedPlan) (goal : Option Ctl)
     (answer : Answer) : Type 0 where
   pub verdict : Verdict
   pub judged : IsTaskVerdict asked.check.kind task goal lined.placed.plan verdict
-  pub finding : Option PlainFound
+  pub finding : PlainFinding
   pub found : IsFindingFor asked.fair asked.check.kind task goal lined.placed.plan verdict finding
-  pub some : IsShownFor verdict finding
+  pub some : IsShownFor asked.check.kind verdict finding
   pub shown : answer
       ≡ shown_answer asked.json (source_in task lined.placed.plan lined.lines) verdict finding
 
@@ -91,9 +86,9 @@ pub record Explains (asked : ExplainWords) (domain : DomainTree) (problem : Prob
   pub stands : option_map goal_value given ≡ ctl_goal_of domain problem
   pub goal : Option Ctl
   pub is_goal : IsGoalFor asked.fair given goal
-  pub finding : Option PlainFound
+  pub finding : PlainFinding
   pub found : IsFindingFor asked.fair asked.check.kind task goal lined.placed.plan verdict finding
-  pub some : IsShownFor verdict finding
+  pub some : IsShownFor asked.check.kind verdict finding
   pub shown : answer
       ≡ shown_answer asked.json (source_in task lined.placed.plan lined.lines) verdict finding
 

@@ -1,4 +1,4 @@
--- Which run shows a verdict on a plan.
+-- What is told of which verdict on a plan.
 use Rattle.std.specs.Prelude.{◌≡◌, ⊤, Bool, IsSome, None, Option, Some, false, true}
 use Rattle.command_base.specs.Words.{PlanKind, of_class, with_contexts}
 use Rattle.ctl_syntax.specs.Values.{ctl_value}
@@ -8,26 +8,13 @@ use Rattle.plan_check.specs.declared.verdicts.Reason.TheVariants.{Cycle, Formula
 use Rattle.plan_check.specs.declared.verdicts.Reason.TheVariants.{Unexecutable, Unreachable}
 use Rattle.plan_check.specs.declared.verdicts.Verdict.{Verdict}
 use Rattle.plan_check.specs.declared.verdicts.Verdict.TheVariants.{No, Yes}
-use Rattle.plan_finding.specs.Aims.{IsAimAt, class_aim, context_aim}
-use Rattle.plan_finding.specs.Findings.{IsFound, PlainFound}
+use Rattle.plan_finding.specs.Findings.{PlainFound}
+use Rattle.plan_finding.specs.ForVerdicts.{IsClassFinding, IsContextFinding, PlainFinding, with_run}
 use Rattle.plan_finding.specs.Misses.{IsMiss}
-use Rattle.plan_finding.specs.declared.aims.Aim.{Aim}
 use Rattle.plan_rules.specs.Rules.{PlainPlan}
-use Rattle.plan_witness.specs.Runs.{NoneReached}
 use Rattle.task_core.specs.Tasks.{system_of}
+use Rattle.task_core.specs.declared.classes.Class.TheVariants.{Cyclic, Strong, Weak}
 use Rattle.task_core.specs.declared.tasks.Task.{Task}
-
--- what a run is to show for a verdict on a plan of the kind
-abbrev pub aim_of : PlanKind → Verdict → Aim
-aim_of (of_class class) verdict = class_aim class verdict
-aim_of with_contexts verdict = context_aim verdict
-
--- there is a run, with what is the matter at its end, to the aim, and no shorter one; or there is none,
--- since the plan may reach no configuration that is the aim
-abbrev pub IsFinding : Aim → Task → PlainPlan → Option PlainFound → Type 0
-IsFinding aim task plan (Some found) = IsFound aim task plan found
-IsFinding aim task plan None =
-    NoneReached (system_of task) plan (IsAimAt aim (system_of task) plan)
 
 -- whether the verdict is that a plan with contexts misses its goal
 abbrev pub misses_goal : PlanKind → Verdict → Bool
@@ -41,23 +28,37 @@ misses_goal with_contexts (No Unreachable) = false
 misses_goal with_contexts (No Formula) = true
 
 -- there is a run along which the goal is false by which the plan is judged; or there is none, since the
--- plan meets that goal, or can't always be executed, or doesn't go on
+-- plan meets that goal, or can't always be executed, or doesn't go on. Nothing else is told
 pub record IsMissing (fair : Bool) (task : Task) (goal : Option Ctl) (plan : PlainPlan)
-    (finding : Option PlainFound) : Type 0 where
+    (finding : PlainFinding) : Type 0 where
   pub judged_by : Ctl
   pub is : goal ≡ Some judged_by
-  pub some : (found : PlainFound) → finding ≡ Some found
+  pub some : (found : PlainFound) → finding.run ≡ Some found
       → IsMiss task plan fair (ctl_value judged_by) found
-  pub none : finding ≡ None → MissesGoal (system_of task) plan (ctl_value judged_by) → ⊥
+  pub none : finding.run ≡ None → MissesGoal (system_of task) plan (ctl_value judged_by) → ⊥
+  pub only : finding ≡ with_run finding.run
 
--- what shows the verdict on a plan of the kind: where it misses its goal, how the goal fails; else a
--- shortest run to the aim
+-- what is told of any other verdict: a shortest run that shows it; a longest run of a strong plan that is
+-- a yes; and in which states the plan stays that can't come to an end, or to the goal
+abbrev pub IsTold : PlanKind → Verdict → Task → PlainPlan → PlainFinding → Type 0
+IsTold (of_class class) verdict task plan finding = IsClassFinding class verdict task plan finding
+IsTold with_contexts verdict task plan finding = IsContextFinding verdict task plan finding
+
+-- what is told of the verdict on a plan of the kind
 pub record IsFindingFor (fair : Bool) (kind : PlanKind) (task : Task) (goal : Option Ctl)
-    (plan : PlainPlan) (verdict : Verdict) (finding : Option PlainFound) : Type 0 where
+    (plan : PlainPlan) (verdict : Verdict) (finding : PlainFinding) : Type 0 where
   pub missed : misses_goal kind verdict ≡ true → IsMissing fair task goal plan finding
-  pub aimed : misses_goal kind verdict ≡ false → IsFinding (aim_of kind verdict) task plan finding
+  pub told : misses_goal kind verdict ≡ false → IsTold kind verdict task plan finding
 
--- there is a run for each no
-abbrev pub IsShownFor : Verdict → Option PlainFound → Type 0
-IsShownFor (Yes bound) finding = ⊤
-IsShownFor (No reason) finding = IsSome finding
+-- there is a longest run for a yes of a strong plan
+abbrev pub HasLongestFor : PlanKind → Verdict → PlainFinding → Type 0
+HasLongestFor with_contexts verdict finding = ⊤
+HasLongestFor (of_class Weak) verdict finding = ⊤
+HasLongestFor (of_class Cyclic) verdict finding = ⊤
+HasLongestFor (of_class Strong) (No reason) finding = ⊤
+HasLongestFor (of_class Strong) (Yes bound) finding = IsSome finding.longest
+
+-- each verdict is shown by a run
+pub record IsShownFor (kind : PlanKind) (verdict : Verdict) (finding : PlainFinding) : Type 0 where
+  pub run : IsSome finding.run
+  pub longest : HasLongestFor kind verdict finding

@@ -1,15 +1,14 @@
-//! The run that shows a verdict on a plan.
+//! What is told of a verdict on a plan.
 
-ghost use Rattle.check_command.specs.Judged.{HasGoalIn};
+ghost use Rattle.check_command.specs.Judged.{HasGoalIn, IsTaskVerdict};
 ghost use Rattle.command_base.specs.Values.{kind_of};
 ghost use Rattle.command_base.specs.Words.{with_contexts};
 ghost use Rattle.ctl_syntax.specs.Values.{NamesBelow, ctl_value};
 ghost use Rattle.exec_graph.specs.Values.{IsWithinFluents};
 ghost use Rattle.explain_plan.specs.Findings.{
-  IsFinding,
   IsFindingFor,
   IsMissing,
-  aim_of,
+  IsTold,
   misses_goal as is_missed,
 };
 ghost use Rattle.plan_finding.specs.Values.{finding_value};
@@ -23,8 +22,9 @@ use command_base::{PlanKind, goal_in};
 use exec_graph::Graph;
 use ground_task::Grounded;
 use plan_check::{Reason, Verdict};
-use plan_finding::{Aim, Found, JudgedBy, class_aim, context_aim, find, find_miss};
+use plan_finding::{Finding, JudgedBy, find_for_class, find_for_contexts, find_miss, with_run};
 use plan_rules::Plan;
+use plan_witness::Scene;
 use std::alloc::{AllocError, Global};
 
 /// By what a plan is judged: its kind, and whether its actions may be tried again.
@@ -42,13 +42,13 @@ pub(crate) struct Followed<'a> {
     pub(crate) graph: &'a Graph,
 }
 
-/// A run that shows a verdict on a plan of the kind; `None` where none shows it.
+/// What is told of the verdict on a plan of the kind.
 pub(crate) fn finding_for<'a>(
     alloc: Global,
     judge: Judge,
     followed: &Followed<'a>,
     verdict: &Verdict,
-) -> Result<Option<Found<'a>>, AllocError>
+) -> Result<Finding<'a>, AllocError>
     requires goal { HasGoalIn (kind_of judge.kind) followed.now.grounded.now.task
         followed.now.grounded.now.ctl }
     requires names { IfSome followed.now.grounded.now.ctl
@@ -59,14 +59,17 @@ pub(crate) fn finding_for<'a>(
         followed.now.graph.now }
     requires inside { IsWithinFluents (fluent_count followed.now.grounded.now.task)
         followed.now.graph.now }
-    ensures { let task = followed.now.grounded.now.task in IfOk result (λ found.
+    requires verdict { let task = followed.now.grounded.now.task in
+        IsTaskVerdict (kind_of judge.kind) task followed.now.grounded.now.ctl
+        (plain_of followed.now.plan.now) verdict.now }
+    ensures { let task = followed.now.grounded.now.task in IfOk result (λ finding.
         IsFindingFor judge.fair (kind_of judge.kind) task followed.now.grounded.now.ctl
-        (plain_of followed.now.plan.now) verdict.now (finding_value (fluent_count task) found)) }
+        (plain_of followed.now.plan.now) verdict.now (finding_value (fluent_count task) finding)) }
 {
     if misses_goal(judge.kind, verdict) {
         return missed(alloc, judge.fair, followed);
     }
-    aimed(alloc, judge.kind, followed, verdict)
+    told(alloc, judge.kind, followed, verdict)
 }
 
 /// Whether the verdict is that a plan with contexts misses its goal.
@@ -95,11 +98,7 @@ fn is_formula(verdict: &Verdict) -> bool
 }
 
 /// A run that shows why a plan with contexts misses the goal by which it is judged.
-fn missed<'a>(
-    alloc: Global,
-    fair: bool,
-    followed: &Followed<'a>,
-) -> Result<Option<Found<'a>>, AllocError>
+fn missed<'a>(alloc: Global, fair: bool, followed: &Followed<'a>) -> Result<Finding<'a>, AllocError>
     requires goal { IsSome followed.now.grounded.now.ctl }
     requires names { IfSome followed.now.grounded.now.ctl
         (λ goal. NamesBelow (fluent_count followed.now.grounded.now.task) (ctl_value goal)) }
@@ -109,30 +108,31 @@ fn missed<'a>(
         followed.now.graph.now }
     requires inside { IsWithinFluents (fluent_count followed.now.grounded.now.task)
         followed.now.graph.now }
-    ensures { let task = followed.now.grounded.now.task in IfOk result (λ found.
+    ensures { let task = followed.now.grounded.now.task in IfOk result (λ finding.
         IsMissing fair task followed.now.grounded.now.ctl (plain_of followed.now.plan.now)
-        (finding_value (fluent_count task) found)) }
+        (finding_value (fluent_count task) finding)) }
 {
     let by = JudgedBy {
         goal: goal_in(followed.grounded),
         fair,
     };
-    find_miss(
+    let run = find_miss(
         alloc,
         &followed.grounded.task,
         followed.plan,
         followed.graph,
         by,
-    )
+    )?;
+    Ok(with_run(run))
 }
 
-/// A shortest run to what shows a verdict on a plan of the kind.
-fn aimed<'a>(
+/// What is told of any other verdict on a plan of the kind.
+fn told<'a>(
     alloc: Global,
     kind: PlanKind,
     followed: &Followed<'a>,
     verdict: &Verdict,
-) -> Result<Option<Found<'a>>, AllocError>
+) -> Result<Finding<'a>, AllocError>
     requires goal { HasGoalIn (kind_of kind) followed.now.grounded.now.task
         followed.now.grounded.now.ctl }
     requires plan { let task = followed.now.grounded.now.task in
@@ -141,26 +141,20 @@ fn aimed<'a>(
         followed.now.graph.now }
     requires inside { IsWithinFluents (fluent_count followed.now.grounded.now.task)
         followed.now.graph.now }
-    ensures { let task = followed.now.grounded.now.task in IfOk result (λ found.
-        IsFinding (aim_of (kind_of kind) verdict.now) task (plain_of followed.now.plan.now)
-        (finding_value (fluent_count task) found)) }
+    requires verdict { let task = followed.now.grounded.now.task in
+        IsTaskVerdict (kind_of kind) task followed.now.grounded.now.ctl
+        (plain_of followed.now.plan.now) verdict.now }
+    ensures { let task = followed.now.grounded.now.task in IfOk result (λ finding.
+        IsTold (kind_of kind) verdict.now task (plain_of followed.now.plan.now)
+        (finding_value (fluent_count task) finding)) }
 {
-    let aim = aim_for(kind, verdict);
-    find(
-        alloc,
-        &followed.grounded.task,
-        followed.plan,
-        followed.graph,
-        aim,
-    )
-}
-
-/// What a run is to show for a verdict on a plan of the kind.
-fn aim_for(kind: PlanKind, verdict: &Verdict) -> Aim
-    ensures { result ≡ aim_of (kind_of kind) verdict.now }
-{
+    let scene = Scene {
+        task: &followed.grounded.task,
+        plan: followed.plan,
+        graph: followed.graph,
+    };
     match kind {
-        PlanKind::Class(class) => class_aim(class, verdict),
-        PlanKind::Contexts => context_aim(verdict),
+        PlanKind::Class(class) => find_for_class(alloc, &scene, class, verdict),
+        PlanKind::Contexts => find_for_contexts(alloc, &scene, verdict),
     }
 }

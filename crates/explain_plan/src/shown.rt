@@ -1,9 +1,8 @@
-//! What is shown of a verdict and the run that shows it.
+//! What is shown of a verdict and what is told of it.
 
 ghost use Rattle.check_command.specs.CheckCommand.{reason_word as word_of, verdict_answer};
 ghost use Rattle.command_base.specs.Values.{bytes_of, shown_of};
 ghost use Rattle.explain_plan.specs.Explained.{
-  finding_text as text_of,
   shown_answer,
   verdict_words as words_of,
   with_more,
@@ -18,60 +17,43 @@ use check_command::show_verdict;
 use command_base::{Shown, Text};
 use finding_document::finding_document;
 use plan_check::{Reason, Verdict};
-use plan_finding::{Found, Source, found_text};
+use plan_finding::{Finding, Source, finding_text};
 use plan_rules::push_number;
 use std::alloc::{AllocError, Global};
 
-/// What is shown of a verdict and a run: a text, or a JSON document.
+/// What is shown of a verdict and what is told of it: a text, or a JSON document.
 pub(crate) fn shown_as(
     alloc: Global,
     json: bool,
     source: &Source<'_>,
     verdict: &Verdict,
-    found: &Option<Found<'_>>,
+    finding: &Finding<'_>,
 ) -> Result<Shown, AllocError>
     requires { let task = source.now.task.now in
         IsPlanOf (fluent_count task) (action_count task) source.now.plan.now }
     ensures { let n = fluent_count source.now.task.now in IfOk result (λ shown. shown_of shown
-        ≡ shown_answer json (source_value source.now) verdict.now (finding_value n found.now)) }
+        ≡ shown_answer json (source_value source.now) verdict.now (finding_value n finding.now)) }
 {
     if json {
-        return shown_document(alloc, source, verdict, found);
+        return shown_document(alloc, source, verdict, finding);
     }
-    shown_text(alloc, source, verdict, found)
+    shown_text(alloc, source, verdict, finding)
 }
 
-/// The line of a verdict, and the text of a run after it.
+/// The line of a verdict, and the text of what is told after it.
 fn shown_text(
     alloc: Global,
     source: &Source<'_>,
     verdict: &Verdict,
-    found: &Option<Found<'_>>,
+    finding: &Finding<'_>,
 ) -> Result<Shown, AllocError>
     requires { let task = source.now.task.now in
         IsPlanOf (fluent_count task) (action_count task) source.now.plan.now }
     ensures { let n = fluent_count source.now.task.now in IfOk result (λ shown. shown_of shown
-        ≡ shown_answer false (source_value source.now) verdict.now (finding_value n found.now)) }
+        ≡ shown_answer false (source_value source.now) verdict.now (finding_value n finding.now)) }
 {
-    let more = finding_text(alloc, source, found)?;
+    let more = finding_text(alloc, source, finding)?;
     shown_with(alloc, show_verdict(alloc, verdict)?, &more)
-}
-
-/// The text of a run, where there is one.
-fn finding_text(
-    alloc: Global,
-    source: &Source<'_>,
-    found: &Option<Found<'_>>,
-) -> Result<String, AllocError>
-    requires { let task = source.now.task.now in
-        IsPlanOf (fluent_count task) (action_count task) source.now.plan.now }
-    ensures { let n = fluent_count source.now.task.now in IfOk result (λ text. string_bytes text
-        ≡ text_of (source_value source.now) (finding_value n found.now)) }
-{
-    match found {
-        Some(found) => found_text(alloc, source, found),
-        None => Ok(String::new(alloc)),
-    }
 }
 
 /// What is shown, with more text after it.
@@ -94,18 +76,18 @@ fn text_with(alloc: Global, text: &Text, more: &str) -> Result<Vec<u8>, AllocErr
     Ok(longer)
 }
 
-/// The document of a verdict and a run.
+/// The document of a verdict and what is told of it.
 fn shown_document(
     alloc: Global,
     source: &Source<'_>,
     verdict: &Verdict,
-    found: &Option<Found<'_>>,
+    finding: &Finding<'_>,
 ) -> Result<Shown, AllocError>
     ensures { let n = fluent_count source.now.task.now in IfOk result (λ shown. shown_of shown
-        ≡ shown_answer true (source_value source.now) verdict.now (finding_value n found.now)) }
+        ≡ shown_answer true (source_value source.now) verdict.now (finding_value n finding.now)) }
 {
     let words = verdict_words(alloc, verdict)?;
-    let document = finding_document(alloc, source, &words, found)?;
+    let document = finding_document(alloc, source, &words, finding)?;
     Ok(answer_with(verdict, document))
 }
 

@@ -11,13 +11,13 @@ use answer_help::{HelpSource, KeepingShelf, deliver_helped};
 use plan_io::{Shelf, Sink};
 use std::alloc::Global;
 
-/// Writes the verdict that the words ask for, with a shortest run that shows it, and gives the exit
-/// status.
+/// Writes the verdict that the words ask for, with a run that shows it and what else is told of it, and
+/// gives the exit status.
 ///
 /// The words are `CLASS DOMAIN PROBLEM PLAN`, `ctl DOMAIN PROBLEM PLAN` or `fair DOMAIN PROBLEM PLAN`, and
 /// then `--json` or nothing. The verdict is that of `mbp_top::run`'s `check`, word for word, in the first
-/// line; the lines of the run are below it. With `fair` the plan is judged as one whose actions may be tried
-/// again. With `--json` the answer is a JSON document of the same verdict and run. A yes and a no go to
+/// line; what is told of it is below. With `fair` the plan is judged as one whose actions may be tried
+/// again. With `--json` the answer is a JSON document of the same. A yes and a no go to
 /// `out`. Every other answer goes to `err`: one line, and below it, where it is a fault
 /// in a file or in the words, what helps to find it. The statuses are those of `check`.
 pub fn explain<S: Shelf, O: Sink, E: Sink>(

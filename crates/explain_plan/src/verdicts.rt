@@ -11,7 +11,7 @@ ghost use Rattle.command_base.specs.Words.{with_contexts};
 ghost use Rattle.ctl_syntax.specs.Values.{NamesBelow, ctl_value};
 ghost use Rattle.exec_graph.specs.Graphs.{IsGraphOf};
 ghost use Rattle.exec_graph.specs.Initials.{HasTooManyInitial};
-ghost use Rattle.exec_graph.specs.Values.{IsWithinFluents, plain_graph};
+ghost use Rattle.exec_graph.specs.Values.{IsWithinFluents, graph_size, plain_graph};
 ghost use Rattle.explain_plan.specs.Explained.{ExplainsIn};
 ghost use Rattle.explain_plan.specs.Fairly.{GoalForThen};
 ghost use Rattle.explain_plan.specs.Values.{explain_words_of, lined_of};
@@ -21,6 +21,7 @@ ghost use Rattle.plan_rules.specs.Rules.{ContextRule, PlainPlan, automaton, plai
 ghost use Rattle.plan_witness.specs.Marked.{IsGraphIn};
 ghost use Rattle.std.specs.Prelude.{
   ◌≡◌,
+  ◌≢◌,
   ◌⊎◌,
   IfOk,
   IfSome,
@@ -41,7 +42,7 @@ use exec_graph::{Graph, GraphErr, explore};
 use ground_task::Grounded;
 use pddl_ast::Problem;
 use plan_check::{Verdict, judge_class, judge_ctl};
-use plan_finding::{Source, failures_are_shown};
+use plan_finding::{Source, context_plans_never_end, failures_are_shown};
 use plan_rules::Plan;
 use sexpr_text::{FaultKind, InputFault};
 use std::alloc::{AllocError, Global};
@@ -151,12 +152,14 @@ fn explain_graph(
     requires of_kind { is_of_kind (kind_of asked.now.check.kind) (plain_of lined.now.read.plan)
         ≡ true }
     requires graph { IsGraphIn grounded.now.task lined.now.read.plan graph.now }
+    requires some { graph_size graph.now ≢ 0 }
     requires inside { IsWithinFluents (fluent_count grounded.now.task) graph.now }
     ensures { IfOk result (λ shown. ExplainsIn (explain_words_of asked.now) grounded.now.task
         (lined_of lined.now) grounded.now.ctl (shown_of shown)) }
 {
-    // This does nothing: that a run shows a failure rests on what it promises.
+    // These do nothing: that a run shows each verdict rests on what they promise.
     failures_are_shown();
+    context_plans_never_end();
     let verdict = verdict_on(alloc, asked.check.kind, grounded, graph)?;
     let judge = Judge {
         kind: asked.check.kind,
@@ -167,13 +170,13 @@ fn explain_graph(
         plan: &lined.read.plan,
         graph,
     };
-    let found = finding_for(alloc, judge, &followed, &verdict)?;
+    let finding = finding_for(alloc, judge, &followed, &verdict)?;
     let source = Source {
         task: &grounded.task,
         plan: &lined.read.plan,
         lines: &lined.lines,
     };
-    shown_as(alloc, asked.json, &source, &verdict, &found)
+    shown_as(alloc, asked.json, &source, &verdict, &finding)
 }
 
 /// The verdict on the plan of the kind whose graph this is.

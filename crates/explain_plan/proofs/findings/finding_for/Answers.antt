@@ -1,7 +1,7 @@
 use Rattle.std.proofs.Common.{◌∙◌, sym}
 use Rattle.command_base.specs.Values.{kind_of}
 use Rattle.plan_rules.specs.Rules.{plain_of}
-use Rattle.explain_plan.proofs.Finding.{by_aim_ok, by_miss_ok, has_goal}
+use Rattle.explain_plan.proofs.Finding.{by_miss_ok, by_told_ok, has_goal}
 use Rattle.explain_plan.proofs.findings.finding_for.Goals as goal
 
 pub missed-requires-clause-goal : goal.missed-requires-clause-goal
@@ -18,5 +18,5 @@ returns-then-misses_goal c =
 pub returns : goal.returns
 returns c =
     let followed = c.args.followed.now in
-    by_aim_ok c.aimed.result followed.grounded.now.task (plain_of followed.plan.now) c.args.judge.fair (kind_of c.args.judge.kind) followed.grounded.now.ctl c.args.verdict.now
-    (sym c.misses_goal.ensures ∙ c.if-misses_goal.false) c.aimed.ensures
+    by_told_ok c.told.result followed.grounded.now.task (plain_of followed.plan.now) c.args.judge.fair (kind_of c.args.judge.kind) followed.grounded.now.ctl c.args.verdict.now
+    (sym c.misses_goal.ensures ∙ c.if-misses_goal.false) c.told.ensures
