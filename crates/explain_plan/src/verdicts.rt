@@ -1,7 +1,7 @@
 //! The verdict on a plan that was read, and the run that shows it.
 
 ghost use Rattle.check_command.specs.CheckCommand.{ExploreThen};
-ghost use Rattle.check_command.specs.Judged.{HasGoalIn, IsTaskVerdict};
+ghost use Rattle.check_command.specs.Judged.{HasGoalIn};
 ghost use Rattle.command_base.specs.Answers.{no_memory, refused};
 ghost use Rattle.command_base.specs.Following.{most_followed};
 ghost use Rattle.command_base.specs.InitialStates.{InitialThen, empty_init};
@@ -11,13 +11,13 @@ ghost use Rattle.command_base.specs.Words.{with_contexts};
 ghost use Rattle.ctl_syntax.specs.Values.{NamesBelow, ctl_value};
 ghost use Rattle.exec_graph.specs.Graphs.{IsGraphOf};
 ghost use Rattle.exec_graph.specs.Initials.{HasTooManyInitial};
-ghost use Rattle.exec_graph.specs.Values.{IsWithinFluents, graph_size, plain_graph};
+ghost use Rattle.exec_graph.specs.Values.{IsWithinFluents, graph_size};
 ghost use Rattle.explain_plan.specs.Explained.{ExplainsIn};
 ghost use Rattle.explain_plan.specs.Fairly.{GoalForThen};
 ghost use Rattle.explain_plan.specs.Values.{explain_words_of, lined_of};
 ghost use Rattle.pddl_ast.specs.Values.{problem_value};
 ghost use Rattle.plan_rules.specs.Plans.{IsPlanOf};
-ghost use Rattle.plan_rules.specs.Rules.{ContextRule, PlainPlan, automaton, plain_of};
+ghost use Rattle.plan_rules.specs.Rules.{plain_of};
 ghost use Rattle.plan_witness.specs.Marked.{IsGraphIn};
 ghost use Rattle.std.specs.Prelude.{
   ◌≡◌,
@@ -25,10 +25,7 @@ ghost use Rattle.std.specs.Prelude.{
   ◌⊎◌,
   IfOk,
   IfSome,
-  IsSome,
-  List,
   true,
-  ℕ,
 };
 ghost use Rattle.task_core.specs.Tasks.{action_count, fluent_count, initial_states, system_of};
 
@@ -37,11 +34,11 @@ use crate::findings::{Followed, Judge, finding_for};
 use crate::lined::Lined;
 use crate::shown::shown_as;
 use crate::words::ExplainWords;
-use command_base::{Limit, PlanKind, Refusal, Shown, goal_in, no_initial};
+use check_command::verdict_on;
+use command_base::{Limit, PlanKind, Refusal, Shown, no_initial};
 use exec_graph::{Graph, GraphErr, explore};
 use ground_task::Grounded;
 use pddl_ast::Problem;
-use plan_check::{Verdict, judge_class, judge_ctl};
 use plan_finding::{Source, context_plans_never_end, failures_are_shown};
 use plan_rules::Plan;
 use sexpr_text::{FaultKind, InputFault};
@@ -177,45 +174,4 @@ fn explain_graph(
         lines: &lined.lines,
     };
     shown_as(alloc, asked.json, &source, &verdict, &finding)
-}
-
-/// The verdict on the plan of the kind whose graph this is.
-fn verdict_on(
-    alloc: Global,
-    kind: PlanKind,
-    grounded: &Grounded,
-    graph: &Graph,
-) -> Result<Verdict, AllocError>
-    requires goal { HasGoalIn (kind_of kind) grounded.now.task grounded.now.ctl }
-    requires goal_names { IfSome grounded.now.ctl
-        (λ goal. NamesBelow (fluent_count grounded.now.task) (ctl_value goal)) }
-    requires graph { (plan : PlainPlan) × ((is_of_kind (kind_of kind) plan ≡ true)
-        × IsGraphOf (system_of grounded.now.task) plan
-        (plain_graph (fluent_count grounded.now.task) graph.now)) }
-    ensures { (plan : PlainPlan) → is_of_kind (kind_of kind) plan ≡ true
-        → IsGraphOf (system_of grounded.now.task) plan
-        (plain_graph (fluent_count grounded.now.task) graph.now)
-        → IfOk result (IsTaskVerdict (kind_of kind) grounded.now.task grounded.now.ctl plan) }
-{
-    match kind {
-        PlanKind::Class(class) => judge_class(alloc, &grounded.task, graph, class),
-        PlanKind::Contexts => context_verdict(alloc, grounded, graph),
-    }
-}
-
-/// The verdict on the plan with contexts whose graph this is.
-fn context_verdict(alloc: Global, grounded: &Grounded, graph: &Graph) -> Result<Verdict, AllocError>
-    requires goal { IsSome grounded.now.ctl }
-    requires goal_names { IfSome grounded.now.ctl
-        (λ goal. NamesBelow (fluent_count grounded.now.task) (ctl_value goal)) }
-    requires graph { (contexts : ℕ) × ((rules : List ContextRule)
-        × IsGraphOf (system_of grounded.now.task) (automaton contexts rules)
-        (plain_graph (fluent_count grounded.now.task) graph.now)) }
-    ensures { (contexts : ℕ) (rules : List ContextRule)
-        → IsGraphOf (system_of grounded.now.task) (automaton contexts rules)
-        (plain_graph (fluent_count grounded.now.task) graph.now)
-        → IfOk result (IsTaskVerdict with_contexts grounded.now.task grounded.now.ctl
-        (automaton contexts rules)) }
-{
-    judge_ctl(alloc, &grounded.task, graph, goal_in(grounded))
 }
