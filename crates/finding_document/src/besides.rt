@@ -1,9 +1,20 @@
 //! A longest run, and where a plan stays, as JSON.
 
-ghost use Rattle.finding_document.specs.Documents.{besides_of as besides_data, list_data, longest_data, stays_data};
+ghost use Rattle.finding_document.specs.Documents.{
+  besides_of as besides_data,
+  list_data,
+  longest_data,
+  stays_data,
+};
 ghost use Rattle.finding_document.specs.Values.{besides_value};
 ghost use Rattle.plan_document.specs.Documents.{count_data};
-ghost use Rattle.plan_finding.specs.Values.{finding_value, found_value, run_found_value, source_value, stays_value};
+ghost use Rattle.plan_finding.specs.Values.{
+  finding_value,
+  found_value,
+  run_found_value,
+  source_value,
+  stays_value,
+};
 ghost use Rattle.serde_json.specs.Data.{null};
 ghost use Rattle.serde_json.specs.View.{view};
 ghost use Rattle.std.specs.Option.{option_map, option_map_or};

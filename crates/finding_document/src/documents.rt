@@ -9,7 +9,12 @@ ghost use Rattle.finding_document.specs.Documents.{
 ghost use Rattle.finding_document.specs.Values.{besides_value, told_value};
 ghost use Rattle.plan_document.specs.Documents.{count_data};
 ghost use Rattle.plan_finding.specs.Texts.{Source as PlainSource};
-ghost use Rattle.plan_finding.specs.Values.{finding_value, found_value, run_found_value, source_value};
+ghost use Rattle.plan_finding.specs.Values.{
+  finding_value,
+  found_value,
+  run_found_value,
+  source_value,
+};
 ghost use Rattle.plan_rules.specs.Texts.{line_feed};
 ghost use Rattle.serde_json.specs.Data.{null};
 ghost use Rattle.serde_json.specs.View.{view};

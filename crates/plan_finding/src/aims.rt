@@ -1,6 +1,9 @@
 //! What a run is to show.
 
-ghost use Rattle.plan_finding.specs.Aims.{class_aim as aim_of_class, context_aim as aim_of_contexts};
+ghost use Rattle.plan_finding.specs.Aims.{
+  class_aim as aim_of_class,
+  context_aim as aim_of_contexts,
+};
 ghost use Rattle.std.specs.Prelude.{◌≡◌, ◌↔◌, true};
 
 use plan_check::{Reason, Verdict};

@@ -3,7 +3,12 @@
 ghost use Rattle.exec_graph.specs.Executions.{IsStuckAt, IsUnexecutableAt};
 ghost use Rattle.plan_finding.specs.Aims.{HasGoalFor, IsAimAt};
 ghost use Rattle.goal_witness.specs.Lines.{line_value};
-ghost use Rattle.plan_finding.specs.Findings.{HasFalseGoal, HasFalsePrecondition, IsEndingAt, lines_in};
+ghost use Rattle.plan_finding.specs.Findings.{
+  HasFalseGoal,
+  HasFalsePrecondition,
+  IsEndingAt,
+  lines_in,
+};
 ghost use Rattle.plan_finding.specs.Values.{ending_value};
 ghost use Rattle.plan_guide.specs.RunRules.{IsRunRuleOf};
 ghost use Rattle.plan_rules.specs.Plans.{IsPlanOf};

@@ -1,6 +1,10 @@
 //! That a run shows a verdict. The laws are contracts of functions that do nothing.
 
-ghost use Rattle.plan_finding.specs.Shown.{ContextFailuresAreShown, ContextPlansNeverEnd, FailuresAreShown};
+ghost use Rattle.plan_finding.specs.Shown.{
+  ContextFailuresAreShown,
+  ContextPlansNeverEnd,
+  FailuresAreShown,
+};
 
 /// Where a plan is none of its class for a reason, the plan may reach what shows that reason; and so may a
 /// plan with contexts, but where the reason is the goal in computation tree logic.

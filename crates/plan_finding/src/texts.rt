@@ -34,7 +34,14 @@ ghost use Rattle.plan_finding.specs.Texts.{
   takes_first as takes_first_of,
   word_for,
 };
-ghost use Rattle.plan_finding.specs.Values.{ending_value, finding_value, found_value, run_found_value, source_value, stays_value};
+ghost use Rattle.plan_finding.specs.Values.{
+  ending_value,
+  finding_value,
+  found_value,
+  run_found_value,
+  source_value,
+  stays_value,
+};
 ghost use Rattle.plan_rules.specs.Plans.{IsPlanOf, IsRuleOf};
 ghost use Rattle.plan_rules.specs.Rules.{plain_of, rule_of};
 ghost use Rattle.plan_witness.specs.Values.{run_value, step_value, steps_value};

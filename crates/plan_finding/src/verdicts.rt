@@ -2,7 +2,12 @@
 
 ghost use Rattle.plan_check.specs.declared.verdicts.Verdict.TheVariants.{Yes};
 ghost use Rattle.plan_finding.specs.Aims.{HasGoalFor};
-ghost use Rattle.plan_finding.specs.ForVerdicts.{IsClassFinding, IsContextFinding, IsFinding, with_run as only_run};
+ghost use Rattle.plan_finding.specs.ForVerdicts.{
+  IsClassFinding,
+  IsContextFinding,
+  IsFinding,
+  with_run as only_run,
+};
 ghost use Rattle.plan_finding.specs.Longest.{IsClassVerdict, IsLongestFor};
 ghost use Rattle.plan_finding.specs.Places.{EndsReached};
 ghost use Rattle.plan_finding.specs.Values.{finding_value, run_found_value};
