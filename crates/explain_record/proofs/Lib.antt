@@ -1,0 +1,4 @@
+mod Answers
+mod AfterFiles
+mod Said
+mod ToldEnds
