@@ -1,12 +1,7 @@
 -- The words: which run is to be told.
-use Rattle.std.specs.Prelude.{◌≡◌, Bool, List, [], ◌∷◌, codes}
-use Rattle.std.specs.Str.{bytes_eq}
+use Rattle.std.specs.Prelude.{◌≡◌, List, [], ◌∷◌, codes}
 use Rattle.command_base.specs.Words.{Bytes, ReplayWords}
 use Rattle.answer_help.specs.WrongWords.{WrongWords, too_few}
-
--- whether a word is `--run`
-abbrev pub is_run : Bytes → Bool
-is_run word = bytes_eq word (codes "--run")
 
 -- `DOMAIN PROBLEM PLAN RECORD --run`
 abbrev pub run_words : ReplayWords → List Bytes

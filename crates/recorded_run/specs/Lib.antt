@@ -1,3 +1,4 @@
+pub mod Indexed
 pub mod Rules
 pub mod RecordedRuns
 pub mod Texts

@@ -1,40 +1,27 @@
 -- Private: one turn of a run, as the code holds it.
 use Rattle.std.specs.Prelude.{◌≡◌, ◌<◌, ℕ, List, [], ◌∷◌, None, Option, Some, map, ⊤}
-use Rattle.std.specs.List.{All}
 use Rattle.task_core.specs.ContextPlans.{first_context}
 use Rattle.task_core.specs.States.{vector}
+use Rattle.task_core.specs.Tasks.{action_count, fluent_count, system_of}
 use Rattle.task_core.specs.Vectors.{Vector}
 use Rattle.task_core.specs.declared.states.State.{State}
-use Rattle.plan_rules.specs.Advices.{onward_value}
-use Rattle.plan_guide.specs.RunRules.{in_one_context}
-use Rattle.plan_rules.specs.Rules.{ContextRule, rule_of}
-use Rattle.plan_rules.specs.declared.rules.Rule.{Rule}
-use Rattle.run_replay.specs.Runs.{IsStepOf, step_value}
+use Rattle.task_core.specs.declared.tasks.Task.{Task}
+use Rattle.plan_rules.specs.Denoted.{denoted_contexts}
+use Rattle.plan_rules.specs.Rules.{ContextRule}
+use Rattle.run_replay.specs.Runs.{IsStepOf, step_value, steps_value}
 use Rattle.run_replay.specs.Traces.{Capped, Ended, Ending, Ends, Goes, Stray, Terminal, Turn, Unexecutable}
+use Rattle.run_replay.specs.Traces.{trace_of}
 use Rattle.run_replay.specs.declared.worlds.Step.{Step}
 use Rattle.recorded_run.specs.Rules.{CountsThere}
 use Rattle.recorded_run.specs.RecordedRuns.{AreRuledSteps, IsRuledStep, end_context, end_state}
 use Rattle.recorded_run.specs.Values.{made_value, mades_value}
-use Rattle.recorded_run.specs.declared.rules.RunRule.{RunRule}
+use Rattle.recorded_run.specs.declared.runs.Halted.{Halted}
 use Rattle.recorded_run.specs.declared.runs.MadeStep.{MadeStep}
 use Rattle.recorded_run.specs.declared.turns.Halt.{Halt}
 use Rattle.recorded_run.specs.declared.turns.Halt.TheVariants.{MostMade, NoOutcome, NotExecutable, PlanEnds}
 use Rattle.recorded_run.specs.declared.turns.Halt.TheVariants.{RecordEnds}
 use Rattle.recorded_run.specs.declared.turns.Turn.{Turn as CodeTurn}
 use Rattle.recorded_run.specs.declared.turns.Turn.TheVariants.{Halts, Makes}
-
--- Private: a rule of a table, as it is run
-abbrev pub run_rule_of : Rule → ContextRule
-run_rule_of rule = in_one_context (rule_of rule)
-
--- Private: a rule as it is run
-abbrev pub run_rule_value : RunRule → ContextRule
-run_rule_value r = record {
-  context = r.context;
-  cube = r.cube.now;
-  action = r.action.0;
-  next = onward_value r.onward;
-}
 
 -- Private: the outcome numbers that are left: none, or this one and then others
 abbrev pub numbers_left : Option ℕ → List ℕ → List ℕ
@@ -94,3 +81,21 @@ pub record HasComeTo (n : ℕ) (rules : List ContextRule) (first : Vector) (step
   pub ruled : AreRuledSteps rules first (Some first_context) (mades_value n steps)
   pub at_state : end_state first (mades_value n steps) ≡ vector n state
   pub at_context : end_context (Some first_context) (mades_value n steps) ≡ context
+
+-- Private: the run by these rules from the first state, with these outcome numbers, has its steps, and makes
+-- no further one, for this reason
+pub record HasHalted (task : Task) (rules : List ContextRule) (first : Vector) (words : List ℕ)
+    (halted : Halted) : Type 0 where
+  pub number : ℕ
+  pub left : List ℕ
+  pub traced : trace_of (system_of task) (denoted_contexts rules) first words
+      ≡ record {
+        steps = steps_value (fluent_count task) (plain_steps halted.course.steps.items);
+        ending = halt_ending number halted.halt;
+        left = left;
+      }
+  pub come : HasComeTo (fluent_count task) rules first halted.course.steps.items halted.course.state
+      halted.course.context
+  pub ruled : IsRuledHalt rules (vector (fluent_count task) halted.course.state) halted.course.context
+      halted.halt
+  pub in_task : IsHaltOf (action_count task) halted.halt

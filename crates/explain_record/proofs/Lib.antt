@@ -1,0 +1,4 @@
+mod Answers
+mod Files
+mod Said
+mod Shown

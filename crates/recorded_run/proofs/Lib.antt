@@ -1,0 +1,4 @@
+mod Chosen
+mod Courses
+mod Turned
+mod Stops
