@@ -1,4 +1,4 @@
 mod Answers
-mod Files
+mod AfterFiles
 mod Said
-mod Shown
+mod ToldEnds

@@ -81,11 +81,7 @@ pub(crate) fn answer<S: Shelf>(
 }
 
 /// The run of the plan under the record, told, for the domain and the problem, all in files.
-fn tell_files<S: Shelf>(
-    alloc: Global,
-    shelf: &mut S,
-    asked: &ReplayWords,
-) -> Result<Shown, Refusal>
+fn tell_files<S: Shelf>(alloc: Global, shelf: &mut S, asked: &ReplayWords) -> Result<Shown, Refusal>
     ensures answer { let failed = FailedLast S.fetched S.faults shelf.old shelf.new in
         (answer_of result ≡ refused no_memory)
         ⊎ IsToldAnswer (S.held shelf.old) failed (replay_words_of asked.now) (answer_of result) }

@@ -12,7 +12,7 @@ ghost use Rattle.plan_rules.specs.Plans.{IsPlanOf};
 ghost use Rattle.recorded_run.specs.Values.{stop_value};
 ghost use Rattle.replay_command.specs.ReplayCommand.{FirstThen, IsFirstState};
 ghost use Rattle.run_replay.specs.Records.{record_value};
-ghost use Rattle.std.specs.Prelude.{◌≡◌, ◌⊎◌, IfErr, IfOk, OnOk, string_bytes};
+ghost use Rattle.std.specs.Prelude.{◌≡◌, ◌⊎◌, IfErr, IfOk, OnOk};
 ghost use Rattle.task_core.specs.States.{IsWithin, vector};
 ghost use Rattle.task_core.specs.Tasks.{action_count, fluent_count, initial_states};
 
@@ -105,18 +105,19 @@ fn show_run(
         lines: &request.lined.lines,
     };
     let text = recorded_text(alloc, &source, recorded.first, first, &run)?;
-    Ok(answer_with(&run.stop, text))
+    Ok(answer_with(&run.stop, text.into_bytes()))
 }
 
 /// The answer with this text: yes where `replay` shows a run that stops so.
-fn answer_with(stop: &Stop<'_>, text: String) -> Shown
-    ensures { shown_of result ≡ answer_at (string_bytes text.entry) (stop_value stop.now) }
+fn answer_with(stop: &Stop<'_>, text: Vec<u8>) -> Shown
+    ensures { shown_of result ≡ answer_at text.items (stop_value stop.now) }
 {
     match stop {
-        Stop::PlanEnds(_) => Shown::Affirmed(Text::Made(text.into_bytes())),
-        Stop::RecordEnds(_) => Shown::Affirmed(Text::Made(text.into_bytes())),
-        Stop::MostMade => Shown::Affirmed(Text::Made(text.into_bytes())),
-        Stop::NoOutcome(_, _, _) => Shown::Denied(Text::Made(text.into_bytes())),
-        Stop::NotExecutable(_, _) => Shown::Denied(Text::Made(text.into_bytes())),
+        Stop::PlanEnds(None) => Shown::Affirmed(Text::Made(text)),
+        Stop::PlanEnds(Some(_)) => Shown::Affirmed(Text::Made(text)),
+        Stop::RecordEnds(_) => Shown::Affirmed(Text::Made(text)),
+        Stop::MostMade => Shown::Affirmed(Text::Made(text)),
+        Stop::NoOutcome(_, _, _) => Shown::Denied(Text::Made(text)),
+        Stop::NotExecutable(_, _) => Shown::Denied(Text::Made(text)),
     }
 }

@@ -1,4 +1,5 @@
 mod Chosen
 mod Courses
+mod Pushed
 mod Turned
-mod Stops
+mod Stopping

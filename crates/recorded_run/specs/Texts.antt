@@ -7,7 +7,7 @@ use Rattle.task_core.specs.Vectors.{Vector}
 use Rattle.task_core.specs.declared.conditions.Cond.{Cond}
 use Rattle.plan_rules.specs.Rules.{PlainPlan, automaton, table}
 use Rattle.plan_rules.specs.Texts.{atom_text, line_feed, name_at}
-use Rattle.plan_finding.specs.Texts.{Source, conditions_text, context_note, initial_line, number_text}
+use Rattle.plan_finding.specs.Texts.{Source, conditions_text, initial_line, number_text}
 use Rattle.plan_finding.specs.Texts.{refusal_note, rule_text}
 use Rattle.state_text.specs.Texts.{changes_text}
 use Rattle.run_replay.specs.Traces.{TraceStep}
@@ -19,12 +19,15 @@ abbrev pub act_text : Source → (rule action : ℕ) → List ℕ
 act_text source rule action =
     rule_text source rule ++ codes ": " ++ atom_text (name_at source.actions action)
 
--- the context to which a step leads, or that there is none, where the plan has contexts
+-- the context to which a step leads, or that there is none
+abbrev pub onward_note : Option ℕ → List ℕ
+onward_note None = codes ", no next context"
+onward_note (Some context) = codes ", context " ++ decimal context
+
+-- the same, where the plan has contexts
 abbrev pub next_note : PlainPlan → Option ℕ → List ℕ
 next_note (table class rules) context = []
-next_note (automaton contexts rules) None = codes ", no next context"
-next_note (automaton contexts rules) (Some context) =
-    context_note (automaton contexts rules) context
+next_note (automaton contexts rules) context = onward_note context
 
 -- the rule, the action and the outcome of a step, as rule 2 (line 4): (go a b), outcome 0
 abbrev pub move_text : Source → RuledStep → List ℕ

@@ -1,6 +1,6 @@
 //! Whole runs.
 
-ghost use Rattle.std.specs.Prelude.{◌≡◌, ◌+◌, ◌++◌, ◌∷◌, [], ℕ, IfOk, List, OnOk, drop, length};
+ghost use Rattle.std.specs.Prelude.{◌≡◌, ◌+◌, ◌++◌, ◌∷◌, [], ℕ, IfOk, List, OnOk, drop, length, slice_get};
 ghost use Rattle.plan_guide.specs.RunRules.{run_rules};
 ghost use Rattle.plan_rules.specs.Denoted.{denoted_contexts};
 ghost use Rattle.plan_rules.specs.Plans.{IsPlanOf};
@@ -128,7 +128,7 @@ impl Course {
             context: self.context,
             number: made as u64 + 1,
             full: made == MOST_STEPS,
-            word: words.get(made).copied(),
+            word: next_word(words, made),
         };
         take_turn(task, rules, &at)
     }
@@ -146,11 +146,18 @@ impl Course {
     }
 }
 
+/// The outcome number of this place, if there is one.
+fn next_word(words: &[u32], place: usize) -> Option<u32>
+    ensures { result ≡ slice_get words.now place }
+{
+    words.get(place).copied()
+}
+
 /// The run with what is false where it stops.
 fn stopped<'a>(alloc: Global, task: &'a Task, halted: Halted) -> Result<RecordedRun<'a>, AllocError>
     requires { IsHaltOf (action_count task.now) halted.halt }
     ensures { let n = fluent_count task.now in IfOk result (λ run. (plan : PlainPlan) (first : Vector)
-        (words : List ℕ) → HasHalted task.now (run_rules plan) first words halted.entry
+        (words : List ℕ) → HasHalted task.now (run_rules plan) first words halted
         → IsRecordedRun task.now plan first words (run_value n run)) }
 {
     let Halted { course, halt } = halted;

@@ -1,6 +1,6 @@
 //! Why a run stops.
 
-ghost use Rattle.std.specs.Prelude.{◌≡◌, ◌<◌, ℕ, IfOk, MatchOption, None, Option, map};
+ghost use Rattle.std.specs.Prelude.{◌≡◌, ◌<◌, ℕ, IfOk, List, MatchOption, None, Option, map};
 ghost use Rattle.plan_finding.specs.Findings.{HasFalseGoal, HasFalsePrecondition};
 ghost use Rattle.plan_rules.specs.Rules.{ContextRule};
 ghost use Rattle.task_core.specs.States.{vector};

@@ -1,9 +1,9 @@
 //! The text of a run.
 
-ghost use Rattle.std.specs.Prelude.{◌≡◌, ◌++◌, ℕ, IfOk, List, OnOk, map, string_bytes};
+ghost use Rattle.std.specs.Prelude.{◌≡◌, ◌++◌, ℕ, IfOk, OnOk, map, string_bytes};
 ghost use Rattle.plan_finding.specs.Texts.{conditions_text, initial_line, number_text, refusal_note, rule_text};
 ghost use Rattle.plan_finding.specs.Values.{source_value};
-ghost use Rattle.plan_rules.specs.Rules.{ContextRule, automaton, plain_of};
+ghost use Rattle.plan_rules.specs.Rules.{plain_of};
 ghost use Rattle.task_core.specs.States.{vector};
 ghost use Rattle.task_core.specs.Tasks.{action_names, fluent_count, fluent_names};
 ghost use Rattle.recorded_run.specs.RecordedRuns.{not_executable};
@@ -17,6 +17,7 @@ ghost use Rattle.recorded_run.specs.Texts.{
   mades_text,
   move_text,
   next_note,
+  onward_note,
   recorded_text as text_of,
   stop_text,
   word_text,
@@ -155,8 +156,7 @@ fn push_next(out: &mut String, plan: &Plan, context: Option<u32>) -> Result<(), 
 
 /// Appends the context to which a step of a plan with contexts leads, or that there is none.
 fn push_context(out: &mut String, context: Option<u32>) -> Result<(), AllocError>
-    ensures { (contexts : ℕ) (rules : List ContextRule) → OnOk result (string_bytes out.new
-        ≡ string_bytes out.old ++ next_note (automaton contexts rules) context) }
+    ensures { OnOk result (string_bytes out.new ≡ string_bytes out.old ++ onward_note context) }
 {
     match context {
         None => out.push_str(", no next context"),

@@ -5,7 +5,7 @@ use Rattle.command_base.proofs.Later.{failed_after_two}
 use Rattle.command_base.proofs.PddlDecides.{after_both, refused_both}
 use Rattle.replay_command.proofs.RunFetched.{replay_fetched, replay_stopped}
 use Rattle.explain_record.specs.Told.{IsTold}
-use Rattle.explain_record.proofs.Files.{told_later}
+use Rattle.explain_record.proofs.AfterFiles.{told_later}
 use Rattle.explain_record.proofs.commands.tell_files.Goals as goal
 
 pub returns-in_err-domain-clause-answer : goal.returns-in_err-domain-clause-answer

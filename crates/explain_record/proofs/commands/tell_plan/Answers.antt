@@ -6,7 +6,7 @@ use Rattle.run_replay.specs.Records.{record_value}
 use Rattle.command_base.specs.InitialStates.{empty_init}
 use Rattle.command_base.specs.Values.{answer_of, refusal_of}
 use Rattle.explain_record.specs.Values.{lined_of}
-use Rattle.explain_record.proofs.Files.{record_answer, record_refused}
+use Rattle.explain_record.proofs.AfterFiles.{record_answer, record_refused}
 use Rattle.explain_record.proofs.commands.tell_plan.Goals as goal
 
 pub returns-in_err-recorded-clause-answer : goal.returns-in_err-recorded-clause-answer

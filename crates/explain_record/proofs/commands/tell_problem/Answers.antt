@@ -6,7 +6,7 @@ use Rattle.command_base.specs.Values.{answer_of, refusal_of, replay_words_of}
 use Rattle.replay_command.proofs.RunFetched.{task_fetched}
 use Rattle.replay_command.proofs.ReplayAnswers.{ground_refused}
 use Rattle.explain_record.specs.Told.{IsToldOf}
-use Rattle.explain_record.proofs.Files.{task_answer}
+use Rattle.explain_record.proofs.AfterFiles.{task_answer}
 use Rattle.explain_record.proofs.commands.tell_problem.Goals as goal
 
 pub returns-in_err-task-clause-answer : goal.returns-in_err-task-clause-answer

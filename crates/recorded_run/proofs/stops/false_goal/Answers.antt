@@ -1,7 +1,7 @@
 use Rattle.std.proofs.Common.{sym}
 use Rattle.task_core.specs.Tasks.{fluent_count}
 use Rattle.plan_check.proofs.GraphVerdicts.{goal_small}
-use Rattle.recorded_run.proofs.Stops.{parts_of}
+use Rattle.recorded_run.proofs.Stopping.{parts_of}
 use Rattle.recorded_run.proofs.stops.false_goal.Goals as goal
 
 pub false_parts-requires : goal.false_parts-requires

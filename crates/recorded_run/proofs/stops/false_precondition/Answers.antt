@@ -1,5 +1,5 @@
 use Rattle.task_core.proofs.TaskSystem.{exec_within_256, is_at}
-use Rattle.recorded_run.proofs.Stops.{found_precondition}
+use Rattle.recorded_run.proofs.Stopping.{found_precondition}
 use Rattle.recorded_run.proofs.stops.false_precondition.Goals as goal
 
 pub false_parts-requires : goal.false_parts-requires

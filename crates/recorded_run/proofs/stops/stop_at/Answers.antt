@@ -1,9 +1,17 @@
-use Rattle.std.proofs.Common.{refl}
 use Rattle.task_core.specs.States.{vector}
 use Rattle.task_core.specs.Tasks.{fluent_count}
-use Rattle.recorded_run.proofs.Stops.{at_plan_end}
+use Rattle.recorded_run.proofs.Stopping.{at_no_outcome, at_plan_end, at_refusal}
 use Rattle.recorded_run.proofs.stops.stop_at.Goals as goal
 
 pub returns-in_ok-false_goal-in-PlanEnds : goal.returns-in_ok-false_goal-in-PlanEnds
 returns-in_ok-false_goal-in-PlanEnds c = λ rules context number ruled.
-    at_plan_end c.args.task.now rules (vector (fluent_count c.args.task.now) c.args.state.now) context c.in_ok-false_goal-in-PlanEnds.field-0 c.in_ok-false_goal-in-PlanEnds.ensures
+    at_plan_end c.args.task.now rules (vector (fluent_count c.args.task.now) c.args.state.now) context number c.args.halt c.in_ok-false_goal-in-PlanEnds.field-0 c.in-PlanEnds.is c.in_ok-false_goal-in-PlanEnds.ensures
+
+pub returns-in-NoOutcome : goal.returns-in-NoOutcome
+returns-in-NoOutcome c = λ rules context number ruled.
+    at_no_outcome c.args.task.now rules (vector (fluent_count c.args.task.now) c.args.state.now) context number c.args.halt c.in-NoOutcome.counting c.in-NoOutcome.word c.in-NoOutcome.outcomes c.in-NoOutcome.is ruled
+
+pub returns-in_ok-parts-in-NotExecutable : goal.returns-in_ok-parts-in-NotExecutable
+returns-in_ok-parts-in-NotExecutable c = λ rules context number ruled.
+    at_refusal c.args.task.now rules (vector (fluent_count c.args.task.now) c.args.state.now) context number c.args.halt c.in-NotExecutable.counting c.in_ok-parts-in-NotExecutable.parts c.in-NotExecutable.is
+    c.in_ok-parts-in-NotExecutable.ensures ruled

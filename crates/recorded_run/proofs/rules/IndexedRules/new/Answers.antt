@@ -1,4 +1,4 @@
-use Rattle.std.proofs.Common.{rules, Bor, List, subst, sym}
+use Rattle.std.proofs.Common.{rules, Bor, List, get_or, subst, sym}
 use Rattle.std.specs.List.{All}
 use Rattle.list_laws.proofs.Elements.{All-unmap}
 use Rattle.task_core.specs.Tasks.{action_count, fluent_count}
@@ -18,7 +18,7 @@ new-requires c =
     let listed = c.in_ok-rules.rules.items in
     let each = rules_in_task n m c.args.plan.now listed c.in_ok-rules.ensures c.requires in
     let all : All (λ (rule : RunRule). AreLits rule.cube.now) listed =
-    λ k d lt. lits_of_cube n (_).cube.now c.args.task.now.few_fluents (All-unmap (IsRunRuleOf n m) run_rule_value listed each k d lt).cube in
+    λ k d lt. lits_of_cube n (get_or listed k d).cube.now c.args.task.now.few_fluents (All-unmap (IsRunRuleOf n m) run_rule_value listed each k d lt).cube in
     subst (All (λ (cube : Bor (List Lit)). AreLits cube.now)) (sym c.deref-2.ensures.value)
     (All-unmap AreLits (λ (cube : Bor (List Lit)). cube.now) c.in_ok-cubes.cubes.items
     (lits_mapped (λ (rule : RunRule). rule.cube.now) c.deref.result.now _ c.in_ok-cubes.ensures (subst (All (λ (rule : RunRule). AreLits rule.cube.now)) (sym c.deref.ensures.value) all)))
