@@ -2,7 +2,7 @@
 use Rattle.std.proofs.Common.{◌≡◌, ◌+◌, ℕ, zero, suc, Err, IfOk, List, [], ◌∷◌, ◌++◌, Ok, Option, Result, Some, arith, drop, length, map, refl, slice_get, sym, ap, ◌∙◌, subst, length-append}
 use Rattle.std.proofs.lemmas.List.{map-append}
 use Rattle.list_laws.proofs.Elements.{map-map}
-use Rattle.task_core.specs.ContextPlans.{ContextPlan, first_context}
+use Rattle.task_core.specs.ContextPlans.{first_context}
 use Rattle.task_core.specs.States.{IsWithin, vector}
 use Rattle.task_core.specs.Systems.{System}
 use Rattle.task_core.specs.Tasks.{system_of, fluent_count, action_count}

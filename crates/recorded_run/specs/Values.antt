@@ -1,7 +1,5 @@
 -- What the code's types stand for, over n fluents.
-use Rattle.std.specs.Prelude.{ℕ, List, None, Option, Some, map}
-use Rattle.std.specs.Option.{option_map}
-use Rattle.task_core.specs.declared.conditions.Cond.{Cond}
+use Rattle.std.specs.Prelude.{ℕ, List, None, Some, map}
 use Rattle.run_replay.specs.Runs.{step_value}
 use Rattle.recorded_run.specs.RecordedRuns.{PlainRecorded, RuledStep, Stop}
 use Rattle.recorded_run.specs.RecordedRuns.{most_made, no_outcome, not_executable, plan_ends, record_ends}

@@ -1,4 +1,3 @@
-use Rattle.std.proofs.Common.{◌+◌, length, sym}
 use Rattle.task_core.specs.Tasks.{action_count, fluent_count, system_of}
 use Rattle.recorded_run.specs.Indexed.{rules_in}
 use Rattle.recorded_run.proofs.Courses.{at_first, halted, step_more}

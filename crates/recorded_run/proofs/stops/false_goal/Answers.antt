@@ -1,4 +1,3 @@
-use Rattle.std.proofs.Common.{sym}
 use Rattle.task_core.specs.Tasks.{fluent_count}
 use Rattle.plan_check.proofs.GraphVerdicts.{goal_small}
 use Rattle.recorded_run.proofs.Stopping.{parts_of}

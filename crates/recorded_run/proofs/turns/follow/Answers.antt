@@ -3,7 +3,7 @@ use Rattle.plan_rules.specs.Advices.{advised_by}
 use Rattle.plan_rules.specs.Denoted.{can_execute}
 use Rattle.task_core.specs.States.{vector}
 use Rattle.task_core.specs.Tasks.{fluent_count, system_of}
-use Rattle.task_core.specs.declared.actions.ActionId.{ActionId}
+use Rattle.task_core.specs.declared.literals.ActionId.{ActionId}
 use Rattle.recorded_run.specs.Indexed.{run_rule_value}
 use Rattle.recorded_run.specs.Turns.{numbers_left}
 use Rattle.recorded_run.proofs.Turned.{full_up, refused}

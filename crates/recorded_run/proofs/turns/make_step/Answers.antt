@@ -1,10 +1,10 @@
-use Rattle.std.proofs.Common.{◌≡◌, ◌∙◌, ℕ, ap, refl, subst, sym}
+use Rattle.std.proofs.Common.{◌≡◌, ℕ, ap, refl, subst, sym}
 use Rattle.plan_rules.specs.Advices.{onward_value}
 use Rattle.plan_rules.specs.Denoted.{next_context}
 use Rattle.plan_witness.specs.Runs.{IsCounting}
 use Rattle.task_core.specs.States.{vector}
 use Rattle.task_core.specs.Tasks.{fluent_count, system_of}
-use Rattle.task_core.specs.declared.actions.ActionId.{ActionId}
+use Rattle.task_core.specs.declared.literals.ActionId.{ActionId}
 use Rattle.recorded_run.specs.Indexed.{run_rule_value}
 use Rattle.recorded_run.proofs.Turned.{strays}
 use Rattle.recorded_run.proofs.turns.make_step.Goals as goal

@@ -1,6 +1,6 @@
 -- No rule so far is for the state and the context.
 use Rattle.std.specs.Prelude.{◌-◌, ◌≤◌, length}
-use Rattle.task_core.specs.Tasks.{action_count, fluent_count}
+use Rattle.task_core.specs.Tasks.{fluent_count}
 use Rattle.recorded_run.proofs.Chosen.{NoneBelow}
 use Rattle.recorded_run.proofs.rules.IndexedRules.rule_in.Given as goal
 
