@@ -1,6 +1,19 @@
 //! Whole runs.
 
-ghost use Rattle.std.specs.Prelude.{◌≡◌, ◌+◌, ◌++◌, ◌∷◌, [], ℕ, IfOk, List, OnOk, drop, length, slice_get};
+ghost use Rattle.std.specs.Prelude.{
+  ◌≡◌,
+  ◌+◌,
+  ◌++◌,
+  ◌∷◌,
+  [],
+  ℕ,
+  IfOk,
+  List,
+  OnOk,
+  drop,
+  length,
+  slice_get,
+};
 ghost use Rattle.plan_guide.specs.RunRules.{run_rules};
 ghost use Rattle.plan_rules.specs.Denoted.{denoted_contexts};
 ghost use Rattle.plan_rules.specs.Plans.{IsPlanOf};

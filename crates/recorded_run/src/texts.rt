@@ -1,7 +1,13 @@
 //! The text of a run.
 
 ghost use Rattle.std.specs.Prelude.{◌≡◌, ◌++◌, ℕ, IfOk, OnOk, map, string_bytes};
-ghost use Rattle.plan_finding.specs.Texts.{conditions_text, initial_line, number_text, refusal_note, rule_text};
+ghost use Rattle.plan_finding.specs.Texts.{
+  conditions_text,
+  initial_line,
+  number_text,
+  refusal_note,
+  rule_text,
+};
 ghost use Rattle.plan_finding.specs.Values.{source_value};
 ghost use Rattle.plan_rules.specs.Rules.{plain_of};
 ghost use Rattle.task_core.specs.States.{vector};
