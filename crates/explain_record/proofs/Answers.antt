@@ -1,17 +1,21 @@
 -- From an answer to a run.
 use Rattle.std.proofs.Common.{◌≡◌, ◌≤◌, ℕ, List, [], ◌∷◌, inl, inr, refl, sym, subst}
+use Rattle.pddl_system.specs.Systems.{action_names, fluent_names}
 use Rattle.plan_io.specs.Held.{Held}
 use Rattle.plan_io.specs.Fetches.{Fetches}
 use Rattle.command_base.specs.Answers.{Answer, no_memory, refused}
 use Rattle.command_base.specs.Faults.{IsQuietAt}
+use Rattle.command_base.specs.Fetching.{RefusesPlan, Stops}
 use Rattle.command_base.specs.Frame.{FailedIn}
+use Rattle.command_base.specs.Grounding.{GroundThen}
+use Rattle.command_base.specs.PddlTexts.{ReadBoth}
 use Rattle.command_base.specs.Words.{Bytes, ReplayWords}
 use Rattle.command_base.proofs.Frames.{IsGivenFor}
 use Rattle.answer_help.specs.Helped.{IsHelpFor, IsHelpedDelivery}
 use Rattle.answer_help.specs.Keeping.{AreToldAs, KeepsAfter, held_by, kept_in}
 use Rattle.answer_help.specs.declared.keeping.KeepingShelf.{KeepingShelf}
 use Rattle.answer_help.proofs.HelpedFrames.{IsTold, is_helped_run, over_fetch_then, over_fetches, told_fetch}
-use Rattle.replay_command.specs.RunFetches.{FetchRun, FetchesToReplay}
+use Rattle.replay_command.specs.RunFetches.{AsksForRecord, AsksForRun, FetchRecord, FetchRun, FetchesToReplay}
 use Rattle.explain_record.specs.Runs.{HasTold, HasToldCause, ToldRun}
 use Rattle.explain_record.specs.Told.{IsToldAnswer}
 use Rattle.explain_record.specs.Words.{AskNothing, SaysRun, wrong_words}
@@ -29,11 +33,24 @@ for_memory held failed fetched asked a before after (x, first, inr (holds, (y, s
 -- what each fetch keeps true is true after all of them
 module _ {S : Type 0} (P : S → Type 0) (held : Bytes → Held) (failed : Bytes → Type 0) (fetched : S → Bytes → S → Type 0)
     (keeps : (before : S) (name : Bytes) (after : S) → fetched before name after → P before → P after) where
+  -- the problem is refused, or a limit is passed
+  abbrev Limits : ReplayWords → Answer → Type 0
+  Limits asked a = Stops (ReadBoth held failed asked.domain asked.problem (λ domain problem. GroundThen domain problem (λ answer. ⊥))) a
+
+  -- or the plan is
+  abbrev Plans : ReplayWords → Answer → Type 0
+  Plans asked =
+      ReadBoth held failed asked.domain asked.problem (λ domain problem. GroundThen domain problem (RefusesPlan held failed (fluent_names domain problem) (action_names domain problem) asked.plan))
+
+  over_record : (asked : ReplayWords) (Cause : Answer → Type 0) (HoldsOne : Type 0) (a : Answer) (before after : S) → FetchRecord fetched asked Cause HoldsOne a before after → P before → P after
+  over_record asked Cause HoldsOne a before after =
+      over_fetch_then P fetched keeps asked.plan (Stops Cause a) HoldsOne (Fetches fetched (asked.recorded ∷ [])) before after
+      (λ z. over_fetches P fetched keeps (asked.recorded ∷ []) z after)
+
   over_run : (asked : ReplayWords) (a : Answer) (before after : S) → FetchRun held failed fetched asked a before after → P before → P after
   over_run asked a before after =
-      over_fetch_then P fetched keeps asked.problem _ _ _ before after
-      (λ y. over_fetch_then P fetched keeps asked.plan _ _ (Fetches fetched (asked.recorded ∷ [])) y after
-      (λ z. over_fetches P fetched keeps (asked.recorded ∷ []) z after))
+      over_fetch_then P fetched keeps asked.problem (Limits asked a) (AsksForRun held asked) (FetchRecord fetched asked (Plans asked) (AsksForRecord held asked) a) before after
+      (λ y. over_record asked (Plans asked) (AsksForRecord held asked) a y after)
 
   over_all : (asked : ReplayWords) (a : Answer) (before after : S) → FetchesToReplay held failed fetched asked a before after → P before → P after
   over_all asked a before after =

@@ -1,5 +1,5 @@
 -- What is shown of a run that stops.
-use Rattle.std.proofs.Common.{◌≡◌, Option, ℕ, List, None, Some, refl, sym, ap}
+use Rattle.std.proofs.Common.{◌≡◌, Option, ℕ, List, None, Some, sym, ap}
 use Rattle.command_base.specs.Words.{Bytes}
 use Rattle.plan_rules.specs.Rules.{ContextRule}
 use Rattle.recorded_run.specs.RecordedRuns.{IsStop, Stop, most_made, no_outcome, not_executable, plan_ends, record_ends}

@@ -47,7 +47,7 @@ pub(crate) fn show_record(
         (IsRunTold task (lined_of request.now.lined.now) record_is) (answer_of result) }
 {
     let first = first_state(alloc, request, recorded)?;
-    Ok(show_run(alloc, request, recorded, &first)?)
+    show_run(alloc, request, recorded, &first)
 }
 
 /// The initial state whose number begins a record.
@@ -83,8 +83,25 @@ fn first_state(
     }
 }
 
-/// The run of a plan of the task from a state, told.
+/// The run of a plan of the task from a state, told, or want of memory.
 fn show_run(
+    alloc: Global,
+    request: &RunRequest<'_>,
+    recorded: &Recorded,
+    first: &State,
+) -> Result<Shown, Refusal>
+    requires in_task { let task = request.now.task.now in
+        IsPlanOf (fluent_count task) (action_count task) request.now.lined.now.read.plan }
+    requires within { IsWithin (fluent_count request.now.task.now) first.now }
+    ensures { let task = request.now.task.now in (answer_of result ≡ refused no_memory)
+        ⊎ IsRunTold task (lined_of request.now.lined.now) (record_value recorded.now)
+        (vector (fluent_count task) first.now) (answer_of result) }
+{
+    Ok(told_run(alloc, request, recorded, first)?)
+}
+
+/// The run of a plan of the task from a state, told.
+fn told_run(
     alloc: Global,
     request: &RunRequest<'_>,
     recorded: &Recorded,
@@ -98,14 +115,14 @@ fn show_run(
         (vector (fluent_count task) first.now) (shown_of shown)) }
 {
     let plan = &request.lined.read.plan;
-    let run = recorded_run(alloc, request.task, plan, first, &recorded.words)?;
+    let made = recorded_run(alloc, request.task, plan, first, &recorded.words)?;
     let source = Source {
         task: request.task,
         plan,
         lines: &request.lined.lines,
     };
-    let text = recorded_text(alloc, &source, recorded.first, first, &run)?;
-    Ok(answer_with(&run.stop, text.into_bytes()))
+    let text = recorded_text(alloc, &source, recorded.first, first, &made)?;
+    Ok(answer_with(&made.stop, text.into_bytes()))
 }
 
 /// The answer with this text: yes where `replay` shows a run that stops so.

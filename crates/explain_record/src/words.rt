@@ -52,7 +52,10 @@ fn is_run(word: &str) -> bool
     ensures { MatchBool result (word.now ∷ [] ≡ codes "--run" ∷ [])
         (word.now ∷ [] ≡ codes "--run" ∷ [] → ⊥) }
 {
-    word == "--run"
+    if word == "--run" {
+        return true;
+    }
+    false
 }
 
 /// What is wrong with words that ask for nothing.

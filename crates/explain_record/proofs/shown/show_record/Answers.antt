@@ -1,4 +1,3 @@
-use Rattle.std.proofs.Common.{inr}
 use Rattle.std.proofs.lemmas.Result.{err_from_is_err_and}
 use Rattle.exec_graph.specs.Initials.{HasTooManyInitial}
 use Rattle.pddl_ast.specs.Values.{problem_value}
@@ -7,7 +6,7 @@ use Rattle.task_core.specs.States.{vector}
 use Rattle.task_core.specs.Tasks.{fluent_count, initial_states}
 use Rattle.command_base.specs.Following.{most_followed}
 use Rattle.command_base.specs.InitialStates.{empty_init}
-use Rattle.command_base.specs.Values.{refusal_of, shown_of}
+use Rattle.command_base.specs.Values.{answer_of, refusal_of}
 use Rattle.replay_command.proofs.ReplayAnswers.{first_answer, first_refused}
 use Rattle.explain_record.specs.Told.{IsRunTold}
 use Rattle.explain_record.specs.Values.{lined_of}
@@ -28,5 +27,5 @@ returns c =
     let task = request.task.now in
     let recorded = record_value c.args.recorded.now in
     first_answer (HasTooManyInitial task most_followed) (empty_init request.asked.now.problem.now (problem_value request.problem.now)) (initial_states task) request.asked.now.recorded.now recorded
-    (vector (fluent_count task) c.in_ok-first.first) (IsRunTold task (lined_of request.lined.now) recorded) (shown_of c.in_ok-show_run.field-0)
-    c.in_ok-first.ensures.few c.in_ok-first.ensures.first (inr c.in_ok-show_run.ensures)
+    (vector (fluent_count task) c.in_ok-first.first) (IsRunTold task (lined_of request.lined.now) recorded) (answer_of c.show_run.result)
+    c.in_ok-first.ensures.few c.in_ok-first.ensures.first c.show_run.ensures
