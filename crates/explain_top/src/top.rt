@@ -2,8 +2,10 @@
 
 ghost use Rattle.answer_help.specs.Keeping.{KeepsAfter, faults_by, held_by, kept_in};
 ghost use Rattle.command_base.specs.Delivery.{seen};
-ghost use Rattle.command_base.specs.Words.{PlanWords as AskedPlan};
+ghost use Rattle.command_base.specs.Words.{PlanWords as AskedPlan, ReplayWords as AskedRun};
 ghost use Rattle.explain_plan.specs.Runs.{HasExplained};
+ghost use Rattle.explain_record.specs.Runs.{HasTold};
+ghost use Rattle.explain_record.specs.Words.{AskNothing as AskNoRun, SaysRun};
 ghost use Rattle.mistakes_command.specs.Runs.{HasMistakes};
 ghost use Rattle.mistakes_command.specs.Words.{
   AskNothing as AskNoMistakes,
@@ -16,6 +18,7 @@ ghost use Rattle.why_plan.specs.Words.{AskNothing as AskNoReason, SaysWhy};
 
 use answer_help::KeepingShelf;
 use explain_plan::explain;
+use explain_record::{asks_run, tell};
 use mistakes_command::{asks_mistakes, mistakes};
 use plan_io::{Shelf, Sink};
 use std::alloc::Global;
@@ -25,7 +28,8 @@ use why_plan::{says_why, why};
 ///
 /// The words `CLASS DOMAIN PROBLEM` and `ctl DOMAIN PROBLEM`, with `--nodes N` or nothing after them,
 /// are those of `why_plan::why`. The words `DOMAIN PROBLEM`, with `--json` or nothing after them, are
-/// those of `mistakes_command::mistakes`. All others are those of `explain_plan::explain`.
+/// those of `mistakes_command::mistakes`. The words `DOMAIN PROBLEM PLAN RECORD --run` are those of
+/// `explain_record::tell`. All others are those of `explain_plan::explain`.
 pub fn explain_words<S: Shelf, O: Sink, E: Sink>(
     alloc: Global,
     words: &[String],
@@ -59,8 +63,21 @@ pub fn explain_words<S: Shelf, O: Sink, E: Sink>(
           err_after = seen (E.written err.new) (E.faults err.new);
           status = result;
         }) }
+    ensures run { (asked : AskedRun) → SaysRun (map string_bytes words.now) asked
+        → HasTold (held_by S.held) (faults_by S.faults) (KeepsAfter S.held S.fetched) (record {
+          words = map string_bytes words.now;
+          handed = tt;
+          shelf = shelf.old;
+          shelf_after = shelf.new;
+          out = seen (O.written out.old) (O.faults out.old);
+          out_after = seen (O.written out.new) (O.faults out.new);
+          err = seen (E.written err.old) (E.faults err.old);
+          err_after = seen (E.written err.new) (E.faults err.new);
+          status = result;
+        }) }
     ensures explain { AskNoReason (map string_bytes words.now)
         → AskNoMistakes (map string_bytes words.now)
+        → AskNoRun (map string_bytes words.now)
         → HasExplained (held_by S.held) (faults_by S.faults) (KeepsAfter S.held S.fetched) (record {
           words = map string_bytes words.now;
           handed = tt;
@@ -78,6 +95,9 @@ pub fn explain_words<S: Shelf, O: Sink, E: Sink>(
     }
     if asks_mistakes(words) {
         return mistakes(alloc, words, shelf, out, err);
+    }
+    if asks_run(words) {
+        return tell(alloc, words, shelf, out, err);
     }
     explain(alloc, words, shelf, out, err)
 }
