@@ -4,7 +4,7 @@ use Rattle.std.specs.Prelude.{decimal}
 use Rattle.std.specs.Str.Parse.{AllDigits}
 use Rattle.std.proofs.lemmas.Fmt.{decimal_is_IsNumeral}
 use Rattle.std.proofs.lemmas.Str.Parse.{digit_at}
-use Rattle.command_base.specs.Words.{Bytes, PlanWords, ReplayWords, SaysOptions}
+use Rattle.command_base.specs.Words.{Bytes, PlanWords, ReplayWords}
 use Rattle.command_base.proofs.WordLists.{as_plain}
 use Rattle.explain_record.specs.Words.{SaysRun}
 use Rattle.mistakes_command.specs.Words.{MistakesWords, SaysMistakes, json_words}
