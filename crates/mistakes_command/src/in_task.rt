@@ -1,12 +1,16 @@
 //! What is found in the task of two files.
 
+ghost use Rattle.group_hints.specs.Hints.{IsHint};
 ghost use Rattle.likely_mistakes.specs.Rows.{sections_of as sections_in};
+ghost use Rattle.mistake_notices.specs.TaskNotices.{hint_notice as notice_for_hint};
 ghost use Rattle.mistake_notices.specs.Values.{notice_value, written_value};
 ghost use Rattle.mistakes_command.specs.Mistakes.{
+  AreHints,
   AreNeverTold,
   AreTaskNotices,
   IsGoalTold,
   IsGoalToldIn,
+  texts_of,
   written,
 };
 ghost use Rattle.mistakes_command.specs.ReadValues.{spelled_by};
@@ -16,11 +20,12 @@ ghost use Rattle.pddl_ast.specs.Values.{domain_value, problem_value};
 ghost use Rattle.pddl_system.specs.Sizes.{first_passed};
 ghost use Rattle.relaxed_reach.specs.Literals.{has};
 ghost use Rattle.sexpr_text.specs.Forest.{forest_of};
-ghost use Rattle.std.specs.Prelude.{◌≡◌, ◌≤◌, None, OnOk, length, map};
+ghost use Rattle.std.specs.Prelude.{◌≡◌, ◌≤◌, ◌∷◌, [], IfOk, IfSome, None, OnOk, length, map};
 
 use crate::files::ReadTexts;
+use group_hints::{GroupHint, Texts, group_hint};
 use likely_mistakes::{forms_of, sections_of};
-use mistake_notices::{Notice, Written, add_never, goal_notice};
+use mistake_notices::{Notice, Written, add_never, goal_notice, hint_notice};
 use never_executed::{Setup, goal_never, never_run};
 use relaxed_reach::{Literals, reached_literals};
 use sexpr_text::Form;
@@ -137,4 +142,51 @@ fn add_goal(
         }
         None => Ok(()),
     }
+}
+
+/// What is told of groups.
+pub(crate) fn hints_in(
+    alloc: Global,
+    read: &ReadTexts,
+    task: &Task,
+) -> Result<Vec<Notice>, AllocError>
+    requires domain_text { length read.now.file.text.items ≤ 1048576 }
+    requires problem_text { length read.now.problem_text.items ≤ 1048576 }
+    ensures { IfOk result
+        (λ hints. AreHints (spelled_by read.now) task.now (map notice_value hints.items)) }
+{
+    match hint_in(alloc, read, task)? {
+        Some(hint) => hint_list(alloc, &hint),
+        None => Ok(Vec::new(alloc)),
+    }
+}
+
+/// What is told of groups, where something is.
+fn hint_in(
+    alloc: Global,
+    read: &ReadTexts,
+    task: &Task,
+) -> Result<Option<GroupHint>, AllocError>
+    requires domain_text { length read.now.file.text.items ≤ 1048576 }
+    requires problem_text { length read.now.problem_text.items ≤ 1048576 }
+    ensures { IfOk result (λ found. IfSome found (λ hint. IsHint (texts_of (spelled_by read.now))
+        task.now hint.place hint.invariant.items)) }
+{
+    let texts = Texts {
+        domain: &read.file.domain,
+        problem: &read.problem,
+        domain_text: read.file.text.as_slice(),
+        problem_text: read.problem_text.as_slice(),
+    };
+    group_hint(alloc, &texts, task)
+}
+
+/// The list of one hint.
+fn hint_list(alloc: Global, hint: &GroupHint) -> Result<Vec<Notice>, AllocError>
+    ensures { IfOk result (λ hints. map notice_value hints.items
+        ≡ notice_for_hint hint.now.place hint.now.invariant.items ∷ []) }
+{
+    let mut hints = Vec::new(alloc);
+    hints.push(hint_notice(alloc, hint.place, &hint.invariant)?)?;
+    Ok(hints)
 }
