@@ -1,9 +1,10 @@
--- What is told of groups of fluents of which exactly one is true: the invariant that says so, judged in
--- the text of the domain.
+-- What is told of groups of fluents of which exactly one is true: a sentence about each shape, and the
+-- invariant that says so, judged in the text of the domain.
 use Rattle.std.specs.Prelude.{◌≡◌, ℕ, List, ◌++◌, Option, Some, codes, drop, map, take}
 use Rattle.std.specs.Option.{option_map}
 use Rattle.domain_read.specs.Domains.{SpellsDomain}
 use Rattle.group_shapes.specs.Found.{AreFound}
+use Rattle.group_hints.specs.Sentences.{shape_text}
 use Rattle.group_shapes.specs.Texts.{Names, invariant_text}
 use Rattle.group_shapes.specs.declared.shapes.OneOf.{OneOf}
 use Rattle.likely_mistakes.specs.Rows.{sections_of}
@@ -61,23 +62,31 @@ pub record LeavesNothingOut (domain_text problem_text : List ℕ) : Type 0 where
   pub of_texts : IsTaskOfTexts domain_text problem_text task
   pub excludes_nothing : ExcludesNothing task
 
--- the invariant is that of these shapes, and with it before the form with this span, which begins at this
--- place, the text of the domain leaves nothing out
-pub record IsJudged (texts : PlainTexts) (found : List OneOf) (span : Span) (place : Place)
-    (invariant : List ℕ) : Type 0 where
-  pub place_is : place ≡ span.place
-  pub says : invariant ≡ invariant_text (names_in texts.domain)
+-- what is told: before which place in the text of the domain the invariant can be put, a sentence about
+-- each shape, and the invariant
+pub record PlainHints : Type 0 where
+  pub place : Place
+  pub sentences : List (List ℕ)
+  pub invariant : List ℕ
+
+-- the sentences and the invariant are those of these shapes, and with the invariant before the form with
+-- this span, which begins at the place, the text of the domain leaves nothing out
+pub record AreJudged (texts : PlainTexts) (task : Task) (found : List OneOf) (span : Span)
+    (hints : PlainHints) : Type 0 where
+  pub place : hints.place ≡ span.place
+  pub sentences : hints.sentences ≡ map (shape_text task) found
+  pub invariant : hints.invariant ≡ invariant_text (names_in texts.domain)
       (map (λ (one : OneOf). one.shape) found)
-  pub judged : LeavesNothingOut (with_line texts.domain_text span.start invariant) texts.problem_text
+  pub judged : LeavesNothingOut (with_line texts.domain_text span.start hints.invariant)
+      texts.problem_text
 
 -- exactly one fluent of each group of some shapes is true at the start, and no outcome of an action changes
--- that; the invariant says so of these shapes, and it can be put before the first action, at this place
-pub record IsHint (texts : PlainTexts) (task : Task) (place : Place) (invariant : List ℕ)
-    : Type 0 where
+-- that; so it is told of these shapes, and the invariant can be put before the first action
+pub record AreHints (texts : PlainTexts) (task : Task) (hints : PlainHints) : Type 0 where
   pub found : List OneOf
   pub groups : AreFound task found
   pub forms : Forest
   pub spelled : SpellsTrees texts.domain_text forms
   pub span : Span
   pub there : first_action forms ≡ Some span
-  pub told : IsJudged texts found span place invariant
+  pub told : AreJudged texts task found span hints

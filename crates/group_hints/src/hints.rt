@@ -1,15 +1,18 @@
 //! What is told of groups.
 
 ghost use Rattle.group_hints.specs.Hints.{
-  IsHint,
-  IsJudged,
+  AreHints,
+  AreJudged,
   LeavesNothingOut,
   with_line as text_with,
 };
-ghost use Rattle.group_hints.specs.Values.{texts_value};
-ghost use Rattle.std.specs.Prelude.{◌≡◌, ◌≤◌, IfOk, IfSome, IsTrue, length};
+ghost use Rattle.group_hints.specs.Values.{hints_value, texts_value};
+ghost use Rattle.group_shapes.specs.Found.{AreFound};
+ghost use Rattle.std.specs.Prelude.{◌≤◌, IfOk, IfSome, IsTrue, length};
 
+use crate::chosen::chosen;
 use crate::pasting::{first_action, with_line};
+use crate::sentences::sentences;
 use crate::tasks::task_of_texts;
 use group_shapes::{OneOf, find_groups, push_invariant};
 use likely_mistakes::forms_of;
@@ -30,36 +33,39 @@ pub struct Texts<'a> {
 
 /// That exactly one fluent of each of some groups is true in every reachable state.
 #[derive(Drop)]
-pub struct GroupHint {
+pub struct GroupHints {
     /// The place in the domain before which the invariant can be put.
     pub place: Place,
-    /// The text of the invariant.
+    /// A sentence about each shape of groups.
+    pub sentences: Vec<String>,
+    /// The text of the invariant, which says so of all of them.
     pub invariant: Vec<u8>,
 }
 
-/// What is told of groups of a domain and a problem, whose task this is. `None` where no groups are
-/// found, where the domain has an invariant already, and where the text with the invariant in it isn't
-/// judged to leave nothing out.
-pub fn group_hint(
+/// What is told of groups of a domain and a problem, whose task this is: of at most ten shapes, those with
+/// the largest groups. `None` where no groups are found, where the domain has an invariant already, and
+/// where the text with the invariant in it isn't judged to leave nothing out.
+pub fn group_hints(
     alloc: Global,
     texts: &Texts<'_>,
     task: &Task,
-) -> Result<Option<GroupHint>, AllocError>
+) -> Result<Option<GroupHints>, AllocError>
     requires domain_text { length texts.now.domain_text.now ≤ MAX_BYTES }
     requires problem_text { length texts.now.problem_text.now ≤ MAX_BYTES }
-    ensures { IfOk result (λ found. IfSome found (λ hint. IsHint (texts_value texts.now) task.now
-        hint.place hint.invariant.items)) }
+    ensures { IfOk result (λ told. IfSome told
+        (λ hints. AreHints (texts_value texts.now) task.now (hints_value hints))) }
 {
     if has_invariant(texts.domain) {
         return Ok(None);
     }
     let found = find_groups(alloc, texts.domain, texts.problem, task)?;
+    let found = chosen(alloc, task, found)?;
     if found.is_empty() {
         return Ok(None);
     }
     let forms = forms_of(alloc, texts.domain_text)?;
     match first_action(&forms) {
-        Some(span) => hint_at(alloc, texts, &found, span),
+        Some(span) => hints_at(alloc, texts, task, &found, span),
         None => Ok(None),
     }
 }
@@ -72,26 +78,28 @@ fn has_invariant(domain: &Domain) -> bool {
     }
 }
 
-/// What is told of these groups: the invariant can be put before the form with this span.
-fn hint_at(
+/// What is told of these shapes: the invariant can be put before the form with this span.
+fn hints_at(
     alloc: Global,
     texts: &Texts<'_>,
+    task: &Task,
     found: &[OneOf],
     span: Span,
-) -> Result<Option<GroupHint>, AllocError>
+) -> Result<Option<GroupHints>, AllocError>
     requires { length texts.now.problem_text.now ≤ MAX_BYTES }
-    ensures { IfOk result (λ told. IfSome told (λ hint. IsJudged (texts_value texts.now) found.now span
-        hint.place hint.invariant.items)) }
+    ensures { IfOk result (λ told. IfSome told
+        (λ hints. AreJudged (texts_value texts.now) task.now found.now span (hints_value hints))) }
 {
     let mut invariant = Vec::new(alloc);
     push_invariant(alloc, &mut invariant, texts.domain, found)?;
-    if is_judged(alloc, texts, found, span, &invariant)? {
-        return Ok(Some(GroupHint {
-            place: span.place,
-            invariant,
-        }));
+    if !is_judged(alloc, texts, found, span, &invariant)? {
+        return Ok(None);
     }
-    Ok(None)
+    Ok(Some(GroupHints {
+        place: span.place,
+        sentences: sentences(alloc, task, found)?,
+        invariant,
+    }))
 }
 
 /// Whether the text with the invariant in it is judged to leave nothing out.

@@ -80,11 +80,7 @@ fn problem_of(alloc: Global, text: &[u8], domain: &Domain) -> Result<Option<Prob
 }
 
 /// The task of a domain and a problem; `None` where a limit is passed.
-fn grounded(
-    alloc: Global,
-    domain: &Domain,
-    problem: &Problem,
-) -> Result<Option<Task>, AllocError>
+fn grounded(alloc: Global, domain: &Domain, problem: &Problem) -> Result<Option<Task>, AllocError>
     requires fits_domain { FitsDomain (domain_value domain.now) }
     requires fits_problem { FitsProblem (domain_value domain.now) (problem_value problem.now) }
     requires names { NamesAreWords (domain_value domain.now) (problem_value problem.now) }

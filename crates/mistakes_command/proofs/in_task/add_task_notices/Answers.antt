@@ -1,5 +1,3 @@
-use Rattle.std.proofs.Common.{map}
-use Rattle.mistake_notices.specs.Values.{notice_value}
 use Rattle.mistakes_command.specs.ReadValues.{spelled_by}
 use Rattle.relaxed_reach.specs.Literals.{has}
 use Rattle.mistakes_command.proofs.Added.{on_both}
