@@ -1,3 +1,4 @@
 mod Members
+mod OfTexts
 mod Taken
 mod Told

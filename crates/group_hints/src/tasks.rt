@@ -39,9 +39,30 @@ pub(crate) fn task_of_texts(
     let Some(problem) = problem_of(alloc, problem_text, &domain)? else {
         return Ok(None);
     };
+    task_in(alloc, domain_text, problem_text, &domain, &problem)
+}
+
+/// The task of this domain and this problem, which the texts spell; `None` where a limit is passed.
+fn task_in(
+    alloc: Global,
+    domain_text: &[u8],
+    problem_text: &[u8],
+    domain: &Domain,
+    problem: &Problem,
+) -> Result<Option<Task>, AllocError>
+    requires domain_spelled { SpellsDomain domain_text.now (domain_value domain.now) }
+    requires problem_spelled { SpellsProblem problem_text.now (domain_value domain.now)
+        (problem_value problem.now) }
+    requires fits_domain { FitsDomain (domain_value domain.now) }
+    requires fits_problem { FitsProblem (domain_value domain.now) (problem_value problem.now) }
+    requires domain_words { HasWordNames (domain_value domain.now) }
+    requires problem_words { HasWordObjects (problem_value problem.now) }
+    ensures { IfOk result (λ found. IfSome found
+        (λ task. IsTaskOfTexts domain_text.now problem_text.now task)) }
+{
     // This does nothing: that the names are words rests on what it promises.
     read_names_are_words();
-    grounded(alloc, &domain, &problem)
+    grounded(alloc, domain, problem)
 }
 
 /// The domain that a text spells.

@@ -173,11 +173,13 @@ fn found_hints(
     ensures { IfOk result (λ found. IfSome found
         (λ hints. AreHints (texts_of (spelled_by read.now)) task.now (hints_value hints))) }
 {
+    let domain_text = read.file.text.as_slice();
+    let problem_text = read.problem_text.as_slice();
     let texts = Texts {
         domain: &read.file.domain,
         problem: &read.problem,
-        domain_text: read.file.text.as_slice(),
-        problem_text: read.problem_text.as_slice(),
+        domain_text,
+        problem_text,
     };
     group_hints(alloc, &texts, task)
 }
