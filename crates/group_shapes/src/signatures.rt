@@ -1,4 +1,4 @@
-//! The types of the atoms that effects add or delete.
+//! The types of the atoms that effects add.
 
 use crate::types::joined;
 use crate::world::World;
@@ -15,7 +15,7 @@ pub(crate) struct Signature {
     pub(crate) types: Vec<TypeId>,
 }
 
-/// The signatures of the atoms that the actions of a domain add or delete.
+/// The signatures of the atoms that the actions of a domain add.
 pub(crate) fn signatures(world: &World<'_>) -> Result<Vec<Signature>, AllocError> {
     let mut found = Vec::new(world.alloc);
     for schema in &world.domain.actions {
@@ -26,7 +26,7 @@ pub(crate) fn signatures(world: &World<'_>) -> Result<Vec<Signature>, AllocError
     Ok(found)
 }
 
-/// Adds those of the atoms that an effect adds or deletes, where variables in scope have these types.
+/// Adds those of the atoms that an effect adds, where variables in scope have these types.
 fn add_signatures(
     world: &World<'_>,
     effect: &Effect,
@@ -34,8 +34,11 @@ fn add_signatures(
     found: &mut Vec<Signature>,
 ) -> Result<(), AllocError> {
     match effect {
-        Effect::Add(predicate, terms) => add_atom(world, *predicate, terms, scope, found),
-        Effect::Delete(predicate, terms) => add_atom(world, *predicate, terms, scope, found),
+        Effect::Add(predicate, terms) => {
+            let types = types_of(world, terms, scope)?;
+            add_signature(*predicate, types, found)
+        }
+        Effect::Delete(_, _) => Ok(()),
         Effect::Both(parts) => {
             for part in parts {
                 add_signatures(world, part, scope, found)?;
@@ -57,18 +60,6 @@ fn add_signatures(
             Ok(())
         }
     }
-}
-
-/// Adds that of an atom.
-fn add_atom(
-    world: &World<'_>,
-    predicate: PredicateId,
-    terms: &[Term],
-    scope: &[TypeId],
-    found: &mut Vec<Signature>,
-) -> Result<(), AllocError> {
-    let types = types_of(world, terms, scope)?;
-    add_signature(predicate, types, found)
 }
 
 /// The types of terms.
