@@ -3,6 +3,7 @@
 ghost use Rattle.group_hints.specs.Hints.{
   AreHints,
   AreJudged,
+  IsTaskOfTexts,
   LeavesNothingOut,
   with_line as text_with,
 };
@@ -148,7 +149,15 @@ fn leaves_nothing_out(
         return Ok(false);
     }
     match task_of_texts(alloc, domain_text, problem_text)? {
-        Some(task) => Ok(excludes_nothing(&task, groups)),
+        Some(task) => Ok(is_whole(domain_text, problem_text, &task, groups)),
         None => Ok(false),
     }
+}
+
+/// Whether the invariant of the task of two texts leaves nothing out.
+fn is_whole(domain_text: &[u8], problem_text: &[u8], task: &Task, groups: &[State]) -> bool
+    requires { IsTaskOfTexts domain_text.now problem_text.now task.now }
+    ensures { IsTrue result → LeavesNothingOut domain_text.now problem_text.now }
+{
+    excludes_nothing(task, groups)
 }

@@ -13,7 +13,7 @@ ghost use Rattle.group_hints.specs.Sentences.{
 };
 ghost use Rattle.plan_rules.specs.Texts.{name_at};
 ghost use Rattle.std.specs.List.{flat_map};
-ghost use Rattle.std.specs.Prelude.{◌≡◌, ◌++◌, ◌≤◌, IfOk, OnOk, decimal, map, string_bytes, take};
+ghost use Rattle.std.specs.Prelude.{◌≡◌, ◌++◌, ◌≤◌, IfOk, OnOk, decimal, map, nat_le, string_bytes, take};
 ghost use Rattle.std.specs.Rc.{rc_str_bytes};
 ghost use Rattle.task_core.specs.Names.{name_bytes};
 ghost use Rattle.task_core.specs.States.{truth};
@@ -124,12 +124,19 @@ fn push_more(out: &mut String, count: usize) -> Result<(), AllocError>
 fn push_such(out: &mut String, groups: usize) -> Result<(), AllocError>
     ensures { OnOk result (string_bytes out.new ≡ string_bytes out.old ++ such_text groups) }
 {
-    if groups <= 1 {
+    if is_alone(groups) {
         return Ok(());
     }
     out.push_str("; one of ")?;
     push_count(out, groups)?;
     out.push_str(" such groups")
+}
+
+/// Whether there is one group at most.
+fn is_alone(groups: usize) -> bool
+    ensures { result ≡ nat_le groups 1 }
+{
+    groups <= 1
 }
 
 /// Appends a number.
