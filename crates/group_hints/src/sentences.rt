@@ -13,7 +13,7 @@ ghost use Rattle.group_hints.specs.Sentences.{
 };
 ghost use Rattle.plan_rules.specs.Texts.{name_at};
 ghost use Rattle.std.specs.List.{flat_map};
-ghost use Rattle.std.specs.Prelude.{◌≡◌, ◌++◌, ◌≤◌, IfOk, OnOk, decimal, map, nat_le, string_bytes, take};
+ghost use Rattle.std.specs.Prelude.{◌≡◌, ◌++◌, ◌≤◌, IfOk, OnOk, codes, decimal, map, nat_le, string_bytes, take};
 ghost use Rattle.std.specs.Rc.{rc_str_bytes};
 ghost use Rattle.task_core.specs.Names.{name_bytes};
 ghost use Rattle.task_core.specs.States.{truth};
@@ -127,6 +127,14 @@ fn push_such(out: &mut String, groups: usize) -> Result<(), AllocError>
     if is_alone(groups) {
         return Ok(());
     }
+    push_groups(out, groups)
+}
+
+/// Appends how many groups there are.
+fn push_groups(out: &mut String, groups: usize) -> Result<(), AllocError>
+    ensures { OnOk result (string_bytes out.new ≡ string_bytes out.old
+        ++ (codes "; one of " ++ decimal groups ++ codes " such groups")) }
+{
     out.push_str("; one of ")?;
     push_count(out, groups)?;
     out.push_str(" such groups")
