@@ -1,10 +1,12 @@
-use Rattle.std.proofs.Common.{◌∙◌, ◌++◌, List, ℕ, ap, refl}
+use Rattle.std.proofs.Common.{refl}
 use Rattle.group_hints.proofs.hints.hints_at.Goals as goal
 
 pub returns : goal.returns
-returns c = record {
-  place = refl;
-  sentences = c.in_ok-sentences.ensures;
-  invariant = c.in_ok-push_invariant.ensures ∙ ap (λ (xs : List ℕ). xs ++ _) c.new-invariant.ensures.items;
-  judged = search;
-}
+returns c =
+    let judged = c.in_ok-is_judged.ensures c.if-not-branch.false in
+    record {
+      place = refl;
+      sentences = c.in_ok-sentences.ensures;
+      invariant = rw c.new-invariant.ensures.items at c.in_ok-push_invariant.ensures;
+      judged = rw c.deref.ensures.value at judged;
+    }
