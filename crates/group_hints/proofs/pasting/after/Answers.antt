@@ -1,4 +1,4 @@
-use Rattle.std.proofs.Common.{◌∙◌, arith, drop, length}
+use Rattle.std.proofs.Common.{arith, drop}
 use Rattle.std.proofs.lemmas.List.{take_all, length-drop}
 use Rattle.group_hints.proofs.pasting.after.Goals as goal
 
