@@ -103,12 +103,20 @@ goal_notice problem part =
       message = codes "the goal is false whatever is done" ++ goal_end problem.text span part;
     }
 
--- what is told of groups: the place before which the invariant can be put, and the invariant
-abbrev pub hint_notice : Place → List ℕ → PlainNotice
-hint_notice place invariant = record {
+-- a sentence about groups, at the place before which the invariant can be put
+abbrev pub group_notice : Place → List ℕ → PlainNotice
+group_notice place sentence = record {
   in_problem = false;
   place = place;
   kind = codes "one-of";
-  message = codes "exactly one atom of each group is true in every reachable state: add "
-      ++ utf8_lossy invariant;
+  message = sentence;
+}
+
+-- the invariant that says so, at that place
+abbrev pub invariant_notice : Place → List ℕ → PlainNotice
+invariant_notice place invariant = record {
+  in_problem = false;
+  place = place;
+  kind = codes "invariant";
+  message = codes "to say so, add here: " ++ utf8_lossy invariant;
 }

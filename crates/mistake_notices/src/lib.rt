@@ -14,5 +14,5 @@ mod texts;
 pub use documents::report_document;
 pub use messages::{Source, add_notices, text_at};
 pub use notices::{FileNames, LimitName, Notice, Report};
-pub use task_messages::{Written, add_never, goal_notice, hint_notice};
+pub use task_messages::{Written, add_groups, add_never, goal_notice, invariant_notice};
 pub use texts::report_text;

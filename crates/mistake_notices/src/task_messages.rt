@@ -9,8 +9,9 @@ ghost use Rattle.mistake_notices.specs.TaskNotices.{
   goal_notice as notice_for_goal,
   goal_part_span,
   goal_span as span_of_goal,
+  group_notice as notice_for_group,
   has_lines as are_lines,
-  hint_notice as notice_for_hint,
+  invariant_notice as notice_for_invariant,
   name_span as span_of_name,
   never_notice as notice_for_never,
   never_text,
@@ -266,29 +267,55 @@ fn push_goal_end(
     }
 }
 
-/// What is told of groups: the place before which the invariant can be put, and the invariant.
-pub fn hint_notice(alloc: Global, place: Place, invariant: &[u8]) -> Result<Notice, AllocError>
-    ensures { IfOk result (λ notice. notice_value notice ≡ notice_for_hint place invariant.now) }
+/// Adds sentences about groups, at the place before which the invariant can be put.
+pub fn add_groups(
+    alloc: Global,
+    notices: &mut Vec<Notice>,
+    place: Place,
+    sentences: &[String],
+) -> Result<(), AllocError>
+    ensures { OnOk result (map notice_value notices.new.items
+        ≡ map notice_value notices.old.items
+        ++ map (notice_for_group place) (map string_bytes sentences.now)) }
+{
+    for sentence in sentences {
+        notices.push(group_notice(alloc, place, sentence)?)?;
+    }
+    Ok(())
+}
+
+/// A sentence about groups, at the place before which the invariant can be put.
+fn group_notice(alloc: Global, place: Place, sentence: &str) -> Result<Notice, AllocError>
+    ensures { IfOk result
+        (λ notice. notice_value notice ≡ notice_for_group place sentence.now) }
+{
+    Ok(Notice {
+        in_problem: false,
+        place,
+        kind: "one-of",
+        message: String::from_str(alloc, sentence)?,
+    })
+}
+
+/// The invariant that says so, at that place.
+pub fn invariant_notice(alloc: Global, place: Place, invariant: &[u8]) -> Result<Notice, AllocError>
+    ensures { IfOk result
+        (λ notice. notice_value notice ≡ notice_for_invariant place invariant.now) }
 {
     let invariant = String::from_utf8_lossy(alloc, invariant)?;
     Ok(Notice {
         in_problem: false,
         place,
-        kind: "one-of",
-        message: hint_message(alloc, &invariant)?,
+        kind: "invariant",
+        message: sentence_with(alloc, "to say so, add here: ", &invariant)?,
     })
 }
 
-/// That the invariant can be put there.
-fn hint_message(alloc: Global, invariant: &str) -> Result<String, AllocError>
-    ensures { IfOk result (λ message. string_bytes message
-        ≡ codes "exactly one atom of each group is true in every reachable state: add "
-        ++ invariant.now) }
+/// Two texts, one after the other.
+fn sentence_with(alloc: Global, start: &str, end: &str) -> Result<String, AllocError>
+    ensures { IfOk result (λ message. string_bytes message ≡ start.now ++ end.now) }
 {
-    let mut out = String::from_str(
-        alloc,
-        "exactly one atom of each group is true in every reachable state: add ",
-    )?;
-    out.push_str(invariant)?;
+    let mut out = String::from_str(alloc, start)?;
+    out.push_str(end)?;
     Ok(out)
 }

@@ -7,11 +7,12 @@ use Rattle.command_base.specs.PddlTexts.{ReadBoth, SpellsProblemOf}
 use Rattle.command_base.specs.Reading.{IsFile}
 use Rattle.command_base.specs.Words.{Bytes}
 use Rattle.domain_read.specs.Domains.{SpellsDomain}
+use Rattle.group_hints.specs.Hints.{AreHints, PlainHints, PlainTexts}
 use Rattle.likely_mistakes.specs.Mistakes.{AreMistakes}
 use Rattle.likely_mistakes.specs.Rows.{sections_of}
 use Rattle.likely_mistakes.specs.declared.mistakes.Mistake.{Mistake}
 use Rattle.mistake_notices.specs.Notices.{PlainNotice, PlainReport, PlainSource, notice_of}
-use Rattle.mistake_notices.specs.TaskNotices.{PlainWritten, goal_notice, never_notice}
+use Rattle.mistake_notices.specs.TaskNotices.{PlainWritten, goal_notice, group_notice, invariant_notice, never_notice}
 use Rattle.mistake_notices.specs.Texts.{PlainFileNames, document_text, report_text}
 use Rattle.mistake_notices.specs.Values.{never_value}
 use Rattle.mistakes_command.specs.Words.{MistakesWords}
@@ -64,6 +65,14 @@ notices_of read in_domain in_problem =
 abbrev pub written : Bytes → Forest → PlainWritten
 written text sections = record { text = text; sections = sections }
 
+abbrev pub texts_of : Spelled → PlainTexts
+texts_of read = record {
+  domain = read.domain;
+  problem = read.problem;
+  domain_text = read.domain_text;
+  problem_text = read.problem_text;
+}
+
 -- this is what is told of exactly the mistakes in the two files
 pub record AreNotices (read : Spelled) (notices : List PlainNotice) : Type 0 where
   pub in_domain : List Mistake
@@ -111,6 +120,18 @@ pub record AreTaskNotices (read : Spelled) (task : Task) (notices : List PlainNo
   pub goal_told : IsGoalToldIn read task set of_goal
   pub told : notices ≡ never ++ of_goal
 
+-- the hints: the sentences about groups, and the invariant that says so
+abbrev pub hint_notices : PlainHints → List PlainNotice
+hint_notices hints =
+    map (group_notice hints.place) hints.sentences
+    ++ (invariant_notice hints.place hints.invariant ∷ [])
+
+-- nothing is told of groups; or it is told what is judged of them
+abbrev pub AreHintsTold : Spelled → Task → List PlainNotice → Type 0
+AreHintsTold read task told =
+    (told ≡ [])
+    ⊎ ((hints : PlainHints) × AreHints (texts_of read) task hints × (told ≡ hint_notices hints))
+
 -- all that is told of two files where a limit is passed: what is likely a mistake in the texts alone
 pub record IsLimitedReport (read : Spelled) (report : PlainReport) : Type 0 where
   pub notices : AreNotices read report.notices
@@ -120,7 +141,7 @@ pub record IsLimitedReport (read : Spelled) (report : PlainReport) : Type 0 wher
   pub limit_is : report.limit ≡ Some (limit_name limit)
 
 -- all that is told of two files with this task: what is likely a mistake in the texts, and then in the
--- task
+-- task; and what is no mistake, of groups
 pub record IsTaskReport (read : Spelled) (report : PlainReport) : Type 0 where
   pub task : Task
   pub grounded : task_value task ≡ task_of read.domain read.problem
@@ -129,7 +150,7 @@ pub record IsTaskReport (read : Spelled) (report : PlainReport) : Type 0 where
   pub of_task : List PlainNotice
   pub in_task : AreTaskNotices read task of_task
   pub notices : report.notices ≡ of_texts ++ of_task
-  pub hints : report.hints ≡ []
+  pub hints : AreHintsTold read task report.hints
   pub limit : report.limit ≡ None
 
 -- all that is told of two files

@@ -39,7 +39,7 @@ ghost use Rattle.std.specs.Prelude.{
 };
 
 use crate::files::ReadTexts;
-use crate::in_task::add_task_notices;
+use crate::in_task::{add_task_notices, hints_in};
 use crate::words::MistakesWords;
 use command_base::{Refusal, Shown, Text};
 use ground_task::{GroundErr, ground};
@@ -145,9 +145,10 @@ fn task_report(
 {
     let mut notices = notices;
     add_task_notices(alloc, read, task, &mut notices)?;
+    let hints = hints_in(alloc, read, task)?;
     Ok(Report {
         notices,
-        hints: Vec::new(alloc),
+        hints,
         limit: None,
     })
 }

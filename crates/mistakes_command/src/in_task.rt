@@ -1,12 +1,17 @@
 //! What is found in the task of two files.
 
+ghost use Rattle.group_hints.specs.Hints.{AreHints};
+ghost use Rattle.group_hints.specs.Values.{hints_value};
 ghost use Rattle.likely_mistakes.specs.Rows.{sections_of as sections_in};
 ghost use Rattle.mistake_notices.specs.Values.{notice_value, written_value};
 ghost use Rattle.mistakes_command.specs.Mistakes.{
+  AreHintsTold,
   AreNeverTold,
   AreTaskNotices,
   IsGoalTold,
   IsGoalToldIn,
+  hint_notices as notices_for_hints,
+  texts_of,
   written,
 };
 ghost use Rattle.mistakes_command.specs.ReadValues.{spelled_by};
@@ -16,11 +21,12 @@ ghost use Rattle.pddl_ast.specs.Values.{domain_value, problem_value};
 ghost use Rattle.pddl_system.specs.Sizes.{first_passed};
 ghost use Rattle.relaxed_reach.specs.Literals.{has};
 ghost use Rattle.sexpr_text.specs.Forest.{forest_of};
-ghost use Rattle.std.specs.Prelude.{◌≡◌, ◌≤◌, None, OnOk, length, map};
+ghost use Rattle.std.specs.Prelude.{◌≡◌, ◌≤◌, IfOk, IfSome, None, OnOk, length, map};
 
 use crate::files::ReadTexts;
+use group_hints::{GroupHints, Texts, group_hints};
 use likely_mistakes::{forms_of, sections_of};
-use mistake_notices::{Notice, Written, add_never, goal_notice};
+use mistake_notices::{Notice, Written, add_groups, add_never, goal_notice, invariant_notice};
 use never_executed::{Setup, goal_never, never_run};
 use relaxed_reach::{Literals, reached_literals};
 use sexpr_text::Form;
@@ -137,4 +143,54 @@ fn add_goal(
         }
         None => Ok(()),
     }
+}
+
+/// What is told of groups.
+pub(crate) fn hints_in(
+    alloc: Global,
+    read: &ReadTexts,
+    task: &Task,
+) -> Result<Vec<Notice>, AllocError>
+    requires domain_text { length read.now.file.text.items ≤ 1048576 }
+    requires problem_text { length read.now.problem_text.items ≤ 1048576 }
+    ensures { IfOk result
+        (λ hints. AreHintsTold (spelled_by read.now) task.now (map notice_value hints.items)) }
+{
+    match found_hints(alloc, read, task)? {
+        Some(hints) => hint_notices(alloc, &hints),
+        None => Ok(Vec::new(alloc)),
+    }
+}
+
+/// What is judged of groups.
+fn found_hints(
+    alloc: Global,
+    read: &ReadTexts,
+    task: &Task,
+) -> Result<Option<GroupHints>, AllocError>
+    requires domain_text { length read.now.file.text.items ≤ 1048576 }
+    requires problem_text { length read.now.problem_text.items ≤ 1048576 }
+    ensures { IfOk result (λ found. IfSome found
+        (λ hints. AreHints (texts_of (spelled_by read.now)) task.now (hints_value hints))) }
+{
+    let domain_text = read.file.text.as_slice();
+    let problem_text = read.problem_text.as_slice();
+    let texts = Texts {
+        domain: &read.file.domain,
+        problem: &read.problem,
+        domain_text,
+        problem_text,
+    };
+    group_hints(alloc, &texts, task)
+}
+
+/// The sentences about groups, and the invariant that says so.
+fn hint_notices(alloc: Global, hints: &GroupHints) -> Result<Vec<Notice>, AllocError>
+    ensures { IfOk result (λ told. map notice_value told.items
+        ≡ notices_for_hints (hints_value hints.now)) }
+{
+    let mut told = Vec::new(alloc);
+    add_groups(alloc, &mut told, hints.place, &hints.sentences)?;
+    told.push(invariant_notice(alloc, hints.place, &hints.invariant)?)?;
+    Ok(told)
 }

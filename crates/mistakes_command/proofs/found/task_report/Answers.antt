@@ -12,6 +12,6 @@ returns c =
       of_task = added.added;
       in_task = added.told;
       notices = added.after_is;
-      hints = search;
+      hints = c.in_ok-hints.ensures;
       limit = refl;
     }

@@ -1,0 +1,5 @@
+mod Members
+mod OfTexts
+mod Pushed
+mod Taken
+mod Told
