@@ -13,7 +13,19 @@ ghost use Rattle.group_hints.specs.Sentences.{
 };
 ghost use Rattle.plan_rules.specs.Texts.{name_at};
 ghost use Rattle.std.specs.List.{flat_map};
-ghost use Rattle.std.specs.Prelude.{◌≡◌, ◌++◌, ◌≤◌, IfOk, OnOk, codes, decimal, map, nat_le, string_bytes, take};
+ghost use Rattle.std.specs.Prelude.{
+  ◌≡◌,
+  ◌++◌,
+  ◌≤◌,
+  IfOk,
+  OnOk,
+  codes,
+  decimal,
+  map,
+  nat_le,
+  string_bytes,
+  take,
+};
 ghost use Rattle.std.specs.Rc.{rc_str_bytes};
 ghost use Rattle.task_core.specs.Names.{name_bytes};
 ghost use Rattle.task_core.specs.States.{truth};
