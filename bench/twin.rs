@@ -733,15 +733,10 @@ impl Rounds {
         }
     }
 
-    /// Rounds that add the states with an action that leads into the set, which take it where there are places for that.
-    fn grow_all(
-        &mut self,
-        encoded: &mut Encoded,
-        guard: Slot,
-        set: Slot,
-        mut takers: Option<&mut [Slot]>,
-    ) -> Slot {
+    /// Rounds that add the states with an action that leads into the set, and the steps that changed something.
+    fn grow_all(&mut self, encoded: &mut Encoded, guard: Slot, set: Slot) -> (Slot, Vec<Step>) {
         self.spent = vec![false; encoded.actions.len()];
+        let mut steps = Vec::new();
         let mut near = encoded.sets.copy(set);
         loop {
             self.rounds += 1;
@@ -750,28 +745,52 @@ impl Rounds {
                 if self.find_spent(encoded, next, action) {
                     continue;
                 }
-                let hits = self.lead_inside(encoded, guard, near, action);
-                if let Some(takers) = &mut takers {
-                    let new = encoded.sets.make(Operation::Minus(hits, next));
-                    if !encoded.sets.is_empty(new) {
-                        takers[action] = encoded
-                            .sets
-                            .replace(takers[action], Operation::Or(takers[action], new));
-                        next = encoded.sets.replace(next, Operation::Or(next, hits));
-                    }
-                    encoded.sets.end(new);
-                } else {
-                    next = encoded.sets.replace(next, Operation::Or(next, hits));
+                let mut hits = self.lead_inside(encoded, guard, near, action);
+                hits = encoded.sets.replace(hits, Operation::Or(next, hits));
+                if !encoded.sets.are_same(hits, next) {
+                    next = encoded.sets.put(next, hits);
+                    steps.push(Step::Grow(action));
                 }
                 encoded.sets.end(hits);
             }
+            steps.push(Step::Advance);
             let is_last = encoded.sets.are_same(next, near);
             encoded.sets.end(near);
             near = next;
             if is_last {
-                return near;
+                return (near, steps);
             }
         }
+    }
+
+    /// The steps once more, with what each action takes.
+    fn climb(
+        &mut self,
+        encoded: &mut Encoded,
+        (guard, set): (Slot, Slot),
+        steps: &[Step],
+        takers: &mut [Slot],
+    ) {
+        let mut near = encoded.sets.copy(set);
+        let mut next = encoded.sets.copy(set);
+        for step in steps {
+            let Step::Grow(action) = *step else {
+                near = encoded.sets.put(near, next);
+                continue;
+            };
+            let hits = self.lead_inside(encoded, guard, near, action);
+            let new = encoded.sets.make(Operation::Minus(hits, next));
+            if !encoded.sets.is_empty(new) {
+                takers[action] = encoded
+                    .sets
+                    .replace(takers[action], Operation::Or(takers[action], new));
+                next = encoded.sets.replace(next, Operation::Or(next, hits));
+            }
+            encoded.sets.end(new);
+            encoded.sets.end(hits);
+        }
+        encoded.sets.end(next);
+        encoded.sets.end(near);
     }
 
     /// Gives each of some states the first action that leads into a set.
@@ -817,17 +836,17 @@ fn plan_until(encoded: &mut Encoded, work: &mut Rounds, stages: &[Stage], keep: 
         let mut met = encoded.of(&stage.target);
         met = encoded.sets.replace(met, Operation::And(met, win));
         let guard = encoded.of(&stage.guard);
-        let near = work.grow_all(encoded, guard, met, None);
+        let (near, steps) = work.grow_all(encoded, guard, met);
         win = encoded.sets.put(win, near);
         encoded.sets.end(near);
-        places.push((guard, met));
+        places.push((guard, met, steps));
     }
     if !encoded.covers_initial(win) {
         return false;
     }
-    for (guard, met) in places.into_iter().rev() {
+    for (guard, met, steps) in places.into_iter().rev() {
         let mut takers = no_takers(encoded);
-        work.grow_all(encoded, guard, met, Some(&mut takers));
+        work.climb(encoded, (guard, met), &steps, &mut takers);
     }
     let mut takers = no_takers(encoded);
     work.share(encoded, anywhere, end, end, &mut takers);
@@ -844,24 +863,24 @@ fn plan_patrol(encoded: &mut Encoded, work: &mut Rounds, visits: &[Condition]) -
         for visit in visits {
             let mut met = encoded.of(visit);
             met = encoded.sets.replace(met, Operation::And(stay, met));
-            let near = work.grow_all(encoded, left, met, None);
+            let (near, steps) = work.grow_all(encoded, left, met);
             kept = encoded.sets.replace(kept, Operation::And(kept, near));
             encoded.sets.end(near);
-            places.push(met);
+            places.push((met, steps));
         }
         encoded.sets.end(stay);
         if !encoded.covers_initial(kept) {
             return false;
         }
         if encoded.sets.are_same(kept, left) {
-            for met in places {
+            for (met, steps) in places {
                 let mut takers = no_takers(encoded);
                 work.share(encoded, left, left, met, &mut takers);
-                work.grow_all(encoded, left, met, Some(&mut takers));
+                work.climb(encoded, (left, met), &steps, &mut takers);
             }
             return true;
         }
-        for met in places {
+        for (met, _) in places {
             encoded.sets.end(met);
         }
         encoded.sets.end(left);

@@ -26,3 +26,7 @@ pub mod VisitTakers
 pub mod VisitRules
 pub mod PatrolFit
 pub mod PatrolPlan
+pub mod NotedSteps
+pub mod RetracedSteps
+pub mod HandedSteps
+pub mod VisitNotes

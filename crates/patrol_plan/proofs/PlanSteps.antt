@@ -94,6 +94,10 @@ pub ends_refused : {T : Type 0} (start : Start) (x : Scene) (chain : UntilSets) 
 ends_refused start x chain P inner outer e was p left =
     subst (Ends start x chain) (sym p.1) (let kept = subst (Left start x P) was left in (kept.0, λ full. kept.1 (sym p.2 ∙ full)))
 
+pub ends_unanswered : {T : Type 0} (start : Start) (x : Scene) (chain : UntilSets) (P : T → Type 0) (inner : Result T SetErr) (outer : Result Bool SetErr) (e : SetErr) → inner ≡ Err e → (f : SetErr) × (outer ≡ Err f) × (f ≡ e) → board.Ends (board_of start) x.0 x.1 P inner → Ends start x chain outer
+ends_unanswered start x chain P inner outer e was p ends =
+    subst (Ends start x chain) (sym p.1) (let kept = subst (board.Ends (board_of start) x.0 x.1 P) was ends in (kept.0, λ full. kept.1 (sym p.2 ∙ full)))
+
 -- what the end of a search says
 pub ends_found : (start : Start) (x : Scene) (chain : UntilSets) (result : Result Bool SetErr) → result ≡ Ok true → Ends start x chain result → HasTable start x chain
 ends_found start x chain result is ends = subst (Ends start x chain) is ends

@@ -3,7 +3,7 @@ use Rattle.std.proofs.Common.{◌≡◌, ℕ, suc, ◌+◌, ◌<◌, Bool, true,
 use Rattle.std.specs.List.{Contains, list_any, range_with_len}
 use Rattle.std.proofs.lemmas.Bool.{and_parts, false≢true, or_left, true≢false}
 use Rattle.std.proofs.lemmas.List.Folds.{list_any-append}
-use Rattle.dd_ops.specs.Operations.{and_of, minus_of, or_of}
+use Rattle.dd_ops.specs.Operations.{and_of, minus_of}
 use Rattle.slot_board.specs.Board.{set_at}
 use Rattle.patrol_plan.proofs.SetSteps.{same_functions}
 use Rattle.plan_theory.proofs.RoundSteps.{held, holds_fewer}
@@ -23,7 +23,7 @@ use Rattle.patrol_plan.specs.Rounds.{hits_by, last_turn, turn, turn_by, turns}
 use Rattle.patrol_plan.specs.Steps.{AddsHits, HasLast, HasTurned, KeepsHits, Leads, TurnedFrom}
 use Rattle.patrol_plan.specs.declared.rounds.Way.{Way}
 use Rattle.patrol_plan.specs.declared.rounds.Way.TheVariants.{Growing, Shrinking}
-use Rattle.patrol_plan.proofs.SceneSteps.{copied_states, depends_at, joined_states, led_states, met_states, moved_low, moved_worked_in, rest_states, some_leads_same, unguarded, worked_chain_in, worked_same_in}
+use Rattle.patrol_plan.proofs.SceneSteps.{copied_states, depends_at, led_states, met_states, moved_low, moved_worked_in, rest_states, some_leads_same, unguarded, worked_chain_in, worked_same_in}
 
 and_not : (b : Bool) → (b && not b) ≡ false
 and_not true = refl
@@ -62,15 +62,6 @@ hits_joined way start x m k a ready first kept v is =
     ∙ ap (λ (f : SetOfVectors). states_at x 1 v || f v) kept.hits
     ∙ ap (λ (f : SetOfVectors). states_at x 1 v || hits_by way f (states_at m 2) v) near_is
     ∙ ap (λ b. states_at x 1 v || b) (hits_same way start (states_at x 0) (states_at m 2) (λ u. must_lead (sys_in start) (states_at x 0) u a) (led_states start x m a ready first) v is)
-
-pub adds_hits : (way : Way) (start : Start) (x m k y : Scene) (a : ℕ) → IsGuarded start x → Moved start x m 2 (led_inside start x a) → KeepsHits way start m k → Moved start k y 1 (or_of (set_at k.0.sets k.1 1) (set_at k.0.sets k.1 2)) → AddsHits way start x y a
-adds_hits way start x m k y a ready first kept second =
-    let near_is : states_at m 0 ≡ states_at x 0 = moved_low start x m 2 _ first 0 (omega arith) (λ e. absurd (omega arith)) in
-    record {
-      worked = worked_chain_in start x k y (worked_chain_in start x m k (moved_worked_in start x m 2 _ ready first (omega arith)) kept.worked) (moved_worked_in start k y 1 _ kept.worked.ready second (omega arith));
-      near = moved_low start k y 1 _ second 0 (omega arith) (λ e. absurd (omega arith)) ∙ kept.near ∙ near_is;
-      next = λ v is. ap (λ (f : SetOfVectors). f v) (joined_states start k y 1 1 2 second) ∙ hits_joined way start x m k a ready first kept v is;
-    }
 
 -- no action yet, and one more
 pub leads_none : (start : Start) (x y : Scene) → IsGuarded start x → Moved start x y 1 (minus_of (set_at x.0.sets x.1 0) (set_at x.0.sets x.1 0)) → Leads Shrinking start x y 0

@@ -1,7 +1,7 @@
 -- Which sets of a search are small: those that have the states of sets that are, whatever else is
 -- known of them.
 use Rattle.std.proofs.Common.{◌≡◌, ℕ, zero, suc, ◌+◌, ◌<◌, ◌≤◌, ◌⊎◌, Bool, true, false, not, ◌&&◌, ◌||◌, [], ◌∷◌, Contains, length, map, refl, sym, ap, subst, ◌∙◌, inl, inr, ⊎_elim, arith}
-use Rattle.std.specs.List.{find, list_any, range_with_len}
+use Rattle.std.specs.List.{list_any, range_with_len}
 use Rattle.std.proofs.Math.Path.{fun_ext}
 use Rattle.std.proofs.lemmas.List.FromFn.{get_or-map-range_with_len, length-map-range_with_len}
 use Rattle.dd_nodes.specs.NodeList.{Values}
@@ -20,7 +20,7 @@ use Rattle.slot_board.specs.Board.{led, set_at}
 use Rattle.slot_board.proofs.BoardSizes.{led_small}
 use Rattle.slot_board.proofs.BoardSlots.{made_at}
 use Rattle.slot_board.specs.declared.board.Outcomes.TheVariants as Outcomes
-use Rattle.plan_theory.specs.Layers.{action_numbers, must_lead}
+use Rattle.plan_theory.specs.Layers.{must_lead}
 use Rattle.plan_theory.specs.LayerPlans.{is_action}
 use Rattle.plan_theory.specs.StageSets.{near, stage_action}
 use Rattle.list_laws.proofs.Elements.{list_any-agree}
@@ -32,13 +32,13 @@ use Rattle.patrol_plan.proofs.Guards.{in_system}
 use Rattle.patrol_plan.specs.Rounds.{first_lead, hits_by, turn_by, turns}
 use Rattle.patrol_plan.specs.Scenes.{IsAt, IsGuarded, Moved, SameStates, Scene, Start, board_of, led_inside, rough_places, states_at, sys_in}
 use Rattle.patrol_plan.specs.Sizes.{ClimbFits, ClimbsFit, ExecFits, HitFits, IsRough, IsSmall, LeadFits, RoundFits, ShareFits, TurnsFit}
-use Rattle.patrol_plan.specs.Steps.{HasClimbed, OnlyHits}
+use Rattle.patrol_plan.specs.Steps.{OnlyHits}
 use Rattle.patrol_plan.specs.WorkingSets.{function_of}
 use Rattle.patrol_plan.specs.declared.rounds.Way.{Way}
 use Rattle.patrol_plan.specs.declared.rounds.Way.TheVariants.{Growing, Shrinking}
 use Rattle.patrol_plan.proofs.RoundSteps.{turned_more, turns_none}
 use Rattle.patrol_plan.proofs.SceneSteps.{depends_at, leads_same, led_states, low, moved_in, unguarded}
-use Rattle.patrol_plan.proofs.StageLemmas.{first_same, more_taken, none_taken}
+use Rattle.patrol_plan.proofs.StageLemmas.{more_taken, none_taken}
 
 -- the values of a vector
 values_are : (p : ℕ → Bool) (first n : ℕ) (v : Vector) → length v ≡ n → ((g : ℕ) → g < n → p (first + g) ≡ value_of v g) → map p (range_with_len first n) ≡ v
@@ -206,14 +206,6 @@ rough_left start set n few fits =
     (difference_rough m start.width (function_of m set) (function_of m (turn_by Shrinking sys set n)) fits.itself (fits.turned Shrinking n few))
 
 -- rounds in which the new states take their actions
-pub climb_fits_as : (start : Start) (f g : SetOfVectors) (p q : ℕ → SetOfVectors) → g ≡ f → ((a : ℕ) → a < action_count start.task → q a ≡ p a) → ClimbFits start f p → ClimbFits start g q
-climb_fits_as start f g p q is same fits =
-    subst (λ (h : SetOfVectors). ClimbFits start h q) (sym is)
-    (record {
-      round = fits.round;
-      taken = λ a within. subst (λ (h : SetOfVectors). IsSmall start (λ v. h v || first_lead (sys_in start) f (λ u. not (f u)) a v)) (sym (same a within)) (fits.taken a within);
-    })
-
 pub climb_first : (start : Start) (set : SetOfVectors) (before : ℕ → SetOfVectors) → ClimbsFit start set before → ClimbFits start set before
 climb_first start set before fits =
     let sys = sys_in start in
@@ -225,22 +217,6 @@ climb_first start set before fits =
           ap (λ b. b || first_lead sys set (λ u. not (set u)) a v) (none_taken sys set v a (before a v))
           ∙ more_taken sys set v a 0 (before a v) (in_system start) is))
           (fits.taken 1 a within);
-    }
-
-pub climb_next : (start : Start) (x y : Scene) (met takers k : ℕ) → HasClimbed start x y met takers k → ClimbsFit start (states_at x met) (λ a. states_at x (takers + a)) → ClimbFits start (states_at y 1) (λ a. states_at y (takers + a))
-climb_next start x y met takers k h fits =
-    let sys = sys_in start in
-    let set = states_at x met in
-    record {
-      round = turns_fit_at Growing start set (states_at y 1) (suc k) h.next fits.rounds;
-      taken = λ a below.
-          small_same start (λ v. states_at x (takers + a) v || (near sys set (suc (suc k)) v && is_action a (stage_action sys set v))) (λ v. states_at y (takers + a) v || first_lead sys (states_at y 1) (λ u. not (states_at y 1 u)) a v)
-          (λ v is. sym (
-          ap (λ b. b || first_lead sys (states_at y 1) (λ u. not (states_at y 1 u)) a v) (h.taken a below v is)
-          ∙ ap (λ o. (states_at x (takers + a) v || (near sys set (suc k) v && is_action a (stage_action sys set v))) || (not (states_at y 1 v) && is_action a o)) (first_same start (states_at y 1) (near sys set (suc k)) h.next v is)
-          ∙ ap (λ b. (states_at x (takers + a) v || (near sys set (suc k) v && is_action a (stage_action sys set v))) || (not b && is_action a (find (must_lead sys (near sys set (suc k)) v) (action_numbers sys)))) (h.next v is)
-          ∙ more_taken sys set v a (suc k) (states_at x (takers + a) v) (in_system start) is))
-          (fits.taken (suc (suc k)) a below);
     }
 
 -- where an action can be executed, and what of it is not among the next states

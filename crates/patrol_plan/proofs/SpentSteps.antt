@@ -1,24 +1,21 @@
 -- Which actions are spent: what is found grows, so they stay so.
-use Rattle.std.proofs.Common.{Result, Ok, Err, IfErr, IfOk, ◌≡◌, ◌≢◌, ℕ, ◌+◌, ◌<◌, Bool, true, false, List, length, refl, sym, ap, subst, ◌∙◌, ⊎_elim, arith}
+use Rattle.std.proofs.Common.{Result, Ok, Err, IfErr, IfOk, ◌≡◌, ◌≢◌, ℕ, ◌<◌, Bool, true, false, List, length, sym, ap, subst, ◌∙◌, ⊎_elim, arith}
 use Rattle.std.specs.Prelude.{get_or, slice_index_or, slice_set}
 use Rattle.std.specs.List.{list_any, range_with_len}
 use Rattle.std.proofs.lemmas.Bool.{cases_eq, false≢true, or_left}
 use Rattle.std.proofs.lemmas.List.{get_or-set_other, get_or-set_same, length-set}
 use Rattle.dd_sets.specs.declared.errors.SetErr.{SetErr}
 use Rattle.dd_sets.specs.declared.errors.SetErr.TheVariants.{Full, Memory}
-use Rattle.slot_board.specs.Board.{set_at}
 use Rattle.task_core.specs.Cubes.{SetOfVectors}
 use Rattle.task_core.specs.Systems.{IsVector}
 use Rattle.task_core.specs.Tasks.{action_count}
 use Rattle.task_core.specs.Vectors.{Vector}
 use Rattle.plan_theory.specs.Layers.{must_lead}
-use Rattle.patrol_plan.specs.Rounds.{turn_by}
-use Rattle.patrol_plan.specs.Scenes.{IsAt, Left, Moved, Scene, Start, states_at, sys_in}
-use Rattle.patrol_plan.specs.Steps.{AddsHits, AreSpent, Climbs, IsSpent, Leads, OnlyHits}
+use Rattle.patrol_plan.specs.Scenes.{IsAt, Left, Scene, Start, states_at, sys_in}
+use Rattle.patrol_plan.specs.Steps.{AddsHits, AreSpent, IsSpent, Leads, OnlyHits}
 use Rattle.patrol_plan.specs.declared.rounds.Way.{Way}
 use Rattle.patrol_plan.specs.declared.rounds.Way.TheVariants.{Growing, Shrinking}
-use Rattle.patrol_plan.proofs.RoundSteps.{turned_more}
-use Rattle.patrol_plan.proofs.SceneSteps.{copied_states, low}
+use Rattle.patrol_plan.proofs.SceneSteps.{low}
 
 -- more states are found
 more_found : (way : Way) (start : Start) (f g : SetOfVectors) (a : ℕ) → ((v : Vector) → IsVector (sys_in start) v → f v ≡ true → g v ≡ true) → IsSpent way start f a → IsSpent way start g a
@@ -51,9 +48,6 @@ spent_begun Growing start x y marks h spent =
     spent_kept Growing start (states_at x 0) (states_at y 1) marks
     (λ v is e. h.next v is ∙ or_left (states_at x 0 v) (list_any (must_lead (sys_in start) (states_at x 0) v) (range_with_len 0 0)) e) spent
 
-pub spent_copied : (start : Start) (x y : Scene) (marks : List Bool) → Moved start x y 1 (set_at x.0.sets x.1 0) → AreSpent Growing start (states_at x 0) marks → AreSpent Growing start (states_at y 1) marks
-spent_copied start x y marks m spent = subst (λ (f : SetOfVectors). AreSpent Growing start f marks) (sym (copied_states start x y 1 0 m)) spent
-
 pub hits_spent : (way : Way) (start : Start) (x y : Scene) (marks : List Bool) → OnlyHits start x y → AreSpent way start (states_at x 1) marks → AreSpent way start (states_at y 1) marks
 hits_spent way start x y marks h spent =
     subst (λ (f : SetOfVectors). AreSpent way start f marks) (sym (h.kept 1 (low start y h.ready.at 1 (omega arith)) (λ e. absurd (omega arith)) (λ e. absurd (omega arith)))) spent
@@ -61,13 +55,6 @@ hits_spent way start x y marks h spent =
 pub adds_spent : (way : Way) (start : Start) (x y : Scene) (a : ℕ) (marks : List Bool) → AddsHits way start x y a → AreSpent way start (states_at x 1) marks → AreSpent way start (states_at y 1) marks
 adds_spent way start x y a marks adds spent =
     spent_kept way start (states_at x 1) (states_at y 1) marks (λ v is e. adds.next v is ∙ or_left (states_at x 1 v) _ e) spent
-
-pub climbs_spent : (start : Start) (x w y : Scene) (takers a : ℕ) (marks : List Bool) → Climbs start x w takers a → Climbs start x y takers (a + 1) → AreSpent Growing start (states_at w 1) marks → AreSpent Growing start (states_at y 1) marks
-climbs_spent start x w y takers a marks before after spent =
-    spent_kept Growing start (states_at w 1) (states_at y 1) marks
-    (λ v is e.
-    after.next v is ∙ sym (turned_more Growing (sys_in start) (states_at x 0) a v)
-    ∙ or_left (turn_by Growing (sys_in start) (states_at x 0) a v) _ (sym (before.next v is) ∙ e)) spent
 
 -- a fact of what was answered, and a refusal for want of memory alone
 pub if_joined : (P Q : Type 0) (result : Result Bool SetErr) → (P → Q) → IfOk result (λ joined. joined ≡ true → P) → IfOk result (λ joined. joined ≡ true → Q)

@@ -42,7 +42,7 @@ takers_within start x at i few =
     omega arith
 
 -- the places beside the guard stay while it is put
-high_still : (start : Start) (x w : Scene) (g : Function) → IsAt start x → Moved start x w 5 g → (k : ℕ) → 8 ≤ k → k < length x.1 → states_at w k ≡ states_at x k
+pub high_still : (start : Start) (x w : Scene) (g : Function) → IsAt start x → Moved start x w 5 g → (k : ℕ) → 8 ≤ k → k < length x.1 → states_at w k ≡ states_at x k
 high_still start x w g at m k high within =
     let long : length w.1 ≡ length x.1 = same_length start x w at m.at in
     moved_other start x w 5 g m k (omega arith) (λ e. absurd (omega arith))

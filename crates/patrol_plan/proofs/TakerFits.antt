@@ -10,11 +10,11 @@ use Rattle.plan_theory.specs.Layers.{must_lead}
 use Rattle.task_core.specs.Tasks.{action_count}
 use Rattle.patrol_plan.specs.Rounds.{first_lead, turn_by}
 use Rattle.patrol_plan.specs.Scenes.{IsAt, IsGuarded, Moved, Scene, Start, board_of, led_inside, states_at, sys_in}
-use Rattle.patrol_plan.specs.Sizes.{ClimbFits, ExecFits, ShareFits}
+use Rattle.patrol_plan.specs.Sizes.{ClimbFits, ShareFits}
 use Rattle.patrol_plan.specs.Steps.{Climbs, Shared}
 use Rattle.patrol_plan.specs.declared.rounds.Way.TheVariants.{Growing}
 use Rattle.patrol_plan.proofs.SceneSteps.{copied_states, low, moved_low, moved_other, moved_in, same_length}
-use Rattle.patrol_plan.proofs.SizeSteps.{at_small, climb_fits_as, fits_minus, fits_rough, fits_small, lead_fits, may_four, may_three, placed_small, share_fits_as, small_same}
+use Rattle.patrol_plan.proofs.SizeSteps.{at_small, fits_minus, fits_rough, fits_small, lead_fits, may_four, may_three, placed_small, share_fits_as, small_same}
 use Rattle.patrol_plan.proofs.TakerSteps.{climb_hit, climb_joined, climb_widened, share_joined, share_left, share_met}
 
 -- the places of the actions' states, by the task's actions
@@ -71,17 +71,7 @@ module _ (start : Start) (x w : Scene) (takers a : ℕ) (high : 8 ≤ takers) (l
       fits_small start 1 (or_of (set_at three.0.sets three.1 1) (set_at three.0.sets three.1 2)) (turn_by Growing (sys_in start) (states_at x 0) (a + 1)) (fits.round.turned Growing (a + 1) (omega arith))
       (λ v is. sym (climb_widened start x w one takers a high long below h first two second three third v is))
 
-pub climb_exec : (start : Start) (x : Scene) (takers a : ℕ) → a < action_count start.task → ClimbFits start (states_at x 0) (λ k. states_at x (takers + k)) → ExecFits start a
-climb_exec start x takers a below fits = (fits.round.lead a below).exec
-
 -- the states of a place were copied
-pub climb_copied : (start : Start) (x m : Scene) (place takers : ℕ) → 8 ≤ takers → takers + action_count start.task ≤ length x.1 → IsGuarded start x → Moved start x m 0 (set_at x.0.sets x.1 place) → ClimbFits start (states_at x place) (λ k. states_at x (takers + k))
-    → ClimbFits start (states_at m 0) (λ k. states_at m (takers + k))
-climb_copied start x m place takers high long ready first fits =
-    let same : length m.1 ≡ length x.1 = same_length start x m ready.at first.at in
-    climb_fits_as start (states_at x place) (states_at m 0) (λ k. states_at x (takers + k)) (λ k. states_at m (takers + k)) (copied_states start x m 0 place first)
-    (λ a below. moved_other start x m 0 _ first (takers + a) (omega arith) (λ e. absurd (omega arith))) fits
-
 pub high_small : (start : Start) (x : Scene) (place : ℕ) → IsGuarded start x → 8 ≤ place → place < length x.1 → board.IsSmall (board_of start) (set_at x.0.sets x.1 place)
 high_small start x place ready high within = placed_small start x ready.at place within (inr (omega arith))
 

@@ -1,25 +1,20 @@
 -- Which states take which action: from one action to the next, and from one round to the next.
-use Rattle.std.proofs.Common.{◌≡◌, ◌≢◌, ℕ, suc, ◌+◌, ◌<◌, ◌≤◌, Bool, true, false, not, ◌&&◌, ◌||◌, length, refl, sym, ap, subst, ◌∙◌, ⊎_elim, arith}
-use Rattle.std.specs.List.{find, list_any, range_with_len}
+use Rattle.std.proofs.Common.{◌≡◌, ◌≢◌, ℕ, ◌+◌, ◌<◌, ◌≤◌, Bool, true, false, not, ◌&&◌, ◌||◌, length, refl, sym, ap, subst, ◌∙◌, ⊎_elim, arith}
+use Rattle.std.specs.List.{list_any, range_with_len}
 use Rattle.std.proofs.lemmas.Bool.{cases_eq}
 use Rattle.dd_ops.specs.Operations.{and_of, minus_of, or_of}
 use Rattle.slot_board.specs.Board.{set_at}
 use Rattle.patrol_plan.proofs.SetSteps.{first_is}
-use Rattle.plan_theory.specs.StageSets.{near, stage_action}
-use Rattle.plan_theory.proofs.StageSets.{last_near}
-use Rattle.plan_theory.specs.Layers.{action_numbers, must_lead}
-use Rattle.plan_theory.specs.LayerPlans.{is_action}
+use Rattle.plan_theory.specs.StageSets.{near}
+use Rattle.plan_theory.specs.Layers.{must_lead}
 use Rattle.task_core.specs.Cubes.{SetOfVectors}
-use Rattle.task_core.specs.Tasks.{action_count, fluent_count}
-use Rattle.task_core.specs.Vectors.{value_of}
-use Rattle.patrol_plan.proofs.Guards.{in_system}
+use Rattle.task_core.specs.Tasks.{action_count}
 use Rattle.patrol_plan.specs.Scenes.{IsGuarded, Moved, SameStates, Scene, Start, led_inside, states_at, sys_in}
-use Rattle.patrol_plan.specs.Rounds.{first_lead, turn, turn_by}
-use Rattle.patrol_plan.specs.Steps.{Climbed, ClimbedFrom, Climbs, FirstTaken, HasClimbed, Shared}
+use Rattle.patrol_plan.specs.Rounds.{first_lead, turn_by}
+use Rattle.patrol_plan.specs.Steps.{Climbs, FirstTaken, Shared}
 use Rattle.patrol_plan.specs.declared.rounds.Way.TheVariants.{Growing}
-use Rattle.patrol_plan.proofs.RoundSteps.{any_more, fewer_left, left_over, turn_same}
+use Rattle.patrol_plan.proofs.RoundSteps.{any_more}
 use Rattle.patrol_plan.proofs.SceneSteps.{changed_chain_in, copied_states, joined_states, led_states, met_states, moved_changed_in, moved_in, moved_low, moved_other, moved_worked_in, rest_states, same_length, worked_chain_in, worked_changed_in}
-use Rattle.patrol_plan.proofs.StageLemmas.{first_same, more_taken, none_taken}
 
 -- no action yet
 pub shared_none : (start : Start) (x : Scene) (takers : ℕ) → IsGuarded start x → Shared start x x takers 0
@@ -303,79 +298,6 @@ module _ (start : Start) (x w one two three last : Scene) (takers a : ℕ) (high
         unmoved (takers + b) (omega arith) (λ e. absurd (omega arith)) (λ e. absurd (omega arith)) (λ e. absurd (omega arith)) (λ e. absurd (omega arith))
         ∙ h.later b within (omega arith);
   }
-
-pub climbs_all : (start : Start) (x y : Scene) (takers n : ℕ) → n ≡ action_count start.task → Climbs start x y takers n → Climbs start x y takers (action_count start.task)
-climbs_all start x y takers n e h = subst (Climbs start x y takers) e h
-
--- a round on the states at a place
-pub climbed_from : (start : Start) (x m y : Scene) (place takers : ℕ) → 8 ≤ takers → takers + action_count start.task ≤ length x.1 → IsGuarded start x → Moved start x m 0 (set_at x.0.sets x.1 place) → Climbs start m y takers (action_count start.task) → ClimbedFrom start x y place takers
-climbed_from start x m y place takers high fits ready first h =
-    let sys = sys_in start in
-    let long : length m.1 ≡ length x.1 = same_length start x m ready.at first.at in
-    let copied = copied_states start x m 0 place first in
-    record {
-      changed =
-          changed_chain_in start x m y takers (takers + action_count start.task)
-          (worked_changed_in start x m takers (takers + action_count start.task) (moved_worked_in start x m 0 _ ready first (omega arith))) h.changed;
-      near = h.near ∙ copied;
-      next = subst (λ (f : SetOfVectors). SameStates start (states_at y 1) (turn Growing sys f)) copied h.next;
-      taken = λ a below v is.
-          h.taken a below below v is
-          ∙ ap (λ (f : SetOfVectors). f v || first_lead sys (states_at m 0) (λ u. not (states_at m 0 u)) a v) (moved_other start x m 0 _ first (takers + a) (omega arith) (λ e. absurd (omega arith)))
-          ∙ ap (λ (f : SetOfVectors). states_at x (takers + a) v || first_lead sys f (λ u. not (f u)) a v) copied;
-    }
-
--- the first round towards a stage
-pub climbed_first : (start : Start) (x y : Scene) (met takers : ℕ) → ClimbedFrom start x y met takers → HasClimbed start x y met takers 0
-climbed_first start x y met takers h =
-    let sys = sys_in start in
-    let set = states_at x met in
-    record {
-      changed = h.changed;
-      near = λ v is. ap (λ (f : SetOfVectors). f v) h.near;
-      next = h.next;
-      taken = λ a below v is.
-          h.taken a below v is
-          ∙ ap (λ b. b || first_lead sys set (λ u. not (set u)) a v) (none_taken sys set v a (states_at x (takers + a) v))
-          ∙ more_taken sys set v a 0 (states_at x (takers + a) v) (in_system start) is;
-    }
-
--- and one more
-pub climbed_more : (start : Start) (x y z : Scene) (met takers k : ℕ) → 8 ≤ takers → takers + action_count start.task ≤ length y.1 → HasClimbed start x y met takers k → ClimbedFrom start y z 1 takers → HasClimbed start x z met takers (suc k)
-climbed_more start x y z met takers k high fits h more =
-    let sys = sys_in start in
-    let set = states_at x met in
-    record {
-      changed = changed_chain_in start x y z takers (takers + action_count start.task) h.changed more.changed;
-      near = λ v is. ap (λ (f : SetOfVectors). f v) more.near ∙ h.next v is;
-      next = λ v is. more.next v is ∙ turn_same Growing start (states_at y 1) (near sys set (suc k)) h.next v is;
-      taken = λ a below v is.
-          more.taken a below v is
-          ∙ ap (λ b. b || first_lead sys (states_at y 1) (λ u. not (states_at y 1 u)) a v) (h.taken a below v is)
-          ∙ ap (λ o. (states_at x (takers + a) v || (near sys set (suc k) v && is_action a (stage_action sys set v))) || (not (states_at y 1 v) && is_action a o)) (first_same start (states_at y 1) (near sys set (suc k)) h.next v is)
-          ∙ ap (λ b. (states_at x (takers + a) v || (near sys set (suc k) v && is_action a (stage_action sys set v))) || (not b && is_action a (find (must_lead sys (near sys set (suc k)) v) (action_numbers sys)))) (h.next v is)
-          ∙ more_taken sys set v a (suc k) (states_at x (takers + a) v) (in_system start) is;
-    }
-
--- fewer states are left
-pub climbed_less : (start : Start) (x y z : Scene) (met takers k n : ℕ) → HasClimbed start x y met takers k → (set_at y.0.sets y.1 1 ≡ set_at y.0.sets y.1 0 → ⊥) → n ≡ fluent_count start.task → ClimbedFrom start y z 1 takers
-    → left_over Growing (states_at z 0) n < left_over Growing (states_at y 0) n
-climbed_less start x y z met takers k n h differ is_n more =
-    fewer_left start y z n is_n h.changed.ready differ (λ v is. ap (λ (f : SetOfVectors). f v) more.near) Growing (states_at x met) k h.near h.next
-
--- all rounds
-pub climbed_last : (start : Start) (x y : Scene) (met takers k : ℕ) → HasClimbed start x y met takers k → set_at y.0.sets y.1 1 ≡ set_at y.0.sets y.1 0 → Climbed start x y met takers
-climbed_last start x y met takers k h same =
-    let sys = sys_in start in
-    let set = states_at x met in
-    let last : SameStates start (near sys set (suc k)) (near sys set k) = λ u at. sym (h.next u at) ∙ ap (λ (f : _). f (value_of u)) same ∙ h.near u at in
-    record {
-      changed = h.changed;
-      taken = λ a below v is.
-          h.taken a below v is
-          ∙ ap (λ b. states_at x (takers + a) v || (b && is_action a (stage_action sys set v)))
-          (last v is ∙ sym (last_near sys set (in_system start) k last v is));
-    }
 
 -- of the states at a place each takes the first action that leads into those at another
 pub first_taken : (start : Start) (x one two y : Scene) (near rest takers : ℕ) → 8 ≤ near → 8 ≤ rest → near < takers → rest < takers → takers + action_count start.task ≤ length x.1 → IsGuarded start x

@@ -1,13 +1,12 @@
 -- The rounds of a search for a patrol goal: from the states that are left to those that a round leaves of
 -- them, and the last round.
-use Rattle.std.proofs.Common.{Result, Ok, Err, inr, ◌≡◌, ◌≢◌, ℕ, zero, suc, ◌+◌, ◌<◌, ◌≤◌, Bool, true, false, ◌&&◌, List, [], ◌∷◌, get_or, length, map, take, refl, sym, ap, subst, ◌∙◌, ⊎_elim, arith}
+use Rattle.std.proofs.Common.{inr, ◌≡◌, ◌≢◌, ℕ, zero, suc, ◌+◌, ◌<◌, ◌≤◌, Bool, true, false, ◌&&◌, List, [], ◌∷◌, get_or, length, map, take, refl, sym, ap, subst, ◌∙◌, ⊎_elim, arith}
 use Rattle.std.specs.List.{list_all}
 use Rattle.std.proofs.lemmas.Bool.{and_parts, cases_Bool, cases_eq, true≢false}
 use Rattle.std.proofs.lemmas.List.{length-map, take_all}
 use Rattle.dd_nodes.specs.Subfunctions.{Function}
 use Rattle.dd_ops.specs.Operations.{and_of}
 use Rattle.dd_sets.specs.LiveSets.{set_of}
-use Rattle.dd_sets.specs.declared.errors.SetErr.{SetErr}
 use Rattle.dd_sets.specs.declared.slots.SetId.{SetId}
 use Rattle.encode_task.specs.Slots.{Encoded}
 use Rattle.slot_board.proofs.BoardSlots.{made_at}
@@ -31,7 +30,7 @@ use Rattle.ctl_syntax.specs.Conditions.{states_of}
 use Rattle.patrol_plan.specs.Chains.{visit_sets}
 use Rattle.patrol_plan.specs.Guards.{anywhere}
 use Rattle.patrol_plan.specs.PatrolSizes.{PatrolFits, made_in, round_of, within_round}
-use Rattle.patrol_plan.specs.PatrolSteps.{FoundLeft, HasMet, HasPatrol, HasStay, HasVisits, IsLeft, visit_place}
+use Rattle.patrol_plan.specs.PatrolSteps.{HasMet, HasPatrol, HasStay, HasVisits, IsLeft, visit_place}
 use Rattle.patrol_plan.specs.PatrolWorkingSets.{first_visits_in, visit_at}
 use Rattle.patrol_plan.specs.Scenes.{HasNothing, IsAt, IsGuarded, Moved, SameStates, Scene, Start, board_of, guarded, states_at, sys_in, sys_of, takers_place}
 use Rattle.patrol_plan.specs.Sizes.{RoundFits, TurnsFit}
@@ -350,14 +349,18 @@ visits_fewer start conds y z r n h more differ is_n =
     (λ v is. h.kept v is ∙ round_more start conds r v ∙ sym (more.stay.left v is) ∙ alike v is)))
 
 -- the last round
+pub round_stays : (start : Start) (conds : List Cond) (y : Scene) (r : ℕ) → HasVisits start conds y r (length conds) → set_at y.0.sets y.1 10 ≡ set_at y.0.sets y.1 8 → SameStates start (round_of start conds r) (patrol_set (sys_of start) (visit_sets conds))
+round_stays start conds y r h same v is =
+    let still : SameStates start (round_of start conds (suc r)) (round_of start conds r) =
+    λ u at. sym (round_more start conds r u) ∙ sym (h.kept u at) ∙ ap (λ (f : Function). f (value_of u)) same ∙ h.stay.left u at in
+    sym (last_round (sys_of start) (visit_sets conds) (is_system start.task) r still v is)
+
 pub patrol_made : (start : Start) (conds : List Cond) (y : Scene) (r : ℕ) → HasVisits start conds y r (length conds) → set_at y.0.sets y.1 10 ≡ set_at y.0.sets y.1 8 → HasPatrol start conds y 0
 patrol_made start conds y r h same =
     let sys = sys_of start in
     let visits = visit_sets conds in
     let count = h.stay.count in
-    let still : SameStates start (round_of start conds (suc r)) (round_of start conds r) =
-    λ v is. sym (round_more start conds r v) ∙ sym (h.kept v is) ∙ ap (λ (f : Function). f (value_of v)) same ∙ h.stay.left v is in
-    let last : SameStates start (round_of start conds r) (patrol_set sys visits) = λ v is. sym (last_round sys visits (is_system start.task) r still v is) in
+    let last = round_stays start conds y r h same in
     record {
       fits = h.stay.fits;
       count = h.stay.count;
@@ -414,15 +417,3 @@ round_loses start conds x r h short = ⊎_elim
         h.kept v is ∙ round_more start conds r v
         ∙ within_rounds sys visits (is_system start.task) (patrol_set sys visits) (patrol_set-largest sys visits (is_system start.task)).patrol (suc r) v is
         (list_all-at (patrol_set sys visits) sys.initial v all among))
-
--- what the rounds found
-pub not_lost : (start : Start) (conds : List Cond) (x : Scene) (result : Result Bool SetErr) (lost : Bool) → result ≡ Ok lost → lost ≡ false → board.Ends (board_of start) x.0 x.1 (FoundLeft start conds x) result → HasPatrol start conds x 0
-not_lost start conds x result lost was held ends = subst (FoundLeft start conds x) held (subst (board.Ends (board_of start) x.0 x.1 (FoundLeft start conds x)) was ends)
-
-pub was_lost : (start : Start) (conds : List Cond) (x : Scene) (result : Result Bool SetErr) (lost : Bool) → result ≡ Ok lost → lost ≡ true → board.Ends (board_of start) x.0 x.1 (FoundLeft start conds x) result → IsAt start x × (covers_patrol (sys_of start) (visit_sets conds) ≡ false)
-was_lost start conds x result lost was gone ends = subst (FoundLeft start conds x) gone (subst (board.Ends (board_of start) x.0 x.1 (FoundLeft start conds x)) was ends)
-
--- a refusal that is passed on
-pub ends_passed : {S T : Type 0} (start : Start) (x : Scene) (P : Type 0) (Q : T → Type 0) (inner : Result S SetErr) (outer : Result T SetErr) (e : SetErr) → inner ≡ Err e → (f : SetErr) × (outer ≡ Err f) × (f ≡ e) → board.Left (board_of start) x.0 x.1 P inner → board.Ends (board_of start) x.0 x.1 Q outer
-ends_passed start x P Q inner outer e was p left =
-    subst (board.Ends (board_of start) x.0 x.1 Q) (sym p.1) (let kept = subst (board.Left (board_of start) x.0 x.1 P) was left in (kept.0, λ full. kept.1 (sym p.2 ∙ full)))

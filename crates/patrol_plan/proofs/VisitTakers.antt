@@ -294,3 +294,38 @@ module _ (start : Start) (conds : List Cond) (x : Scene) (i : ℕ) (less : i < s
             (λ (l : j < i). let away = takers_apart A start.stages j i l in inl (let m : takers_place A start.stages j + a < t = omega arith in m))
             (λ (l : i ≤ j). let away = takers_apart A start.stages i j (let m : i < j = omega (arith, differs) in m) in inr (let m : t + A ≤ takers_place A start.stages j + a = omega arith in m))
             (cases_lt j i)
+
+-- as the code has it: by the places that it computed
+pub visit_shares_at : (start : Start) (conds : List Cond) (x : Scene) (i near rest takers : ℕ) → near ≡ 8 → rest ≡ visit_place i → takers ≡ takers_place (action_count start.task) start.stages i → i < start.stages → HasPatrol start conds x i → covers_patrol (sys_of start) (visit_sets conds) ≡ true
+    → ShareFits (guarded start (patrol_set (sys_of start) (visit_sets conds))) (states_at x near) (states_at x rest) (λ k. states_at x (takers + k))
+visit_shares_at start conds x i near rest takers is_near is_rest is_takers less h covered =
+    subst (λ n. ShareFits (guarded start (patrol_set (sys_of start) (visit_sets conds))) (states_at x n) (states_at x rest) (λ k. states_at x (takers + k))) (sym is_near)
+    (subst (λ n. ShareFits (guarded start (patrol_set (sys_of start) (visit_sets conds))) (states_at x 8) (states_at x n) (λ k. states_at x (takers + k))) (sym is_rest)
+    (subst (λ n. ShareFits (guarded start (patrol_set (sys_of start) (visit_sets conds))) (states_at x 8) (states_at x (visit_place i)) (λ k. states_at x (n + k))) (sym is_takers) (visit_shares start conds x i less h covered)))
+
+pub first_taken_at : (start : Start) (conds : List Cond) (x m : Scene) (i near rest takers : ℕ) → near ≡ 8 → rest ≡ visit_place i → takers ≡ takers_place (action_count start.task) start.stages i → FirstTaken (guarded start (patrol_set (sys_of start) (visit_sets conds))) x m near rest takers
+    → FirstTaken (guarded start (patrol_set (sys_of start) (visit_sets conds))) x m 8 (visit_place i) (takers_place (action_count start.task) start.stages i)
+first_taken_at start conds x m i near rest takers is_near is_rest is_takers h =
+    subst (λ n. FirstTaken (guarded start (patrol_set (sys_of start) (visit_sets conds))) x m n (visit_place i) (takers_place (action_count start.task) start.stages i)) is_near
+    (subst (λ n. FirstTaken (guarded start (patrol_set (sys_of start) (visit_sets conds))) x m near n (takers_place (action_count start.task) start.stages i)) is_rest
+    (subst (FirstTaken (guarded start (patrol_set (sys_of start) (visit_sets conds))) x m near rest) is_takers h))
+
+pub visit_climbs_at : (start : Start) (conds : List Cond) (x m : Scene) (i rest takers : ℕ) → rest ≡ visit_place i → takers ≡ takers_place (action_count start.task) start.stages i → (less : i < start.stages) (h : HasPatrol start conds x i) → FirstTaken (guarded start (patrol_set (sys_of start) (visit_sets conds))) x m 8 (visit_place i) (takers_place (action_count start.task) start.stages i) → covers_patrol (sys_of start) (visit_sets conds) ≡ true
+    → ClimbsFit (guarded start (patrol_set (sys_of start) (visit_sets conds))) (states_at m rest) (λ k. states_at m (takers + k))
+visit_climbs_at start conds x m i rest takers is_rest is_takers less h first covered =
+    subst (λ n. ClimbsFit (guarded start (patrol_set (sys_of start) (visit_sets conds))) (states_at m n) (λ k. states_at m (takers + k))) (sym is_rest)
+    (subst (λ n. ClimbsFit (guarded start (patrol_set (sys_of start) (visit_sets conds))) (states_at m (visit_place i)) (λ k. states_at m (n + k))) (sym is_takers) (visit_climbs start conds x i less h m first covered))
+
+pub visit_taken_at : (start : Start) (conds : List Cond) (x m y : Scene) (i rest takers : ℕ) → rest ≡ visit_place i → takers ≡ takers_place (action_count start.task) start.stages i → (less : i < start.stages) (h : HasPatrol start conds x i) → FirstTaken (guarded start (patrol_set (sys_of start) (visit_sets conds))) x m 8 (visit_place i) (takers_place (action_count start.task) start.stages i)
+    → Climbed (guarded start (patrol_set (sys_of start) (visit_sets conds))) m y rest takers → HasPatrol start conds y (suc i)
+visit_taken_at start conds x m y i rest takers is_rest is_takers less h first second =
+    visit_taken start conds x i less h m first y
+    (subst (λ n. Climbed (guarded start (patrol_set (sys_of start) (visit_sets conds))) m y n (takers_place (action_count start.task) start.stages i)) is_rest (subst (Climbed (guarded start (patrol_set (sys_of start) (visit_sets conds))) m y rest) is_takers second))
+
+-- where the visit is made stays while the first actions are taken
+pub visit_mets : (start : Start) (conds : List Cond) (x m : Scene) (i : ℕ) → i < start.stages → HasPatrol start conds x i → FirstTaken (guarded start (patrol_set (sys_of start) (visit_sets conds))) x m 8 (visit_place i) (takers_place (action_count start.task) start.stages i) → SameStates start (states_at m (visit_place i)) (made_at_last start conds i)
+visit_mets start conds x m i less h first v is =
+    let long : length m.1 ≡ length x.1 = same_length start x m h.ready.at first.changed.ready.at in
+    let high = t_high start conds x i less h in
+    let within = visit_low start m first.changed.ready.at h.some (visit_place i) (omega arith) in
+    ap (λ (f : SetOfVectors). f v) (first.changed.kept (visit_place i) (omega arith) within (inl high)) ∙ h.mets i less v is

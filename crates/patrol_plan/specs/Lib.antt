@@ -13,3 +13,4 @@ pub mod PatrolWorkingSets
 pub mod PatrolSizes
 pub mod PatrolSteps
 pub mod PatrolAnswers
+pub mod Noted

@@ -16,7 +16,7 @@ use Rattle.task_core.specs.declared.conditions.Cond.{Cond}
 use Rattle.patrol_plan.specs.Chains.{visit_sets}
 use Rattle.patrol_plan.specs.PatrolSizes.{PatrolFits, made_in, round_of, within_round}
 use Rattle.patrol_plan.specs.PatrolWorkingSets.{first_visits_in, visit_at}
-use Rattle.patrol_plan.specs.Scenes.{IsAt, IsGuarded, IsReady, SameStates, Scene, Start, guarded}
+use Rattle.patrol_plan.specs.Scenes.{IsGuarded, IsReady, SameStates, Scene, Start, guarded}
 use Rattle.patrol_plan.specs.Scenes.{states_at, sys_of, takers_place}
 use Rattle.patrol_plan.specs.declared.patrol_rules.Part.{Part}
 use Rattle.patrol_plan.specs.declared.patrol_rules.Part.TheVariants.{Made, Others, Whole}
@@ -90,12 +90,6 @@ pub record HasPatrol (start : Start) (conds : List Cond) (x : Scene) (n : ℕ) :
   pub untaken : (i a : ℕ) → n ≤ i → i < start.stages → a < action_count start.task
       → SameStates start
       (states_at x (takers_place (action_count start.task) start.stages i + a)) (λ v. false)
-
--- rounds lost an initial state, so that there is no plan, or they left the states of the plan
-abbrev pub FoundLeft : Start → List Cond → Scene → Bool → Type 0
-FoundLeft start conds x true =
-    IsAt start x × (covers_patrol (sys_of start) (visit_sets conds) ≡ false)
-FoundLeft start conds x false = HasPatrol start conds x 0
 
 -- all of that, and the initial states are states of the plan
 pub record HasPatrolTable (start : Start) (conds : List Cond) (x : Scene) : Type 0 where

@@ -9,7 +9,7 @@ use Rattle.plan_theory.specs.GuardedSets.{guarded_set}
 use Rattle.plan_theory.specs.UntilChains.{SetStage, UntilSets, covers_until, until_win}
 use Rattle.plan_theory.specs.UntilPrinted.{until_towards}
 use Rattle.plan_theory.specs.Safe.{safe_set}
-use Rattle.plan_theory.specs.StageSets.{near as near_within, stage_action, stage_set}
+use Rattle.plan_theory.specs.StageSets.{stage_action, stage_set}
 use Rattle.plan_theory.specs.Layers.{must_lead}
 use Rattle.plan_theory.specs.LayerPlans.{is_action}
 use Rattle.task_core.specs.Cubes.{SetOfVectors}
@@ -160,26 +160,6 @@ pub record Climbs (start : Start) (x y : Scene) (takers n : ℕ) : Type 0 where
       || first_lead (sys_in start) (states_at x 0) (λ u. not (states_at x 0 u)) a v)
   pub later : (a : ℕ) → a < action_count start.task → n ≤ a
       → states_at y (takers + a) ≡ states_at x (takers + a)
-
--- a round was made on the states at a place, and the new ones took their actions
-pub record ClimbedFrom (start : Start) (x y : Scene) (place takers : ℕ) : Type 0 where
-  pub changed : ChangedIn start x y takers (takers + action_count start.task)
-  pub near : states_at y 0 ≡ states_at x place
-  pub next : SameStates start (states_at y 1) (turn Growing (sys_in start) (states_at x place))
-  pub taken : (a : ℕ) → a < action_count start.task
-      → SameStates start (states_at y (takers + a)) (λ v. states_at x (takers + a) v
-      || first_lead (sys_in start) (states_at x place) (λ u. not (states_at x place u)) a v)
-
--- k rounds towards where a stage is met were made, and one more, and the states that they found
--- took their actions
-pub record HasClimbed (start : Start) (x y : Scene) (met takers k : ℕ) : Type 0 where
-  pub changed : ChangedIn start x y takers (takers + action_count start.task)
-  pub near : SameStates start (states_at y 0) (near_within (sys_in start) (states_at x met) k)
-  pub next : SameStates start (states_at y 1) (near_within (sys_in start) (states_at x met) (suc k))
-  pub taken : (a : ℕ) → a < action_count start.task
-      → SameStates start (states_at y (takers + a))
-      (λ v. states_at x (takers + a) v || (near_within (sys_in start) (states_at x met) (suc k) v
-      && is_action a (stage_action (sys_in start) (states_at x met) v)))
 
 -- all states of a stage's context took their actions
 pub record Climbed (start : Start) (x y : Scene) (met takers : ℕ) : Type 0 where

@@ -17,6 +17,7 @@ ghost use Rattle.task_core.specs.declared.tasks.Task.{Task as TaskOf};
 ghost use Rattle.patrol_plan.specs.Chains.{IsPatrolOver, most_visits, visit_sets};
 ghost use Rattle.patrol_plan.specs.Found.{IfNoPlan, IfPlan};
 ghost use Rattle.patrol_plan.specs.PatrolAnswers.{IsPatrolAnswer, IsPatrolPlanOf, PatrolEnds};
+ghost use Rattle.patrol_plan.specs.Noted.{NotedLast};
 ghost use Rattle.patrol_plan.specs.PatrolSizes.{PatrolFits};
 ghost use Rattle.patrol_plan.specs.PatrolSteps.{HasPatrol};
 ghost use Rattle.patrol_plan.specs.PatrolWorkingSets.{BoundsPatrolSets};
@@ -33,7 +34,7 @@ use crate::visits::{LEFT, find_left, take_visits};
 use dd_sets::SetErr;
 use encode_task::Enc;
 use plan_rules::AutoPlan;
-use slot_board::Board;
+use slot_board::{Board, Step};
 use std::alloc::Global;
 use task_core::{Cond, Task};
 
@@ -42,29 +43,32 @@ fn write_visits(
     alloc: Global,
     enc: &mut Enc,
     board: &mut Board,
-    actions: u32,
-    visits: u32,
+    patrol: Patrol,
+    notes: &[Vec<Step>],
 ) -> Result<AutoPlan, SetErr>
-    requires ready { (start : Start) × (conds : List CondOf) × (start.stages ≡ visits)
+    requires ready { (start : Start) × (conds : List CondOf) × (start.stages ≡ patrol.visits)
         × HasPatrol start conds (enc.old, board.old.slots.items) 0
-        × (covers_patrol (sys_of start) (visit_sets conds) ≡ true) }
-    requires actions { actions ≡ length enc.old.actions }
-    requires few { visits ≤ most_visits }
-    ensures left { (start : Start) (conds : List CondOf) → start.stages ≡ visits
+        × (covers_patrol (sys_of start) (visit_sets conds) ≡ true)
+        × NotedLast start conds notes.now }
+    requires actions { patrol.actions ≡ length enc.old.actions }
+    requires few { patrol.visits ≤ most_visits }
+    ensures left { (start : Start) (conds : List CondOf) → start.stages ≡ patrol.visits
         → HasPatrol start conds (enc.old, board.old.slots.items) 0
         → covers_patrol (sys_of start) (visit_sets conds) ≡ true
+        → NotedLast start conds notes.now
         → Left start (enc.new, board.new.slots.items)
         (IsAt start (enc.new, board.new.slots.items)) result }
-    ensures plan { (start : Start) (conds : List CondOf) → start.stages ≡ visits
+    ensures plan { (start : Start) (conds : List CondOf) → start.stages ≡ patrol.visits
         → HasPatrol start conds (enc.old, board.old.slots.items) 0
         → covers_patrol (sys_of start) (visit_sets conds) ≡ true
+        → NotedLast start conds notes.now
         → IfOk result (IsPatrolPlanOf start.task (visit_sets conds)) }
 {
-    take_visits(enc, board, Means { alloc, actions }, visits)?;
+    take_visits(enc, board, patrol, notes)?;
     let mut rules = Vec::new(alloc);
-    list_visits(enc, board, &mut rules, Patrol { actions, visits })?;
+    list_visits(enc, board, &mut rules, patrol)?;
     Ok(AutoPlan {
-        contexts: visits,
+        contexts: patrol.visits,
         rules,
     })
 }
@@ -86,14 +90,17 @@ fn search_visits(
         → PatrolEnds start (enc.new, board.new.slots.items) (visit_sets visits.now) result }
 {
     let count = count_of(visits);
-    let lost = find_left(enc, board, Means { alloc, actions }, visits)?;
-    if lost {
+    let Some(notes) = find_left(enc, board, Means { alloc, actions }, visits)? else {
         return Ok(FoundAuto::NoPlan);
-    }
+    };
     if !board.covers_initial(enc, LEFT)? {
         return Ok(FoundAuto::NoPlan);
     }
-    let plan = write_visits(alloc, enc, board, actions, count)?;
+    let patrol = Patrol {
+        actions,
+        visits: count,
+    };
+    let plan = write_visits(alloc, enc, board, patrol, &notes)?;
     Ok(FoundAuto::Plan(plan))
 }
 

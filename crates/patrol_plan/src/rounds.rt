@@ -1,7 +1,9 @@
 //! Rounds on sets of states: what can be kept for one step more, or met in one step more.
 
-ghost use Rattle.std.specs.Prelude.{◌≡◌, ◌<◌, length, true, IfOk, OnOk};
+ghost use Rattle.std.specs.Prelude.{◌≡◌, ◌<◌, ◌||◌, length, true, IfOk, OnOk};
 ghost use Rattle.slot_board.specs.Board as board_specs;
+ghost use Rattle.slot_board.specs.Board.{Ends};
+ghost use Rattle.patrol_plan.specs.Noted.{AreNoted, IsNoted, NotesRound, Widened};
 ghost use Rattle.slot_board.specs.declared.board.Outcomes.TheVariants as Every;
 ghost use Rattle.task_core.specs.Tasks.{action_count};
 ghost use Rattle.patrol_plan.specs.Rounds.{turn_by};
@@ -16,7 +18,7 @@ use crate::means::Means;
 use crate::places::{GUARD, HITS, NEAR, NEW, NEXT};
 use dd_sets::SetErr;
 use encode_task::Enc;
-use slot_board::{Board, Operation, Outcomes, is_spent, none_spent, note_spent};
+use slot_board::{Board, Operation, Outcomes, Step, is_spent, none_spent, note, note_spent};
 use task_core::ActionId;
 
 /// What rounds do to a set of states.
@@ -28,11 +30,19 @@ pub(crate) enum Way {
     Growing,
 }
 
-/// How many actions a round goes through, and what it does to the set.
+/// How many actions a round goes through, what it does to the set, and the place of this.
 #[derive(Clone, Copy, Debug)]
 pub(crate) struct Turning {
     actions: u32,
     way: Way,
+    place: usize,
+}
+
+/// An action, and what rounds do to the set that it leads into.
+#[derive(Clone, Copy, Debug)]
+struct Leading {
+    way: Way,
+    action: ActionId,
 }
 
 /// Finds where an action can be executed in the guard and leads into the first states.
@@ -161,23 +171,50 @@ fn adds_none(
     }
 }
 
-/// Adds the states from which an action leads into the first states to the next ones, where rounds
-/// shrink those of the first states alone.
-fn join_hits(enc: &mut Enc, board: &mut Board, way: Way, a: ActionId) -> Result<(), SetErr>
+/// Joins what was found to the next states, and notes the step unless these had all of it already.
+fn widen(enc: &mut Enc, board: &mut Board, steps: &mut Vec<Step>, a: ActionId) -> Result<(), SetErr>
     requires ready { (start : Start) × IsGuarded start (enc.old, board.old.slots.items)
-        × HitFits way start (states_at (enc.old, board.old.slots.items) 0)
-        (states_at (enc.old, board.old.slots.items) 1) a.0 }
-    requires action { a.0 < length enc.old.actions }
+        × IsSmall start (λ v. states_at (enc.old, board.old.slots.items) 1 v
+        || states_at (enc.old, board.old.slots.items) 2 v) }
     ensures { (start : Start) → IsGuarded start (enc.old, board.old.slots.items)
-        → HitFits way start (states_at (enc.old, board.old.slots.items) 0)
-        (states_at (enc.old, board.old.slots.items) 1) a.0
+        → IsSmall start (λ v. states_at (enc.old, board.old.slots.items) 1 v
+        || states_at (enc.old, board.old.slots.items) 2 v)
         → Left start (enc.new, board.new.slots.items)
-        (AddsHits way start (enc.old, board.old.slots.items) (enc.new, board.new.slots.items)
-        a.0) result }
+        (Widened start (enc.old, board.old.slots.items) (enc.new, board.new.slots.items) a
+        steps.old.items steps.new.items) result }
 {
-    lead_inside(enc, board, a)?;
-    keep_hits(enc, board, way)?;
-    board.combine(enc, NEXT, Operation::Join, NEXT, HITS)
+    board.combine(enc, HITS, Operation::Join, NEXT, HITS)?;
+    if board.is_same(enc, HITS, NEXT) {
+        return Ok(());
+    }
+    board.copy_of(enc, NEXT, HITS)?;
+    note(steps, Step::Grow(a))
+}
+
+/// Adds the states from which an action leads into the first states to the next ones, where rounds
+/// shrink those of the first states alone, and notes the step unless that adds nothing.
+fn join_hits(
+    enc: &mut Enc,
+    board: &mut Board,
+    steps: &mut Vec<Step>,
+    leading: Leading,
+) -> Result<(), SetErr>
+    requires ready { (start : Start) × IsGuarded start (enc.old, board.old.slots.items)
+        × HitFits leading.way start (states_at (enc.old, board.old.slots.items) 0)
+        (states_at (enc.old, board.old.slots.items) 1) leading.action.0 }
+    requires action { leading.action.0 < length enc.old.actions }
+    ensures { (start : Start) → IsGuarded start (enc.old, board.old.slots.items)
+        → HitFits leading.way start (states_at (enc.old, board.old.slots.items) 0)
+        (states_at (enc.old, board.old.slots.items) 1) leading.action.0
+        → Left start (enc.new, board.new.slots.items)
+        (AddsHits leading.way start (enc.old, board.old.slots.items)
+        (enc.new, board.new.slots.items) leading.action.0
+        × IsNoted leading.way start (enc.old, board.old.slots.items) leading.action
+        steps.old.items steps.new.items) result }
+{
+    lead_inside(enc, board, leading.action)?;
+    keep_hits(enc, board, leading.way)?;
+    widen(enc, board, steps, leading.action)
 }
 
 /// The same, with no preimage where it would add nothing.
@@ -185,28 +222,30 @@ fn add_hits(
     enc: &mut Enc,
     board: &mut Board,
     spent: &mut Vec<bool>,
-    way: Way,
-    a: ActionId,
+    steps: &mut Vec<Step>,
+    leading: Leading,
 ) -> Result<(), SetErr>
     requires ready { (start : Start) × IsGuarded start (enc.old, board.old.slots.items)
-        × HitFits way start (states_at (enc.old, board.old.slots.items) 0)
-        (states_at (enc.old, board.old.slots.items) 1) a.0 × AreSpent way start
+        × HitFits leading.way start (states_at (enc.old, board.old.slots.items) 0)
+        (states_at (enc.old, board.old.slots.items) 1) leading.action.0 × AreSpent leading.way start
         (states_at (enc.old, board.old.slots.items) 1) spent.old.items }
-    requires action { a.0 < length enc.old.actions }
+    requires action { leading.action.0 < length enc.old.actions }
     requires long { length spent.old.items ≡ length enc.old.actions }
     ensures { (start : Start) → IsGuarded start (enc.old, board.old.slots.items)
-        → HitFits way start (states_at (enc.old, board.old.slots.items) 0)
-        (states_at (enc.old, board.old.slots.items) 1) a.0
-        → AreSpent way start (states_at (enc.old, board.old.slots.items) 1) spent.old.items
+        → HitFits leading.way start (states_at (enc.old, board.old.slots.items) 0)
+        (states_at (enc.old, board.old.slots.items) 1) leading.action.0
+        → AreSpent leading.way start (states_at (enc.old, board.old.slots.items) 1) spent.old.items
         → Left start (enc.new, board.new.slots.items)
-        (AddsHits way start (enc.old, board.old.slots.items) (enc.new, board.new.slots.items)
-        a.0 × AreSpent way start (states_at (enc.new, board.new.slots.items) 1)
-        spent.new.items) result }
+        (AddsHits leading.way start (enc.old, board.old.slots.items) (enc.new, board.new.slots.items)
+        leading.action.0 × AreSpent leading.way start (states_at (enc.new, board.new.slots.items) 1)
+        spent.new.items
+        × IsNoted leading.way start (enc.old, board.old.slots.items) leading.action
+        steps.old.items steps.new.items) result }
 {
-    if adds_none(enc, board, spent, way, a)? {
+    if adds_none(enc, board, spent, leading.way, leading.action)? {
         return Ok(());
     }
-    join_hits(enc, board, way, a)
+    join_hits(enc, board, steps, leading)
 }
 
 /// Puts the states that a round begins with to the next ones where rounds grow, and none where they
@@ -232,6 +271,7 @@ fn lead_all(
     enc: &mut Enc,
     board: &mut Board,
     spent: &mut Vec<bool>,
+    steps: &mut Vec<Step>,
     turning: Turning,
 ) -> Result<(), SetErr>
     requires ready { (start : Start) × IsGuarded start (enc.old, board.old.slots.items)
@@ -247,11 +287,17 @@ fn lead_all(
         (Leads turning.way start (enc.old, board.old.slots.items)
         (enc.new, board.new.slots.items) (action_count start.task)
         × AreSpent turning.way start (states_at (enc.new, board.new.slots.items) 1)
-        spent.new.items) result }
+        spent.new.items
+        × NotesRound turning.way start (states_at (enc.old, board.old.slots.items) 0)
+        steps.old.items steps.new.items) result }
 {
     begin_next(enc, board, turning.way)?;
     for a in 0..turning.actions {
-        add_hits(enc, board, spent, turning.way, ActionId(a))?;
+        let leading = Leading {
+            way: turning.way,
+            action: ActionId(a),
+        };
+        add_hits(enc, board, spent, steps, leading)?;
     }
     Ok(())
 }
@@ -261,27 +307,29 @@ fn turn_from(
     enc: &mut Enc,
     board: &mut Board,
     spent: &mut Vec<bool>,
+    steps: &mut Vec<Step>,
     turning: Turning,
-    place: usize,
 ) -> Result<(), SetErr>
     requires ready { (start : Start) × IsGuarded start (enc.old, board.old.slots.items)
-        × RoundFits start (states_at (enc.old, board.old.slots.items) place)
-        × AreSpent turning.way start (states_at (enc.old, board.old.slots.items) place)
+        × RoundFits start (states_at (enc.old, board.old.slots.items) turning.place)
+        × AreSpent turning.way start (states_at (enc.old, board.old.slots.items) turning.place)
         spent.old.items }
     requires actions { turning.actions ≡ length enc.old.actions }
-    requires place { place < length board.old.slots.items }
+    requires place { turning.place < length board.old.slots.items }
     ensures { (start : Start) → IsGuarded start (enc.old, board.old.slots.items)
-        → RoundFits start (states_at (enc.old, board.old.slots.items) place)
-        → AreSpent turning.way start (states_at (enc.old, board.old.slots.items) place)
+        → RoundFits start (states_at (enc.old, board.old.slots.items) turning.place)
+        → AreSpent turning.way start (states_at (enc.old, board.old.slots.items) turning.place)
         spent.old.items
         → Left start (enc.new, board.new.slots.items)
         (TurnedFrom turning.way start (enc.old, board.old.slots.items)
-        (enc.new, board.new.slots.items) place
+        (enc.new, board.new.slots.items) turning.place
         × AreSpent turning.way start (states_at (enc.new, board.new.slots.items) 1)
-        spent.new.items) result }
+        spent.new.items
+        × NotesRound turning.way start (states_at (enc.old, board.old.slots.items) turning.place)
+        steps.old.items steps.new.items) result }
 {
-    board.copy_of(enc, NEAR, place)?;
-    lead_all(enc, board, spent, turning)
+    board.copy_of(enc, NEAR, turning.place)?;
+    lead_all(enc, board, spent, steps, turning)
 }
 
 /// Makes a single round on the states at a place.
@@ -303,40 +351,52 @@ pub(crate) fn turn_once(
         place) result }
 {
     let mut spent = none_spent(means.alloc, means.actions)?;
+    let mut steps = Vec::new(means.alloc);
     let turning = Turning {
         actions: means.actions,
         way,
+        place,
     };
-    turn_from(enc, board, &mut spent, turning, place)
+    turn_from(enc, board, &mut spent, &mut steps, turning)
 }
 
-/// Makes rounds, from the states at a place on, until nothing changes. An action is not looked at
-/// again once it is spent.
+/// Makes rounds, from the states at a place on, until nothing changes: the steps that changed
+/// something. An action is not looked at again once it is spent.
 pub(crate) fn turn_all(
     enc: &mut Enc,
     board: &mut Board,
     means: Means,
     way: Way,
     place: usize,
-) -> Result<(), SetErr>
+) -> Result<Vec<Step>, SetErr>
     requires ready { (start : Start) × IsGuarded start (enc.old, board.old.slots.items)
         × TurnsFit way start (states_at (enc.old, board.old.slots.items) place) }
     requires actions { means.actions ≡ length enc.old.actions }
     requires place { place < length board.old.slots.items }
     ensures { (start : Start) → IsGuarded start (enc.old, board.old.slots.items)
         → TurnsFit way start (states_at (enc.old, board.old.slots.items) place)
-        → Left start (enc.new, board.new.slots.items)
-        (HasLast way start (enc.old, board.old.slots.items) (enc.new, board.new.slots.items)
-        (states_at (enc.old, board.old.slots.items) place)) result }
+        → Ends (board_of start) enc.new board.new.slots.items
+        (λ steps. HasLast way start (enc.old, board.old.slots.items)
+        (enc.new, board.new.slots.items) (states_at (enc.old, board.old.slots.items) place)
+        × AreNoted way start (states_at (enc.old, board.old.slots.items) place) steps.items)
+        result }
 {
     let mut spent = none_spent(means.alloc, means.actions)?;
-    let turning = Turning {
+    let mut steps = Vec::new(means.alloc);
+    let first = Turning {
         actions: means.actions,
         way,
+        place,
     };
-    turn_from(enc, board, &mut spent, turning, place)?;
+    turn_from(enc, board, &mut spent, &mut steps, first)?;
     while !board.is_same(enc, NEXT, NEAR) {
-        turn_from(enc, board, &mut spent, turning, NEXT)?;
+        note(&mut steps, Step::Advance)?;
+        let more = Turning {
+            place: NEXT,
+            ..first
+        };
+        turn_from(enc, board, &mut spent, &mut steps, more)?;
     }
-    Ok(())
+    note(&mut steps, Step::Advance)?;
+    Ok(steps)
 }

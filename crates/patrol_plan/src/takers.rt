@@ -1,6 +1,6 @@
 //! Which states take which action, in each context.
 
-ghost use Rattle.std.specs.Prelude.{◌≡◌, suc, ◌≤◌, ◌+◌, ◌<◌, length};
+ghost use Rattle.std.specs.Prelude.{◌≡◌, ℕ, suc, ◌≤◌, ◌+◌, ◌<◌, List, ◌∷◌, length};
 ghost use Rattle.ctl_syntax.specs.Conditions.{states_of};
 ghost use Rattle.slot_board.specs.Board as board_specs;
 ghost use Rattle.task_core.specs.Tasks.{action_count};
@@ -9,17 +9,19 @@ ghost use Rattle.patrol_plan.specs.Guards.{anywhere};
 ghost use Rattle.patrol_plan.specs.Scenes.{IsAt, IsGuarded, Left, Scene, Start, board_of, guarded};
 ghost use Rattle.patrol_plan.specs.Scenes.{states_at};
 ghost use Rattle.patrol_plan.specs.Sizes.{ClimbFits, ClimbsFit, SearchFits, ShareFits};
-ghost use Rattle.patrol_plan.specs.Steps.{AreSpent, Climbed, ClimbedFrom, Climbs, FirstTaken};
+ghost use Rattle.patrol_plan.specs.Noted.{AreNoted, NotedStages, RetracedOn};
+ghost use Rattle.patrol_plan.specs.Steps.{Climbed, Climbs, FirstTaken};
 ghost use Rattle.patrol_plan.specs.Steps.{HasTakers, Shared};
+ghost use Rattle.slot_board.specs.declared.steps.Step.{Step as Noted};
 ghost use Rattle.patrol_plan.specs.declared.rounds.Way.TheVariants.{Growing};
 
-use crate::means::Means;
 use crate::places::{GUARD, HITS, NEAR, NEW, NEXT, REST, met_at, takers_at, win_at};
-use crate::rounds::{find_spent, lead_inside};
+use crate::rounds::lead_inside;
+use crate::wins::steps_of;
 use ctl_syntax::UntilChain;
 use dd_sets::SetErr;
 use encode_task::Enc;
-use slot_board::{Board, Operation, none_spent};
+use slot_board::{Board, Operation, Step};
 use task_core::{ActionId, Cond};
 
 /// Has an action taken by the states without one from which it leads into the first states.
@@ -116,144 +118,53 @@ fn climb_hits(enc: &mut Enc, board: &mut Board, takers: usize, a: ActionId) -> R
     board.combine(enc, NEXT, Operation::Join, NEXT, HITS)
 }
 
-/// The same, with no preimage where no state would be new.
-fn climb_by(
-    enc: &mut Enc,
-    board: &mut Board,
-    spent: &mut Vec<bool>,
-    takers: usize,
-    a: ActionId,
-) -> Result<(), SetErr>
-    requires ready { (start : Start) × (x : Scene)
-        × Climbs start x (enc.old, board.old.slots.items) takers a.0
-        × ClimbFits start (states_at x 0) (λ k. states_at x (takers + k))
-        × AreSpent Growing start (states_at (enc.old, board.old.slots.items) 1)
-        spent.old.items }
-    requires action { a.0 < length enc.old.actions }
-    requires long { length spent.old.items ≡ length enc.old.actions }
+/// One step once more.
+fn retrace_step(enc: &mut Enc, board: &mut Board, takers: usize, step: &Step) -> Result<(), SetErr>
+    requires ready { (start : Start) × (x : Scene) × (met : ℕ) × (rest : List Noted)
+        × RetracedOn start x (enc.old, board.old.slots.items) met takers (step.now ∷ rest)
+        × ClimbsFit start (states_at x met) (λ k. states_at x (takers + k)) }
     requires places { takers + length enc.old.actions ≤ length board.old.slots.items }
     requires high { 8 ≤ takers }
-    ensures { (start : Start) (x : Scene)
-        → Climbs start x (enc.old, board.old.slots.items) takers a.0
-        → ClimbFits start (states_at x 0) (λ k. states_at x (takers + k))
-        → AreSpent Growing start (states_at (enc.old, board.old.slots.items) 1)
-        spent.old.items
+    ensures { (start : Start) (x : Scene) (met : ℕ) (rest : List Noted)
+        → RetracedOn start x (enc.old, board.old.slots.items) met takers (step.now ∷ rest)
+        → ClimbsFit start (states_at x met) (λ k. states_at x (takers + k))
         → Left start (enc.new, board.new.slots.items)
-        (Climbs start x (enc.new, board.new.slots.items) takers (a.0 + 1)
-        × AreSpent Growing start (states_at (enc.new, board.new.slots.items) 1)
-        spent.new.items) result }
+        (RetracedOn start x (enc.new, board.new.slots.items) met takers rest) result }
 {
-    if find_spent(enc, board, spent, a)? {
-        return Ok(());
+    match step {
+        Step::Grow(a) => climb_hits(enc, board, takers, *a),
+        Step::Advance => board.copy_of(enc, NEAR, NEXT),
     }
-    climb_hits(enc, board, takers, a)
 }
 
-/// Makes a round on the first states, and gives each new state its action.
-fn climb_near(
-    enc: &mut Enc,
-    board: &mut Board,
-    spent: &mut Vec<bool>,
-    actions: u32,
-    takers: usize,
-) -> Result<(), SetErr>
-    requires ready { (start : Start) × IsGuarded start (enc.old, board.old.slots.items)
-        × ClimbFits start (states_at (enc.old, board.old.slots.items) 0)
-        (λ k. states_at (enc.old, board.old.slots.items) (takers + k))
-        × AreSpent Growing start (states_at (enc.old, board.old.slots.items) 0)
-        spent.old.items }
-    requires actions { actions ≡ length enc.old.actions }
-    requires places { takers + actions ≤ length board.old.slots.items }
-    requires high { 8 ≤ takers }
-    ensures { (start : Start) → IsGuarded start (enc.old, board.old.slots.items)
-        → ClimbFits start (states_at (enc.old, board.old.slots.items) 0)
-        (λ k. states_at (enc.old, board.old.slots.items) (takers + k))
-        → AreSpent Growing start (states_at (enc.old, board.old.slots.items) 0)
-        spent.old.items
-        → Left start (enc.new, board.new.slots.items)
-        (Climbs start (enc.old, board.old.slots.items) (enc.new, board.new.slots.items) takers
-        (action_count start.task)
-        × AreSpent Growing start (states_at (enc.new, board.new.slots.items) 1)
-        spent.new.items) result }
-{
-    board.copy_of(enc, NEXT, NEAR)?;
-    for a in 0..actions {
-        climb_by(enc, board, spent, takers, ActionId(a))?;
-    }
-    Ok(())
-}
-
-/// Makes a round on the states at a place, and gives each new state its action.
-fn climb_from(
-    enc: &mut Enc,
-    board: &mut Board,
-    spent: &mut Vec<bool>,
-    actions: u32,
-    at: StagePlaces,
-) -> Result<(), SetErr>
-    requires ready { (start : Start) × IsGuarded start (enc.old, board.old.slots.items)
-        × ClimbFits start (states_at (enc.old, board.old.slots.items) at.met)
-        (λ k. states_at (enc.old, board.old.slots.items) (at.takers + k))
-        × AreSpent Growing start (states_at (enc.old, board.old.slots.items) at.met)
-        spent.old.items }
-    requires actions { actions ≡ length enc.old.actions }
-    requires place { at.met < length board.old.slots.items }
-    requires places { at.takers + actions ≤ length board.old.slots.items }
-    requires high { 8 ≤ at.takers }
-    ensures { (start : Start) → IsGuarded start (enc.old, board.old.slots.items)
-        → ClimbFits start (states_at (enc.old, board.old.slots.items) at.met)
-        (λ k. states_at (enc.old, board.old.slots.items) (at.takers + k))
-        → AreSpent Growing start (states_at (enc.old, board.old.slots.items) at.met)
-        spent.old.items
-        → Left start (enc.new, board.new.slots.items)
-        (ClimbedFrom start (enc.old, board.old.slots.items) (enc.new, board.new.slots.items)
-        at.met at.takers
-        × AreSpent Growing start (states_at (enc.new, board.new.slots.items) 1)
-        spent.new.items) result }
-{
-    board.copy_of(enc, NEAR, at.met)?;
-    climb_near(enc, board, spent, actions, at.takers)
-}
-
-/// Gives each state from which a stage is met for certain the action of its rank. An action is not
-/// looked at again once it is spent.
+/// Makes the steps towards a stage once more: gives each state from which it is met for certain the
+/// action of its rank.
 pub(crate) fn climb(
     enc: &mut Enc,
     board: &mut Board,
-    means: Means,
+    steps: &[Step],
     met: usize,
     takers: usize,
 ) -> Result<(), SetErr>
     requires ready { (start : Start) × IsGuarded start (enc.old, board.old.slots.items)
         × ClimbsFit start (states_at (enc.old, board.old.slots.items) met)
-        (λ k. states_at (enc.old, board.old.slots.items) (takers + k)) }
-    requires actions { means.actions ≡ length enc.old.actions }
-    requires places { takers + means.actions ≤ length board.old.slots.items }
+        (λ k. states_at (enc.old, board.old.slots.items) (takers + k))
+        × AreNoted Growing start (states_at (enc.old, board.old.slots.items) met) steps.now }
+    requires places { takers + length enc.old.actions ≤ length board.old.slots.items }
     requires met { 8 ≤ met }
     requires apart { met < takers }
     ensures { (start : Start) → IsGuarded start (enc.old, board.old.slots.items)
         → ClimbsFit start (states_at (enc.old, board.old.slots.items) met)
         (λ k. states_at (enc.old, board.old.slots.items) (takers + k))
+        → AreNoted Growing start (states_at (enc.old, board.old.slots.items) met) steps.now
         → Left start (enc.new, board.new.slots.items)
         (Climbed start (enc.old, board.old.slots.items) (enc.new, board.new.slots.items) met
         takers) result }
 {
-    let mut spent = none_spent(means.alloc, means.actions)?;
-    climb_from(
-        enc,
-        board,
-        &mut spent,
-        means.actions,
-        StagePlaces { met, takers },
-    )?;
-    while !board.is_same(enc, NEXT, NEAR) {
-        climb_from(
-            enc,
-            board,
-            &mut spent,
-            means.actions,
-            StagePlaces { met: NEXT, takers },
-        )?;
+    board.copy_of(enc, NEAR, met)?;
+    board.copy_of(enc, NEXT, NEAR)?;
+    for step in steps {
+        retrace_step(enc, board, takers, step)?;
     }
     Ok(())
 }
@@ -308,7 +219,7 @@ struct StagePlaces {
 fn take_stage(
     enc: &mut Enc,
     board: &mut Board,
-    means: Means,
+    steps: &[Step],
     guard: &Cond,
     at: StagePlaces,
 ) -> Result<(), SetErr>
@@ -316,10 +227,11 @@ fn take_stage(
         × board_specs.ConditionFits (board_of start) guard.now
         × ClimbsFit (guarded start (states_of guard.now))
         (states_at (enc.old, board.old.slots.items) at.met)
-        (λ k. states_at (enc.old, board.old.slots.items) (at.takers + k)) }
-    requires actions { means.actions ≡ length enc.old.actions }
+        (λ k. states_at (enc.old, board.old.slots.items) (at.takers + k))
+        × AreNoted Growing (guarded start (states_of guard.now))
+        (states_at (enc.old, board.old.slots.items) at.met) steps.now }
     requires guard { IsConditionOver enc.old.sets.vars guard.now }
-    requires places { at.takers + means.actions ≤ length board.old.slots.items }
+    requires places { at.takers + length enc.old.actions ≤ length board.old.slots.items }
     requires met { 8 ≤ at.met }
     requires apart { at.met < at.takers }
     ensures { (start : Start) → IsAt start (enc.old, board.old.slots.items)
@@ -327,12 +239,14 @@ fn take_stage(
         → ClimbsFit (guarded start (states_of guard.now))
         (states_at (enc.old, board.old.slots.items) at.met)
         (λ k. states_at (enc.old, board.old.slots.items) (at.takers + k))
+        → AreNoted Growing (guarded start (states_of guard.now))
+        (states_at (enc.old, board.old.slots.items) at.met) steps.now
         → Left start (enc.new, board.new.slots.items)
         (Climbed (guarded start (states_of guard.now)) (enc.old, board.old.slots.items)
         (enc.new, board.new.slots.items) at.met at.takers) result }
 {
     board.condition(enc, GUARD, guard)?;
-    climb(enc, board, means, at.met, at.takers)
+    climb(enc, board, steps, at.met, at.takers)
 }
 
 /// Has the actions taken that keep the condition at the end.
@@ -372,39 +286,41 @@ fn take_end(
 pub(crate) fn take_all(
     enc: &mut Enc,
     board: &mut Board,
-    means: Means,
-    stages: u32,
+    actions: u32,
+    notes: &[Vec<Step>],
     chain: &UntilChain,
 ) -> Result<(), SetErr>
-    requires ready { (start : Start) × (start.stages ≡ stages)
-        × (length chain.now.stages.items ≡ stages) × SearchFits start chain.now
+    requires ready { (start : Start) × (start.stages ≡ length chain.now.stages.items)
+        × NotedStages start (until_sets chain.now) 0 notes.now × SearchFits start chain.now
         × HasTakers start (enc.old, board.old.slots.items) (until_sets chain.now) 0 }
-    requires actions { means.actions ≡ length enc.old.actions }
+    requires actions { actions ≡ length enc.old.actions }
     requires chain { IsUntilOver enc.old.sets.vars chain.now }
-    ensures { (start : Start) → start.stages ≡ stages
-        → length chain.now.stages.items ≡ stages → SearchFits start chain.now
+    ensures { (start : Start) → start.stages ≡ length chain.now.stages.items
+        → NotedStages start (until_sets chain.now) 0 notes.now → SearchFits start chain.now
         → HasTakers start (enc.old, board.old.slots.items) (until_sets chain.now) 0
         → Left start (enc.new, board.new.slots.items)
-        (HasTakers start (enc.new, board.new.slots.items) (until_sets chain.now) (suc stages))
-        result }
+        (HasTakers start (enc.new, board.new.slots.items) (until_sets chain.now)
+        (suc start.stages)) result }
 {
+    let stages = chain.stages.len() as u32;
     for i in 0..stages {
+        let steps = steps_of(notes, (stages - 1 - i) as usize);
         take_stage(
             enc,
             board,
-            means,
+            steps,
             &chain.stages[i as usize].guard,
             StagePlaces {
                 met: met_at(i),
-                takers: takers_at(means.actions, stages, i),
+                takers: takers_at(actions, stages, i),
             },
         )?;
     }
     take_end(
         enc,
         board,
-        means.actions,
+        actions,
         win_at(stages),
-        takers_at(means.actions, stages, stages),
+        takers_at(actions, stages, stages),
     )
 }

@@ -54,11 +54,11 @@ fn search(
         → HasNothing start (enc.old, board.old.slots.items) → SearchFits start chain.now
         → Ends start (enc.new, board.new.slots.items) (until_sets chain.now) result }
 {
-    win_all(enc, board, means, chain)?;
+    let notes = win_all(enc, board, means, chain)?;
     if !board.covers_initial(enc, win_at(0))? {
         return Ok(false);
     }
-    take_all(enc, board, means, chain.stages.len() as u32, chain)?;
+    take_all(enc, board, means.actions, &notes, chain)?;
     Ok(true)
 }
 
@@ -75,11 +75,11 @@ fn search(
 /// met and the rest can be had, and from where such a state is reached for certain, in states of
 /// the stage's guard until then: a set that grows, round by round, by the states of the guard with
 /// an action all of whose outcomes lie in it. Where the initial states are among those of the first
-/// stage, it makes these rounds once more, and each new state takes its least-numbered action. The
-/// plan has a context for each stage and one for the end; in each it turns to the first stage, from
-/// the context's own on, that isn't met. The time grows with the rounds, the stages and the actions,
-/// and not with the number of states. A round has no preimage for an action that can be executed only
-/// in states that are found already.
+/// stage, it makes the steps of these rounds that changed something once more, and each new state
+/// takes its least-numbered action. The plan has a context for each stage and one for the end; in
+/// each it turns to the first stage, from the context's own on, that isn't met. The time grows with
+/// the rounds, the stages and the actions, and not with the number of states. A round has no preimage
+/// for an action that can be executed only in states that are found already.
 ///
 /// An until-chain has at most 32 stages, and each of its conditions names the task's fluents alone
 /// and is at most 200 deep. `Full` comes only where the table holds as many nodes as it may, and its

@@ -7,19 +7,25 @@ ghost use Rattle.task_core.specs.Tasks.{action_count};
 ghost use Rattle.task_core.specs.declared.conditions.Cond.{Cond as CondOf};
 ghost use Rattle.patrol_plan.specs.Chains.{IsConditionOver, IsPatrolOver, most_visits};
 ghost use Rattle.patrol_plan.specs.PatrolSizes.{PatrolFits};
-ghost use Rattle.patrol_plan.specs.PatrolSteps.{FoundLeft, HasMet, HasPatrol, HasStay, HasVisits};
+ghost use Rattle.patrol_plan.specs.Noted.{AreStepsFrom, FoundNotes, NotedLast, NotedVisits};
+ghost use Rattle.patrol_plan.specs.PatrolSizes.{made_in, within_round};
+ghost use Rattle.plan_theory.specs.Patrols.{patrol_set};
+ghost use Rattle.patrol_plan.specs.Scenes.{guarded};
+ghost use Rattle.patrol_plan.specs.PatrolSteps.{HasMet, HasPatrol, HasStay, HasVisits, made_at_last};
 ghost use Rattle.patrol_plan.specs.PatrolSteps.{IsLeft};
 ghost use Rattle.slot_board.specs.Board.{Ends};
 ghost use Rattle.patrol_plan.specs.PatrolSteps.{visit_place};
 ghost use Rattle.patrol_plan.specs.Scenes.{HasNothing, Left, Start, board_of, sys_of, takers_place};
 
 use crate::means::Means;
+use crate::patrol_rules::Patrol;
 use crate::places::{GUARD, NEAR, NEXT, takers_at};
 use crate::rounds::{Way, turn_all, turn_once};
 use crate::takers::{SharePlaces, climb, take_first};
+use crate::wins::{keep_steps, steps_of};
 use dd_sets::SetErr;
 use encode_task::Enc;
-use slot_board::{Board, Operation};
+use slot_board::{Board, Operation, Step};
 use task_core::Cond;
 
 /// The states that are left.
@@ -75,7 +81,7 @@ fn keep_visit(
     means: Means,
     visit: &Cond,
     place: usize,
-) -> Result<(), SetErr>
+) -> Result<Vec<Step>, SetErr>
     requires ready { (start : Start) × (conds : List CondOf) × (r : ℕ) × (i : ℕ)
         × (place ≡ visit_place i) × (i < length conds) × (visit.now ≡ get_or conds i visit.now)
         × HasVisits start conds (enc.old, board.old.slots.items) r i }
@@ -84,45 +90,62 @@ fn keep_visit(
     ensures { (start : Start) (conds : List CondOf) (r i : ℕ) → place ≡ visit_place i
         → i < length conds → visit.now ≡ get_or conds i visit.now
         → HasVisits start conds (enc.old, board.old.slots.items) r i
-        → Left start (enc.new, board.new.slots.items)
-        (HasVisits start conds (enc.new, board.new.slots.items) r (suc i)) result }
+        → Ends (board_of start) enc.new board.new.slots.items
+        (λ steps. HasVisits start conds (enc.new, board.new.slots.items) r (suc i)
+        × AreStepsFrom (within_round start conds r) (made_in start conds r i) 0 0 steps.items)
+        result }
 {
     meet_visit(enc, board, visit, place)?;
-    turn_all(enc, board, means, Way::Growing, place)?;
-    board.combine(enc, KEPT, Operation::Meet, KEPT, NEAR)
+    let steps = turn_all(enc, board, means, Way::Growing, place)?;
+    board.combine(enc, KEPT, Operation::Meet, KEPT, NEAR)?;
+    Ok(steps)
 }
 
 /// Makes a round: finds from which of the states that are left every visit can be made among them.
-fn keep_all(enc: &mut Enc, board: &mut Board, means: Means, visits: &[Cond]) -> Result<(), SetErr>
+fn keep_all(
+    enc: &mut Enc,
+    board: &mut Board,
+    means: Means,
+    visits: &[Cond],
+) -> Result<Vec<Vec<Step>>, SetErr>
     requires ready { (start : Start) × (r : ℕ)
         × IsLeft start visits.now (enc.old, board.old.slots.items) r }
     requires actions { means.actions ≡ length enc.old.actions }
     requires visits { IsPatrolOver enc.old.sets.vars visits.now }
     ensures { (start : Start) (r : ℕ)
         → IsLeft start visits.now (enc.old, board.old.slots.items) r
-        → Left start (enc.new, board.new.slots.items)
-        (HasVisits start visits.now (enc.new, board.new.slots.items) r (length visits.now))
-        result }
+        → Ends (board_of start) enc.new board.new.slots.items
+        (λ notes. HasVisits start visits.now (enc.new, board.new.slots.items) r
+        (length visits.now)
+        × NotedVisits start visits.now r (length visits.now) notes.items) result }
 {
     find_stay(enc, board, means)?;
     board.copy_of(enc, KEPT, LEFT)?;
+    let mut notes = Vec::new(means.alloc);
     for i in 0..visits.len() as u32 {
-        keep_visit(enc, board, means, &visits[i as usize], visit_at(i))?;
+        let steps = keep_visit(enc, board, means, &visits[i as usize], visit_at(i))?;
+        keep_steps(&mut notes, steps)?;
     }
-    Ok(())
+    Ok(notes)
 }
 
 /// Makes the first round, on all states.
-fn keep_first(enc: &mut Enc, board: &mut Board, means: Means, visits: &[Cond]) -> Result<(), SetErr>
+fn keep_first(
+    enc: &mut Enc,
+    board: &mut Board,
+    means: Means,
+    visits: &[Cond],
+) -> Result<Vec<Vec<Step>>, SetErr>
     requires ready { (start : Start) × (start.stages ≡ length visits.now)
         × HasNothing start (enc.old, board.old.slots.items) × PatrolFits start visits.now }
     requires actions { means.actions ≡ length enc.old.actions }
     requires visits { IsPatrolOver enc.old.sets.vars visits.now }
     ensures { (start : Start) → start.stages ≡ length visits.now
         → HasNothing start (enc.old, board.old.slots.items) → PatrolFits start visits.now
-        → Left start (enc.new, board.new.slots.items)
-        (HasVisits start visits.now (enc.new, board.new.slots.items) 0 (length visits.now))
-        result }
+        → Ends (board_of start) enc.new board.new.slots.items
+        (λ notes. HasVisits start visits.now (enc.new, board.new.slots.items) 0
+        (length visits.now)
+        × NotedVisits start visits.now 0 (length visits.now) notes.items) result }
 {
     let space = enc.space();
     board.copy(enc, LEFT, space)?;
@@ -130,16 +153,22 @@ fn keep_first(enc: &mut Enc, board: &mut Board, means: Means, visits: &[Cond]) -
 }
 
 /// Makes one round more.
-fn keep_more(enc: &mut Enc, board: &mut Board, means: Means, visits: &[Cond]) -> Result<(), SetErr>
+fn keep_more(
+    enc: &mut Enc,
+    board: &mut Board,
+    means: Means,
+    visits: &[Cond],
+) -> Result<Vec<Vec<Step>>, SetErr>
     requires ready { (start : Start) × (r : ℕ) × HasVisits start visits.now
         (enc.old, board.old.slots.items) r (length visits.now) }
     requires actions { means.actions ≡ length enc.old.actions }
     requires visits { IsPatrolOver enc.old.sets.vars visits.now }
     ensures { (start : Start) (r : ℕ) → HasVisits start visits.now
         (enc.old, board.old.slots.items) r (length visits.now)
-        → Left start (enc.new, board.new.slots.items)
-        (HasVisits start visits.now (enc.new, board.new.slots.items) (suc r)
-        (length visits.now)) result }
+        → Ends (board_of start) enc.new board.new.slots.items
+        (λ notes. HasVisits start visits.now (enc.new, board.new.slots.items) (suc r)
+        (length visits.now)
+        × NotedVisits start visits.now (suc r) (length visits.now) notes.items) result }
 {
     board.copy_of(enc, LEFT, KEPT)?;
     keep_all(enc, board, means, visits)
@@ -162,13 +191,14 @@ fn loses_initial(enc: &mut Enc, board: &Board) -> Result<bool, SetErr>
     Ok(!held)
 }
 
-/// Makes rounds until nothing changes, or an initial state is lost: whether one was.
+/// Makes rounds until nothing changes: the steps towards each visit in the last one. Or none, where
+/// an initial state is lost.
 pub(crate) fn find_left(
     enc: &mut Enc,
     board: &mut Board,
     means: Means,
     visits: &[Cond],
-) -> Result<bool, SetErr>
+) -> Result<Option<Vec<Vec<Step>>>, SetErr>
     requires ready { (start : Start) × (start.stages ≡ length visits.now)
         × HasNothing start (enc.old, board.old.slots.items) × PatrolFits start visits.now }
     requires actions { means.actions ≡ length enc.old.actions }
@@ -176,74 +206,76 @@ pub(crate) fn find_left(
     ensures { (start : Start) → start.stages ≡ length visits.now
         → HasNothing start (enc.old, board.old.slots.items) → PatrolFits start visits.now
         → Ends (board_of start) enc.new board.new.slots.items
-        (FoundLeft start visits.now (enc.new, board.new.slots.items)) result }
+        (FoundNotes start visits.now (enc.new, board.new.slots.items)) result }
 {
-    keep_first(enc, board, means, visits)?;
+    let mut notes = keep_first(enc, board, means, visits)?;
     while !board.is_same(enc, KEPT, LEFT) {
         let lost = loses_initial(enc, board)?;
         if lost {
-            return Ok(true);
+            return Ok(None);
         }
-        keep_more(enc, board, means, visits)?;
+        notes = keep_more(enc, board, means, visits)?;
     }
-    Ok(false)
+    Ok(Some(notes))
 }
 
 /// Has the actions towards a visit taken, and after it those that stay among the states of the plan.
 fn take_visit(
     enc: &mut Enc,
     board: &mut Board,
-    means: Means,
-    place: usize,
-    takers: usize,
+    actions: u32,
+    steps: &[Step],
+    at: SharePlaces,
 ) -> Result<(), SetErr>
-    requires ready { (start : Start) × (conds : List CondOf) × (i : ℕ) × (place ≡ visit_place i)
-        × (takers ≡ takers_place (action_count start.task) start.stages i) × (i < start.stages)
-        × HasPatrol start conds (enc.old, board.old.slots.items) i
-        × (covers_patrol (sys_of start) (visit_sets conds) ≡ true) }
-    requires actions { means.actions ≡ length enc.old.actions }
-    ensures { (start : Start) (conds : List CondOf) (i : ℕ) → place ≡ visit_place i
-        → takers ≡ takers_place (action_count start.task) start.stages i → i < start.stages
+    requires ready { (start : Start) × (conds : List CondOf) × (i : ℕ) × (at.near ≡ 8)
+        × (at.rest ≡ visit_place i)
+        × (at.takers ≡ takers_place (action_count start.task) start.stages i)
+        × (i < start.stages) × HasPatrol start conds (enc.old, board.old.slots.items) i
+        × (covers_patrol (sys_of start) (visit_sets conds) ≡ true)
+        × AreStepsFrom (guarded start (patrol_set (sys_of start) (visit_sets conds)))
+        (made_at_last start conds i) 0 0 steps.now }
+    requires actions { actions ≡ length enc.old.actions }
+    ensures { (start : Start) (conds : List CondOf) (i : ℕ) → at.near ≡ 8
+        → at.rest ≡ visit_place i
+        → at.takers ≡ takers_place (action_count start.task) start.stages i → i < start.stages
         → HasPatrol start conds (enc.old, board.old.slots.items) i
         → covers_patrol (sys_of start) (visit_sets conds) ≡ true
+        → AreStepsFrom (guarded start (patrol_set (sys_of start) (visit_sets conds)))
+        (made_at_last start conds i) 0 0 steps.now
         → Left start (enc.new, board.new.slots.items)
         (HasPatrol start conds (enc.new, board.new.slots.items) (suc i)) result }
 {
-    let at = SharePlaces {
-        near: LEFT,
-        rest: place,
-        takers,
-    };
-    take_first(enc, board, means.actions, at)?;
-    climb(enc, board, means, place, takers)
+    take_first(enc, board, actions, at)?;
+    climb(enc, board, steps, at.rest, at.takers)
 }
 
 /// Has the actions of all contexts taken.
 pub(crate) fn take_visits(
     enc: &mut Enc,
     board: &mut Board,
-    means: Means,
-    visits: u32,
+    patrol: Patrol,
+    notes: &[Vec<Step>],
 ) -> Result<(), SetErr>
-    requires ready { (start : Start) × (conds : List CondOf) × (start.stages ≡ visits)
+    requires ready { (start : Start) × (conds : List CondOf) × (start.stages ≡ patrol.visits)
         × HasPatrol start conds (enc.old, board.old.slots.items) 0
-        × (covers_patrol (sys_of start) (visit_sets conds) ≡ true) }
-    requires actions { means.actions ≡ length enc.old.actions }
-    requires few { visits ≤ most_visits }
-    ensures { (start : Start) (conds : List CondOf) → start.stages ≡ visits
+        × (covers_patrol (sys_of start) (visit_sets conds) ≡ true)
+        × NotedLast start conds notes.now }
+    requires actions { patrol.actions ≡ length enc.old.actions }
+    requires few { patrol.visits ≤ most_visits }
+    ensures { (start : Start) (conds : List CondOf) → start.stages ≡ patrol.visits
         → HasPatrol start conds (enc.old, board.old.slots.items) 0
         → covers_patrol (sys_of start) (visit_sets conds) ≡ true
+        → NotedLast start conds notes.now
         → Left start (enc.new, board.new.slots.items)
         (HasPatrol start conds (enc.new, board.new.slots.items) start.stages) result }
 {
-    for i in 0..visits {
-        take_visit(
-            enc,
-            board,
-            means,
-            visit_at(i),
-            takers_at(means.actions, visits, i),
-        )?;
+    for i in 0..patrol.visits {
+        let at = SharePlaces {
+            near: LEFT,
+            rest: visit_at(i),
+            takers: takers_at(patrol.actions, patrol.visits, i),
+        };
+        take_visit(enc, board, patrol.actions, steps_of(notes, i as usize), at)?;
     }
     Ok(())
 }

@@ -1,9 +1,13 @@
 //! The states of the contexts, from the last one back.
 
-ghost use Rattle.std.specs.Prelude.{◌≡◌, ◌≤◌, ◌+◌, ◌<◌, length};
+ghost use Rattle.std.specs.Prelude.{◌≡◌, ◌≤◌, ◌+◌, ◌<◌, ◌++◌, [], ◌∷◌, length, IfErr, OnOk};
 ghost use Rattle.patrol_plan.specs.Chains.{IsConditionOver, IsUntilOver, until_sets};
 ghost use Rattle.slot_board.specs.Board as board_specs;
-ghost use Rattle.patrol_plan.specs.Scenes.{IsAt, IsReady, Left, Start, board_of, states_at};
+ghost use Rattle.ctl_syntax.specs.Conditions.{states_of};
+ghost use Rattle.slot_board.specs.Board.{Ends};
+ghost use Rattle.patrol_plan.specs.Noted.{AreStepsFrom, NotedStages, steps_at};
+ghost use Rattle.patrol_plan.specs.Scenes.{IsAt, IsReady, Left, Start, board_of, guarded};
+ghost use Rattle.patrol_plan.specs.Scenes.{states_at};
 ghost use Rattle.patrol_plan.specs.Sizes.{EndFits, IsSmall, SearchFits, StageFits};
 ghost use Rattle.patrol_plan.specs.Steps.{EndWon, HasKept, HasWins, StageMet, StageWon, met_by};
 
@@ -13,7 +17,7 @@ use crate::rounds::{Way, turn_all};
 use ctl_syntax::{UntilChain, UntilStage};
 use dd_sets::SetErr;
 use encode_task::Enc;
-use slot_board::{Board, Operation};
+use slot_board::{Board, Operation, Step};
 use task_core::Cond;
 
 /// Finds the states in which a condition holds. A list of truth values that is no state is left out:
@@ -88,7 +92,7 @@ fn win_stage(
     means: Means,
     stage: &UntilStage,
     place: usize,
-) -> Result<(), SetErr>
+) -> Result<Vec<Step>, SetErr>
     requires ready { (start : Start) × IsReady start (enc.old, board.old.slots.items)
         × StageFits start stage.now (states_at (enc.old, board.old.slots.items) (place + 2)) }
     requires actions { means.actions ≡ length enc.old.actions }
@@ -98,37 +102,63 @@ fn win_stage(
     requires high { 8 ≤ place }
     ensures { (start : Start) → IsReady start (enc.old, board.old.slots.items)
         → StageFits start stage.now (states_at (enc.old, board.old.slots.items) (place + 2))
-        → Left start (enc.new, board.new.slots.items)
-        (StageWon start (enc.old, board.old.slots.items) (enc.new, board.new.slots.items) place
-        stage.now) result }
+        → Ends (board_of start) enc.new board.new.slots.items
+        (λ steps. StageWon start (enc.old, board.old.slots.items)
+        (enc.new, board.new.slots.items) place stage.now
+        × AreStepsFrom (guarded start (states_of stage.now.guard))
+        (met_by (enc.old, board.old.slots.items) place stage.now.target) 0 0 steps.items) result }
 {
     meet_stage(enc, board, &stage.target, place)?;
     board.condition(enc, GUARD, &stage.guard)?;
-    turn_all(enc, board, means, Way::Growing, place + 1)?;
-    board.copy_of(enc, place, NEAR)
+    let steps = turn_all(enc, board, means, Way::Growing, place + 1)?;
+    board.copy_of(enc, place, NEAR)?;
+    Ok(steps)
 }
 
-/// Finds the states of all contexts.
+/// Puts a list of steps behind the others.
+pub(crate) fn keep_steps(notes: &mut Vec<Vec<Step>>, steps: Vec<Step>) -> Result<(), SetErr>
+    ensures kept { OnOk result (notes.new.items ≡ notes.old.items ++ steps ∷ []) }
+    ensures never_full { IfErr result (λ e. e ≡ SetErr.Memory) }
+{
+    match notes.push(steps) {
+        Ok(()) => Ok(()),
+        Err(_) => Err(SetErr::Memory),
+    }
+}
+
+/// The list of steps at a place.
+pub(crate) fn steps_of(notes: &[Vec<Step>], place: usize) -> &[Step]
+    requires { place < length notes.now }
+    ensures { result.now ≡ steps_at notes.now place }
+{
+    &notes[place]
+}
+
+/// Finds the states of all contexts: for each stage, from the last one back, the steps that found
+/// them.
 pub(crate) fn win_all(
     enc: &mut Enc,
     board: &mut Board,
     means: Means,
     chain: &UntilChain,
-) -> Result<(), SetErr>
+) -> Result<Vec<Vec<Step>>, SetErr>
     requires ready { (start : Start) × IsAt start (enc.old, board.old.slots.items)
         × (start.stages ≡ length chain.now.stages.items) × SearchFits start chain.now }
     requires actions { means.actions ≡ length enc.old.actions }
     requires chain { IsUntilOver enc.old.sets.vars chain.now }
     ensures { (start : Start) → IsAt start (enc.old, board.old.slots.items)
         → start.stages ≡ length chain.now.stages.items → SearchFits start chain.now
-        → Left start (enc.new, board.new.slots.items)
-        (HasWins start (enc.old, board.old.slots.items) (enc.new, board.new.slots.items)
-        (until_sets chain.now) 0) result }
+        → Ends (board_of start) enc.new board.new.slots.items
+        (λ notes. HasWins start (enc.old, board.old.slots.items)
+        (enc.new, board.new.slots.items) (until_sets chain.now) 0
+        × NotedStages start (until_sets chain.now) 0 notes.items) result }
 {
     let stages = chain.stages.len() as u32;
+    let mut notes = Vec::new(means.alloc);
     win_end(enc, board, means, &chain.keep, win_at(stages))?;
     for i in (0..stages).rev() {
-        win_stage(enc, board, means, &chain.stages[i as usize], win_at(i))?;
+        let steps = win_stage(enc, board, means, &chain.stages[i as usize], win_at(i))?;
+        keep_steps(&mut notes, steps)?;
     }
-    Ok(())
+    Ok(notes)
 }

@@ -1,9 +1,11 @@
 use Rattle.patrol_plan.proofs.SizeSteps.{hit_fits}
 use Rattle.patrol_plan.proofs.RoundSteps.{leads_more, leads_all}
+use Rattle.patrol_plan.proofs.NotedSteps.{noted_more}
 use Rattle.patrol_plan.proofs.SpentSteps.{spent_begun}
+use Rattle.patrol_plan.specs.Noted.{LedBy}
 use Rattle.patrol_plan.specs.Scenes.{board_of, states_at}
 use Rattle.slot_board.proofs.BoardSlots.{went, passed, made_at, same_actions}
-use Rattle.std.proofs.Common.{◌≡◌, ◌∙◌, arith, length, sym}
+use Rattle.std.proofs.Common.{◌≡◌, ◌∙◌, arith, length, subst, sym}
 use Rattle.std.proofs.lemmas.Result.{err_from_is_err_and}
 use Rattle.task_core.specs.Tasks.{action_count}
 use Rattle.patrol_plan.proofs.rounds.lead_all.Goals as goal
@@ -16,7 +18,7 @@ returns-in_err-begin_next c start ready fits marks =
 pub loop-a-init : goal.loop-a-init
 loop-a-init c start ready fits marks =
     let l = went (board_of start) c.begin_next.new.enc c.begin_next.new.board.slots.items _ c.begin_next.result _ c.in_ok-begin_next.was (c.begin_next.ensures start ready (fits.turned c.args.turning.way 0 (omega arith))) in
-    (l, spent_begun c.args.turning.way start (c.args.enc.now, c.args.board.now.slots.items) (c.begin_next.new.enc, c.begin_next.new.board.slots.items) c.args.spent.now.items l marks)
+    (l, spent_begun c.args.turning.way start (c.args.enc.now, c.args.board.now.slots.items) (c.begin_next.new.enc, c.begin_next.new.board.slots.items) c.args.spent.now.items l marks, λ set k same led. led)
 
 pub add_hits-requires-clause-long : goal.add_hits-requires-clause-long
 add_hits-requires-clause-long c =
@@ -40,10 +42,16 @@ returns-in_err-add_hits c start ready fits marks =
 
 pub loop-a-preserved : goal.loop-a-preserved
 loop-a-preserved c start ready fits marks =
-    let w = went (board_of start) c.add_hits.new.enc c.add_hits.new.board.slots.items _ c.add_hits.result _ c.in_ok-add_hits.was (c.add_hits.ensures start (c.loop-a.invariant start ready fits marks).0.worked.ready (hit_fits c.args.turning.way start (states_at (c.args.enc.now, c.args.board.now.slots.items) 0) _ _ c.loop-a.a (c.loop-a.invariant start ready fits marks).0.near (c.loop-a.invariant start ready fits marks).0.next (let e : length c.args.enc.now.actions ≡ action_count start.task = (made_at (board_of start) c.args.enc.now c.args.board.now.slots.items ready.at).actions in omega (arith, c.requires.actions)) fits) (c.loop-a.invariant start ready fits marks).1) in
-    (leads_more c.args.turning.way start (c.args.enc.now, c.args.board.now.slots.items) (c.loop-a.enc, c.loop-a.board.slots.items) (c.add_hits.new.enc, c.add_hits.new.board.slots.items) c.loop-a.a (c.loop-a.invariant start ready fits marks).0 w.0, w.1)
+    let w = went (board_of start) c.add_hits.new.enc c.add_hits.new.board.slots.items _ c.add_hits.result _ c.in_ok-add_hits.was (c.add_hits.ensures start (c.loop-a.invariant start ready fits marks).0.worked.ready (hit_fits c.args.turning.way start (states_at (c.args.enc.now, c.args.board.now.slots.items) 0) _ _ c.loop-a.a (c.loop-a.invariant start ready fits marks).0.near (c.loop-a.invariant start ready fits marks).0.next (let e : length c.args.enc.now.actions ≡ action_count start.task = (made_at (board_of start) c.args.enc.now c.args.board.now.slots.items ready.at).actions in omega (arith, c.requires.actions)) fits) (c.loop-a.invariant start ready fits marks).1) in (
+      leads_more c.args.turning.way start (c.args.enc.now, c.args.board.now.slots.items) (c.loop-a.enc, c.loop-a.board.slots.items) (c.add_hits.new.enc, c.add_hits.new.board.slots.items) c.loop-a.a (c.loop-a.invariant start ready fits marks).0 w.0,
+      w.1,
+      λ set k same led.
+          noted_more c.args.turning.way start (c.args.enc.now, c.args.board.now.slots.items) (c.loop-a.enc, c.loop-a.board.slots.items) (record { 0 = c.loop-a.a }) c.loop-a.steps.items c.add_hits.new.steps.items set k
+          (let e : length c.args.enc.now.actions ≡ action_count start.task = (made_at (board_of start) c.args.enc.now c.args.board.now.slots.items ready.at).actions in omega (arith, c.requires.actions))
+          (c.loop-a.invariant start ready fits marks).0 w.2 same ((c.loop-a.invariant start ready fits marks).2 set k same led),
+    )
 
 pub returns : goal.returns
 returns c start ready fits marks =
     let e : length c.args.enc.now.actions ≡ action_count start.task = (made_at (board_of start) c.args.enc.now c.args.board.now.slots.items ready.at).actions in
-    (leads_all c.args.turning.way start (c.args.enc.now, c.args.board.now.slots.items) (c.loop-a.enc, c.loop-a.board.slots.items) c.loop-a.a (omega (arith, c.requires.actions)) (c.loop-a.invariant start ready fits marks).0, (c.loop-a.invariant start ready fits marks).1)
+    (leads_all c.args.turning.way start (c.args.enc.now, c.args.board.now.slots.items) (c.loop-a.enc, c.loop-a.board.slots.items) c.loop-a.a (omega (arith, c.requires.actions)) (c.loop-a.invariant start ready fits marks).0, (c.loop-a.invariant start ready fits marks).1, λ set k same led. subst (λ n. LedBy c.args.turning.way start set k n c.loop-a.steps.items) (let f : c.loop-a.a ≡ action_count start.task = omega (arith, e, c.requires.actions) in f) ((c.loop-a.invariant start ready fits marks).2 set k same led))

@@ -1,112 +1,111 @@
-use Rattle.patrol_plan.proofs.SizeSteps.{climb_first, climb_next}
-use Rattle.patrol_plan.proofs.SceneSteps.{low, same_length}
-use Rattle.patrol_plan.proofs.TakerSteps.{climbed_first, climbed_more, climbed_last, climbed_less}
-use Rattle.patrol_plan.proofs.SpentSteps.{memory_passed, none_marked}
-use Rattle.patrol_plan.specs.Scenes.{board_of, states_at}
-use Rattle.patrol_plan.specs.declared.rounds.Way.TheVariants.{Growing}
-use Rattle.slot_board.proofs.BoardSlots.{went, passed, made_at, same_actions, same_fluents}
-use Rattle.std.proofs.Common.{◌≡◌, arith, length, suc}
+-- Where the stage is met first, then step by step.
+use Rattle.std.proofs.Common.{◌≡◌, ◌+◌, arith, drop, inl, length, subst, sym}
+use Rattle.std.proofs.lemmas.List.{drop_all, drop_more}
 use Rattle.std.proofs.lemmas.Result.{err_from_is_err_and}
-use Rattle.task_core.specs.Tasks.{action_count}
+use Rattle.slot_board.specs.Board.{Fits}
+use Rattle.slot_board.specs.declared.steps.Step.TheVariants.{Grow}
+use Rattle.slot_board.proofs.BoardSlots.{passed, same_actions, went}
+use Rattle.patrol_plan.specs.Noted.{RetracedOn}
+use Rattle.patrol_plan.specs.Scenes.{board_of}
+use Rattle.patrol_plan.proofs.RetracedSteps.{retraced_all, retraced_first}
+use Rattle.patrol_plan.proofs.SceneSteps.{low, same_length}
+use Rattle.patrol_plan.proofs.SizeSteps.{at_small, climb_first}
+use Rattle.patrol_plan.proofs.TakerFits.{within_now}
 use Rattle.patrol_plan.proofs.takers.climb.Goals as goal
 
-pub climb_from-requires-clause-ready : goal.climb_from-requires-clause-ready
-climb_from-requires-clause-ready c = let r = c.requires.ready in (r.0, r.1, climb_first r.0 _ _ r.2, (none_marked Growing r.0 (states_at (c.args.enc.now, c.args.board.now.slots.items) c.args.met) c.in_ok-spent.spent.items c.args.means.actions (let e : length c.args.enc.now.actions ≡ action_count r.0.task = (made_at (board_of r.0) c.args.enc.now c.args.board.now.slots.items r.1.at).actions in omega (arith, c.requires.actions)) c.in_ok-spent.ensures.long c.in_ok-spent.ensures.none))
+pub copy_of-requires-clause-working : goal.copy_of-requires-clause-working
+copy_of-requires-clause-working c = (board_of c.requires.ready.0, c.requires.ready.1.at)
 
-pub climb_from-requires-clause-place : goal.climb_from-requires-clause-place
-climb_from-requires-clause-place c = omega (arith, c.requires.apart, c.requires.places)
+pub copy_of-requires-clause-place : goal.copy_of-requires-clause-place
+copy_of-requires-clause-place c = low c.requires.ready.0 (c.args.enc.now, c.args.board.now.slots.items) c.requires.ready.1.at 0 (omega arith)
 
-pub climb_from-requires-clause-high : goal.climb_from-requires-clause-high
-climb_from-requires-clause-high c = omega (arith, c.requires.met, c.requires.apart)
+pub copy_of-requires-clause-from : goal.copy_of-requires-clause-from
+copy_of-requires-clause-from c = omega (arith, c.requires.apart, c.requires.places)
 
-pub returns-in_err-climb_from : goal.returns-in_err-climb_from
-returns-in_err-climb_from c start ready fits =
-    let p = err_from_is_err_and c.from_residual-in_err-climb_from.result c.from_residual-in_err-climb_from.ensures.1 in
-    passed (board_of start) c.climb_from.new.enc c.climb_from.new.board.slots.items _ _ c.climb_from.result c.from_residual-in_err-climb_from.result _ c.in_err-climb_from.was p (c.climb_from.ensures start ready (climb_first start _ _ fits) (none_marked Growing start (states_at (c.args.enc.now, c.args.board.now.slots.items) c.args.met) c.in_ok-spent.spent.items c.args.means.actions (let e : length c.args.enc.now.actions ≡ action_count start.task = (made_at (board_of start) c.args.enc.now c.args.board.now.slots.items ready.at).actions in omega (arith, c.requires.actions)) c.in_ok-spent.ensures.long c.in_ok-spent.ensures.none))
+pub returns-in_err-copy_of : goal.returns-in_err-copy_of
+returns-in_err-copy_of c start ready fits follows =
+    let small = at_small start (c.args.enc.now, c.args.board.now.slots.items) c.args.met (climb_first start _ _ fits).round.itself in
+    passed (board_of start) c.copy_of.new.enc c.copy_of.new.self.slots.items _ _ c.copy_of.result c.from_residual.result _ c.in_err-copy_of.was (err_from_is_err_and c.from_residual.result c.from_residual.ensures.1) (c.copy_of.ensures (board_of start) ready.at (inl small))
 
-pub loop-means-init : goal.loop-means-init
-loop-means-init c start ready fits =
-    let t = went (board_of start) c.climb_from.new.enc c.climb_from.new.board.slots.items _ c.climb_from.result _ c.in_ok-climb_from.was (c.climb_from.ensures start ready (climb_first start _ _ fits) (none_marked Growing start (states_at (c.args.enc.now, c.args.board.now.slots.items) c.args.met) c.in_ok-spent.spent.items c.args.means.actions (let e : length c.args.enc.now.actions ≡ action_count start.task = (made_at (board_of start) c.args.enc.now c.args.board.now.slots.items ready.at).actions in omega (arith, c.requires.actions)) c.in_ok-spent.ensures.long c.in_ok-spent.ensures.none)) in
-    (0, climbed_first start (c.args.enc.now, c.args.board.now.slots.items) (c.climb_from.new.enc, c.climb_from.new.board.slots.items) c.args.met c.args.takers t.0, t.1)
-
-pub returns-in_err-spent : goal.returns-in_err-spent
-returns-in_err-spent c start ready fits =
-    memory_passed start (c.args.enc.now, c.args.board.now.slots.items) _ c.none_spent.result c.from_residual.result _ c.in_err-spent.was (err_from_is_err_and c.from_residual.result c.from_residual.ensures.1) c.none_spent.ensures.never_full ready.at
-
-pub is_same-requires-clause-working : goal.is_same-requires-clause-working
-is_same-requires-clause-working c =
+pub copy_of-requires-2-clause-working : goal.copy_of-requires-2-clause-working
+copy_of-requires-2-clause-working c =
     let start = c.requires.ready.0 in
     let ready = c.requires.ready.1 in
     let fits = c.requires.ready.2 in
-    (board_of start, (c.loop-means.invariant start ready fits).1.changed.ready.at)
+    let small = at_small start (c.args.enc.now, c.args.board.now.slots.items) c.args.met (climb_first start _ _ fits).round.itself in
+    let m = went (board_of start) c.copy_of.new.enc c.copy_of.new.self.slots.items _ c.copy_of.result _ c.in_ok-copy_of.was (c.copy_of.ensures (board_of start) ready.at (inl small)) in
+    (board_of start, m.at)
 
-pub is_same-requires-clause-a : goal.is_same-requires-clause-a
-is_same-requires-clause-a c =
+pub copy_of-requires-2-clause-place : goal.copy_of-requires-2-clause-place
+copy_of-requires-2-clause-place c =
     let start = c.requires.ready.0 in
     let ready = c.requires.ready.1 in
     let fits = c.requires.ready.2 in
-    low start (c.loop-means.enc, c.loop-means.board.slots.items) (c.loop-means.invariant start ready fits).1.changed.ready.at 1 (omega arith)
+    let small = at_small start (c.args.enc.now, c.args.board.now.slots.items) c.args.met (climb_first start _ _ fits).round.itself in
+    let m = went (board_of start) c.copy_of.new.enc c.copy_of.new.self.slots.items _ c.copy_of.result _ c.in_ok-copy_of.was (c.copy_of.ensures (board_of start) ready.at (inl small)) in
+    low start (c.copy_of.new.enc, c.copy_of.new.self.slots.items) m.at 1 (omega arith)
 
-pub is_same-requires-clause-b : goal.is_same-requires-clause-b
-is_same-requires-clause-b c =
+pub copy_of-requires-2-clause-from : goal.copy_of-requires-2-clause-from
+copy_of-requires-2-clause-from c =
     let start = c.requires.ready.0 in
     let ready = c.requires.ready.1 in
     let fits = c.requires.ready.2 in
-    low start (c.loop-means.enc, c.loop-means.board.slots.items) (c.loop-means.invariant start ready fits).1.changed.ready.at 0 (omega arith)
+    let small = at_small start (c.args.enc.now, c.args.board.now.slots.items) c.args.met (climb_first start _ _ fits).round.itself in
+    let m = went (board_of start) c.copy_of.new.enc c.copy_of.new.self.slots.items _ c.copy_of.result _ c.in_ok-copy_of.was (c.copy_of.ensures (board_of start) ready.at (inl small)) in
+    low start (c.copy_of.new.enc, c.copy_of.new.self.slots.items) m.at 0 (omega arith)
 
-pub climb_from-requires-in-loop-means-clause-ready : goal.climb_from-requires-in-loop-means-clause-ready
-climb_from-requires-in-loop-means-clause-ready c =
+pub returns-in_err-copy_of-2 : goal.returns-in_err-copy_of-2
+returns-in_err-copy_of-2 c start ready fits follows =
+    let small = at_small start (c.args.enc.now, c.args.board.now.slots.items) c.args.met (climb_first start _ _ fits).round.itself in
+    let m = went (board_of start) c.copy_of.new.enc c.copy_of.new.self.slots.items _ c.copy_of.result _ c.in_ok-copy_of.was (c.copy_of.ensures (board_of start) ready.at (inl small)) in
+    let again = subst (Fits (board_of start) 1) (sym m.here) (inl small) in
+    passed (board_of start) c.copy_of-2.new.enc c.copy_of-2.new.self.slots.items _ _ c.copy_of-2.result c.from_residual-in_err-copy_of-2.result _ c.in_err-copy_of-2.was (err_from_is_err_and c.from_residual-in_err-copy_of-2.result c.from_residual-in_err-copy_of-2.ensures.1) (c.copy_of-2.ensures (board_of start) m.at again)
+
+pub loop-step-init : goal.loop-step-init
+loop-step-init c start ready fits follows =
+    let small = at_small start (c.args.enc.now, c.args.board.now.slots.items) c.args.met (climb_first start _ _ fits).round.itself in
+    let m = went (board_of start) c.copy_of.new.enc c.copy_of.new.self.slots.items _ c.copy_of.result _ c.in_ok-copy_of.was (c.copy_of.ensures (board_of start) ready.at (inl small)) in
+    let again = subst (Fits (board_of start) 1) (sym m.here) (inl small) in
+    let w = went (board_of start) c.copy_of-2.new.enc c.copy_of-2.new.self.slots.items _ c.copy_of-2.result _ c.in_ok-copy_of-2.was (c.copy_of-2.ensures (board_of start) m.at again) in
+    retraced_first start (c.args.enc.now, c.args.board.now.slots.items) (c.copy_of.new.enc, c.copy_of.new.self.slots.items) (c.copy_of-2.new.enc, c.copy_of-2.new.self.slots.items) c.args.met c.args.takers c.args.steps.now (omega (arith, c.requires.met, c.requires.apart)) (within_now start (c.args.enc.now, c.args.board.now.slots.items) c.args.takers ready.at (omega (arith, c.requires.places))) ready m w follows
+
+pub retrace_step-requires-clause-ready : goal.retrace_step-requires-clause-ready
+retrace_step-requires-clause-ready c =
     let start = c.requires.ready.0 in
     let ready = c.requires.ready.1 in
     let fits = c.requires.ready.2 in
-    (start, (c.loop-means.invariant start ready fits).1.changed.ready, (climb_next start (c.args.enc.now, c.args.board.now.slots.items) (c.loop-means.enc, c.loop-means.board.slots.items) c.args.met c.args.takers (c.loop-means.invariant start ready fits).0 (c.loop-means.invariant start ready fits).1 fits), (c.loop-means.invariant start ready fits).2)
+    let follows = c.requires.ready.3 in
+    let more = drop_more c.args.steps.now c.loop-step.step-index (Grow (record { 0 = 0 })) c.loop-step-test.true in
+    let at = subst (RetracedOn start (c.args.enc.now, c.args.board.now.slots.items) (c.loop-step.enc, c.loop-step.board.slots.items) c.args.met c.args.takers) more (c.loop-step.invariant start ready fits follows) in
+    (start, (c.args.enc.now, c.args.board.now.slots.items), c.args.met, drop (c.loop-step.step-index + 1) c.args.steps.now, at, fits)
 
-pub climb_from-requires-in-loop-means-clause-actions : goal.climb_from-requires-in-loop-means-clause-actions
-climb_from-requires-in-loop-means-clause-actions c =
+pub retrace_step-requires-clause-places : goal.retrace_step-requires-clause-places
+retrace_step-requires-clause-places c =
     let start = c.requires.ready.0 in
     let ready = c.requires.ready.1 in
     let fits = c.requires.ready.2 in
-    let e : length c.loop-means.enc.actions ≡ length c.args.enc.now.actions = same_actions (board_of start) c.args.enc.now c.loop-means.enc c.args.board.now.slots.items c.loop-means.board.slots.items ready.at (c.loop-means.invariant start ready fits).1.changed.ready.at in
-    omega (arith, c.requires.actions)
-
-pub climb_from-requires-in-loop-means-clause-place : goal.climb_from-requires-in-loop-means-clause-place
-climb_from-requires-in-loop-means-clause-place c =
-    let start = c.requires.ready.0 in
-    let ready = c.requires.ready.1 in
-    let fits = c.requires.ready.2 in
-    low start (c.loop-means.enc, c.loop-means.board.slots.items) (c.loop-means.invariant start ready fits).1.changed.ready.at 1 (omega arith)
-
-pub climb_from-requires-in-loop-means-clause-places : goal.climb_from-requires-in-loop-means-clause-places
-climb_from-requires-in-loop-means-clause-places c =
-    let start = c.requires.ready.0 in
-    let ready = c.requires.ready.1 in
-    let fits = c.requires.ready.2 in
-    let l : length c.loop-means.board.slots.items ≡ length c.args.board.now.slots.items = same_length start (c.args.enc.now, c.args.board.now.slots.items) (c.loop-means.enc, c.loop-means.board.slots.items) ready.at (c.loop-means.invariant start ready fits).1.changed.ready.at in
+    let follows = c.requires.ready.3 in
+    let now = (c.loop-step.invariant start ready fits follows).3.climbs.changed.ready.at in
+    let e : length c.loop-step.enc.actions ≡ length c.args.enc.now.actions = same_actions (board_of start) c.args.enc.now c.loop-step.enc c.args.board.now.slots.items c.loop-step.board.slots.items ready.at now in
+    let l : length c.loop-step.board.slots.items ≡ length c.args.board.now.slots.items = same_length start (c.args.enc.now, c.args.board.now.slots.items) (c.loop-step.enc, c.loop-step.board.slots.items) ready.at now in
     omega (arith, c.requires.places)
 
-pub climb_from-requires-in-loop-means-clause-high : goal.climb_from-requires-in-loop-means-clause-high
-climb_from-requires-in-loop-means-clause-high c = omega (arith, c.requires.met, c.requires.apart)
+pub retrace_step-requires-clause-high : goal.retrace_step-requires-clause-high
+retrace_step-requires-clause-high c = omega (arith, c.requires.met, c.requires.apart)
 
-pub returns-in_err-climb_from-2 : goal.returns-in_err-climb_from-2
-returns-in_err-climb_from-2 c start ready fits =
-    let p = err_from_is_err_and c.from_residual-in_err-climb_from-2.result c.from_residual-in_err-climb_from-2.ensures.1 in
-    passed (board_of start) c.climb_from-in-loop-means.new.enc c.climb_from-in-loop-means.new.board.slots.items _ _ c.climb_from-in-loop-means.result c.from_residual-in_err-climb_from-2.result _ c.in_err-climb_from-2.was p (c.climb_from-in-loop-means.ensures start (c.loop-means.invariant start ready fits).1.changed.ready (climb_next start (c.args.enc.now, c.args.board.now.slots.items) (c.loop-means.enc, c.loop-means.board.slots.items) c.args.met c.args.takers (c.loop-means.invariant start ready fits).0 (c.loop-means.invariant start ready fits).1 fits) (c.loop-means.invariant start ready fits).2)
+pub returns-in_err-retrace_step : goal.returns-in_err-retrace_step
+returns-in_err-retrace_step c start ready fits follows =
+    let more = drop_more c.args.steps.now c.loop-step.step-index (Grow (record { 0 = 0 })) c.loop-step-test.true in
+    let at = subst (RetracedOn start (c.args.enc.now, c.args.board.now.slots.items) (c.loop-step.enc, c.loop-step.board.slots.items) c.args.met c.args.takers) more (c.loop-step.invariant start ready fits follows) in
+    passed (board_of start) c.retrace_step.new.enc c.retrace_step.new.board.slots.items _ _ c.retrace_step.result c.from_residual-in_err-retrace_step.result _ c.in_err-retrace_step.was (err_from_is_err_and c.from_residual-in_err-retrace_step.result c.from_residual-in_err-retrace_step.ensures.1) (c.retrace_step.ensures start (c.args.enc.now, c.args.board.now.slots.items) c.args.met (drop (c.loop-step.step-index + 1) c.args.steps.now) at fits)
 
-pub loop-means-smaller : goal.loop-means-smaller
-loop-means-smaller c =
-    let start = c.requires.ready.0 in
-    let ready = c.requires.ready.1 in
-    let fits = c.requires.ready.2 in
-    let e : length c.args.enc.now.actions ≡ action_count start.task = (made_at (board_of start) c.args.enc.now c.args.board.now.slots.items ready.at).actions in
-    climbed_less start (c.args.enc.now, c.args.board.now.slots.items) (c.loop-means.enc, c.loop-means.board.slots.items) (c.climb_from-in-loop-means.new.enc, c.climb_from-in-loop-means.new.board.slots.items) c.args.met c.args.takers (c.loop-means.invariant start ready fits).0 c.args.enc.now.fluents (c.loop-means.invariant start ready fits).1
-    (λ same. let e = c.is_same.ensures.1 same in let f = c.loop-means-test.true in cc)
-    (same_fluents (board_of start) c.args.enc.now c.args.board.now.slots.items ready.at)
-    ((went (board_of start) c.climb_from-in-loop-means.new.enc c.climb_from-in-loop-means.new.board.slots.items _ c.climb_from-in-loop-means.result _ c.in_ok-climb_from-2.was (c.climb_from-in-loop-means.ensures start (c.loop-means.invariant start ready fits).1.changed.ready (climb_next start (c.args.enc.now, c.args.board.now.slots.items) (c.loop-means.enc, c.loop-means.board.slots.items) c.args.met c.args.takers (c.loop-means.invariant start ready fits).0 (c.loop-means.invariant start ready fits).1 fits) (c.loop-means.invariant start ready fits).2)).0)
-
-pub loop-means-preserved : goal.loop-means-preserved
-loop-means-preserved c start ready fits =
-    let e : length c.args.enc.now.actions ≡ action_count start.task = (made_at (board_of start) c.args.enc.now c.args.board.now.slots.items ready.at).actions in
-    (suc (c.loop-means.invariant start ready fits).0, climbed_more start (c.args.enc.now, c.args.board.now.slots.items) (c.loop-means.enc, c.loop-means.board.slots.items) (c.climb_from-in-loop-means.new.enc, c.climb_from-in-loop-means.new.board.slots.items) c.args.met c.args.takers (c.loop-means.invariant start ready fits).0 (omega (arith, c.requires.met, c.requires.apart)) (let l : length c.loop-means.board.slots.items ≡ length c.args.board.now.slots.items = same_length start (c.args.enc.now, c.args.board.now.slots.items) (c.loop-means.enc, c.loop-means.board.slots.items) ready.at (c.loop-means.invariant start ready fits).1.changed.ready.at in omega (arith, c.requires.places, c.requires.actions)) (c.loop-means.invariant start ready fits).1 (went (board_of start) c.climb_from-in-loop-means.new.enc c.climb_from-in-loop-means.new.board.slots.items _ c.climb_from-in-loop-means.result _ c.in_ok-climb_from-2.was (c.climb_from-in-loop-means.ensures start (c.loop-means.invariant start ready fits).1.changed.ready (climb_next start (c.args.enc.now, c.args.board.now.slots.items) (c.loop-means.enc, c.loop-means.board.slots.items) c.args.met c.args.takers (c.loop-means.invariant start ready fits).0 (c.loop-means.invariant start ready fits).1 fits) (c.loop-means.invariant start ready fits).2)).0, (went (board_of start) c.climb_from-in-loop-means.new.enc c.climb_from-in-loop-means.new.board.slots.items _ c.climb_from-in-loop-means.result _ c.in_ok-climb_from-2.was (c.climb_from-in-loop-means.ensures start (c.loop-means.invariant start ready fits).1.changed.ready (climb_next start (c.args.enc.now, c.args.board.now.slots.items) (c.loop-means.enc, c.loop-means.board.slots.items) c.args.met c.args.takers (c.loop-means.invariant start ready fits).0 (c.loop-means.invariant start ready fits).1 fits) (c.loop-means.invariant start ready fits).2)).1)
+pub loop-step-preserved : goal.loop-step-preserved
+loop-step-preserved c start ready fits follows =
+    let more = drop_more c.args.steps.now c.loop-step.step-index (Grow (record { 0 = 0 })) c.loop-step-test.true in
+    let at = subst (RetracedOn start (c.args.enc.now, c.args.board.now.slots.items) (c.loop-step.enc, c.loop-step.board.slots.items) c.args.met c.args.takers) more (c.loop-step.invariant start ready fits follows) in
+    went (board_of start) c.retrace_step.new.enc c.retrace_step.new.board.slots.items _ c.retrace_step.result _ c.in_ok-retrace_step.was (c.retrace_step.ensures start (c.args.enc.now, c.args.board.now.slots.items) c.args.met (drop (c.loop-step.step-index + 1) c.args.steps.now) at fits)
 
 pub returns : goal.returns
-returns c start ready fits = climbed_last start (c.args.enc.now, c.args.board.now.slots.items) (c.loop-means.enc, c.loop-means.board.slots.items) c.args.met c.args.takers (c.loop-means.invariant start ready fits).0 (c.loop-means.invariant start ready fits).1 (c.is_same.ensures.0 (let f = c.loop-means-test.false in cc))
+returns c start ready fits follows =
+    retraced_all start (c.args.enc.now, c.args.board.now.slots.items) (c.loop-step.enc, c.loop-step.board.slots.items) c.args.met c.args.takers
+    (subst (RetracedOn start (c.args.enc.now, c.args.board.now.slots.items) (c.loop-step.enc, c.loop-step.board.slots.items) c.args.met c.args.takers) (drop_all c.loop-step.step-index c.args.steps.now (omega (arith, c.loop-step-test.false))) (c.loop-step.invariant start ready fits follows))

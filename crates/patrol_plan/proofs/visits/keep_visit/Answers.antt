@@ -1,6 +1,8 @@
 use Rattle.std.proofs.Common.{◌≡◌, arith, length, subst, sym}
 use Rattle.std.proofs.lemmas.Result.{err_from_is_err_and}
-use Rattle.slot_board.proofs.BoardSlots.{left_with, passed, same_actions, went}
+use Rattle.slot_board.proofs.BoardSlots.{same_actions, went}
+use Rattle.patrol_plan.proofs.NotedSteps.{answered, refused}
+use Rattle.patrol_plan.proofs.VisitNotes.{visit_steps}
 use Rattle.patrol_plan.specs.PatrolSizes.{within_round}
 use Rattle.patrol_plan.specs.PatrolSteps.{visit_place}
 use Rattle.patrol_plan.specs.Scenes.{board_of, states_at}
@@ -24,7 +26,7 @@ meet_visit-requires-clause-ready c =
 
 pub returns-in_err-meet_visit : goal.returns-in_err-meet_visit
 returns-in_err-meet_visit c start conds r i place less is_visit h =
-    passed (board_of start) c.meet_visit.new.enc c.meet_visit.new.board.slots.items _ _ c.meet_visit.result c.from_residual.result _ c.in_err-meet_visit.was (err_from_is_err_and c.from_residual.result c.from_residual.ensures.1) (c.meet_visit.ensures start conds r i place less is_visit h)
+    refused start (c.meet_visit.new.enc, c.meet_visit.new.board.slots.items) _ _ c.meet_visit.result c.from_residual.result _ c.in_err-meet_visit.was (err_from_is_err_and c.from_residual.result c.from_residual.ensures.1) (c.meet_visit.ensures start conds r i place less is_visit h)
 
 pub turn_all-requires-clause-ready : goal.turn_all-requires-clause-ready
 turn_all-requires-clause-ready c =
@@ -67,12 +69,12 @@ turn_all-requires-clause-place c =
     let m = went (board_of start) c.meet_visit.new.enc c.meet_visit.new.board.slots.items _ c.meet_visit.result _ c.in_ok-meet_visit.was (c.meet_visit.ensures start conds r i place less is_visit h) in
     let w = visit_low start (c.meet_visit.new.enc, c.meet_visit.new.board.slots.items) m.visits.stay.ready.at m.visits.stay.some (visit_place i) (let e = m.visits.stay.count in omega arith) in omega (arith, place)
 
-pub returns-in_err-turn_all : goal.returns-in_err-turn_all
-returns-in_err-turn_all c start conds r i place less is_visit h =
+pub returns-in_err-steps : goal.returns-in_err-steps
+returns-in_err-steps c start conds r i place less is_visit h =
     let m = went (board_of start) c.meet_visit.new.enc c.meet_visit.new.board.slots.items _ c.meet_visit.result _ c.in_ok-meet_visit.was (c.meet_visit.ensures start conds r i place less is_visit h) in
     let at = m.visits.stay.ready in
     let turns = subst (λ k. TurnsFit Growing (within_round start conds r) (states_at (c.meet_visit.new.enc, c.meet_visit.new.board.slots.items) k)) (sym place) (met_turns start conds (c.meet_visit.new.enc, c.meet_visit.new.board.slots.items) r i less m) in
-    passed (board_of start) c.turn_all.new.enc c.turn_all.new.board.slots.items _ _ c.turn_all.result c.from_residual-in_err-turn_all.result _ c.in_err-turn_all.was (err_from_is_err_and c.from_residual-in_err-turn_all.result c.from_residual-in_err-turn_all.ensures.1) (c.turn_all.ensures (within_round start conds r) at turns)
+    refused start (c.turn_all.new.enc, c.turn_all.new.board.slots.items) _ _ c.turn_all.result c.from_residual-in_err-steps.result _ c.in_err-steps.was (err_from_is_err_and c.from_residual-in_err-steps.result c.from_residual-in_err-steps.ensures.1) (c.turn_all.ensures (within_round start conds r) at turns)
 
 pub combine-requires-clause-working : goal.combine-requires-clause-working
 combine-requires-clause-working c =
@@ -87,8 +89,8 @@ combine-requires-clause-working c =
     let m = went (board_of start) c.meet_visit.new.enc c.meet_visit.new.board.slots.items _ c.meet_visit.result _ c.in_ok-meet_visit.was (c.meet_visit.ensures start conds r i place less is_visit h) in
     let at = m.visits.stay.ready in
     let turns = subst (λ k. TurnsFit Growing (within_round start conds r) (states_at (c.meet_visit.new.enc, c.meet_visit.new.board.slots.items) k)) (sym place) (met_turns start conds (c.meet_visit.new.enc, c.meet_visit.new.board.slots.items) r i less m) in
-    let t = went (board_of start) c.turn_all.new.enc c.turn_all.new.board.slots.items _ c.turn_all.result _ c.in_ok-turn_all.was (c.turn_all.ensures (within_round start conds r) at turns) in
-    (board_of start, t.worked.ready.at)
+    let t = answered start (c.turn_all.new.enc, c.turn_all.new.board.slots.items) _ c.turn_all.result _ c.in_ok-steps.was (c.turn_all.ensures (within_round start conds r) at turns) in
+    (board_of start, t.0.worked.ready.at)
 
 pub combine-requires-clause-place : goal.combine-requires-clause-place
 combine-requires-clause-place c =
@@ -103,8 +105,8 @@ combine-requires-clause-place c =
     let m = went (board_of start) c.meet_visit.new.enc c.meet_visit.new.board.slots.items _ c.meet_visit.result _ c.in_ok-meet_visit.was (c.meet_visit.ensures start conds r i place less is_visit h) in
     let at = m.visits.stay.ready in
     let turns = subst (λ k. TurnsFit Growing (within_round start conds r) (states_at (c.meet_visit.new.enc, c.meet_visit.new.board.slots.items) k)) (sym place) (met_turns start conds (c.meet_visit.new.enc, c.meet_visit.new.board.slots.items) r i less m) in
-    let t = went (board_of start) c.turn_all.new.enc c.turn_all.new.board.slots.items _ c.turn_all.result _ c.in_ok-turn_all.was (c.turn_all.ensures (within_round start conds r) at turns) in
-    visit_low start (c.turn_all.new.enc, c.turn_all.new.board.slots.items) t.worked.ready.at h.stay.some 10 (omega arith)
+    let t = answered start (c.turn_all.new.enc, c.turn_all.new.board.slots.items) _ c.turn_all.result _ c.in_ok-steps.was (c.turn_all.ensures (within_round start conds r) at turns) in
+    visit_low start (c.turn_all.new.enc, c.turn_all.new.board.slots.items) t.0.worked.ready.at h.stay.some 10 (omega arith)
 
 pub combine-requires-clause-a : goal.combine-requires-clause-a
 combine-requires-clause-a c =
@@ -119,8 +121,8 @@ combine-requires-clause-a c =
     let m = went (board_of start) c.meet_visit.new.enc c.meet_visit.new.board.slots.items _ c.meet_visit.result _ c.in_ok-meet_visit.was (c.meet_visit.ensures start conds r i place less is_visit h) in
     let at = m.visits.stay.ready in
     let turns = subst (λ k. TurnsFit Growing (within_round start conds r) (states_at (c.meet_visit.new.enc, c.meet_visit.new.board.slots.items) k)) (sym place) (met_turns start conds (c.meet_visit.new.enc, c.meet_visit.new.board.slots.items) r i less m) in
-    let t = went (board_of start) c.turn_all.new.enc c.turn_all.new.board.slots.items _ c.turn_all.result _ c.in_ok-turn_all.was (c.turn_all.ensures (within_round start conds r) at turns) in
-    visit_low start (c.turn_all.new.enc, c.turn_all.new.board.slots.items) t.worked.ready.at h.stay.some 10 (omega arith)
+    let t = answered start (c.turn_all.new.enc, c.turn_all.new.board.slots.items) _ c.turn_all.result _ c.in_ok-steps.was (c.turn_all.ensures (within_round start conds r) at turns) in
+    visit_low start (c.turn_all.new.enc, c.turn_all.new.board.slots.items) t.0.worked.ready.at h.stay.some 10 (omega arith)
 
 pub combine-requires-clause-b : goal.combine-requires-clause-b
 combine-requires-clause-b c =
@@ -135,16 +137,26 @@ combine-requires-clause-b c =
     let m = went (board_of start) c.meet_visit.new.enc c.meet_visit.new.board.slots.items _ c.meet_visit.result _ c.in_ok-meet_visit.was (c.meet_visit.ensures start conds r i place less is_visit h) in
     let at = m.visits.stay.ready in
     let turns = subst (λ k. TurnsFit Growing (within_round start conds r) (states_at (c.meet_visit.new.enc, c.meet_visit.new.board.slots.items) k)) (sym place) (met_turns start conds (c.meet_visit.new.enc, c.meet_visit.new.board.slots.items) r i less m) in
-    let t = went (board_of start) c.turn_all.new.enc c.turn_all.new.board.slots.items _ c.turn_all.result _ c.in_ok-turn_all.was (c.turn_all.ensures (within_round start conds r) at turns) in
-    visit_low start (c.turn_all.new.enc, c.turn_all.new.board.slots.items) t.worked.ready.at h.stay.some 0 (omega arith)
+    let t = answered start (c.turn_all.new.enc, c.turn_all.new.board.slots.items) _ c.turn_all.result _ c.in_ok-steps.was (c.turn_all.ensures (within_round start conds r) at turns) in
+    visit_low start (c.turn_all.new.enc, c.turn_all.new.board.slots.items) t.0.worked.ready.at h.stay.some 0 (omega arith)
 
 pub returns : goal.returns
 returns c start conds r i place less is_visit h =
     let m = went (board_of start) c.meet_visit.new.enc c.meet_visit.new.board.slots.items _ c.meet_visit.result _ c.in_ok-meet_visit.was (c.meet_visit.ensures start conds r i place less is_visit h) in
     let at = m.visits.stay.ready in
     let turns = subst (λ k. TurnsFit Growing (within_round start conds r) (states_at (c.meet_visit.new.enc, c.meet_visit.new.board.slots.items) k)) (sym place) (met_turns start conds (c.meet_visit.new.enc, c.meet_visit.new.board.slots.items) r i less m) in
-    let t = went (board_of start) c.turn_all.new.enc c.turn_all.new.board.slots.items _ c.turn_all.result _ c.in_ok-turn_all.was (c.turn_all.ensures (within_round start conds r) at turns) in
-    let last = subst (λ k. HasLast Growing (within_round start conds r) (c.meet_visit.new.enc, c.meet_visit.new.board.slots.items) (c.turn_all.new.enc, c.turn_all.new.board.slots.items) (states_at (c.meet_visit.new.enc, c.meet_visit.new.board.slots.items) k)) place t in
-    left_with (board_of start) c.combine.new.enc c.combine.new.self.slots.items _ _ c.combine.result
-    (λ z. visits_more start conds (c.meet_visit.new.enc, c.meet_visit.new.board.slots.items) (c.turn_all.new.enc, c.turn_all.new.board.slots.items) r i less m last (c.combine.new.enc, c.combine.new.self.slots.items) z)
-    (c.combine.ensures (board_of start) t.worked.ready.at (kept_fits start conds (c.meet_visit.new.enc, c.meet_visit.new.board.slots.items) (c.turn_all.new.enc, c.turn_all.new.board.slots.items) r i less m last))
+    let t = answered start (c.turn_all.new.enc, c.turn_all.new.board.slots.items) _ c.turn_all.result _ c.in_ok-steps.was (c.turn_all.ensures (within_round start conds r) at turns) in
+    let last = subst (λ k. HasLast Growing (within_round start conds r) (c.meet_visit.new.enc, c.meet_visit.new.board.slots.items) (c.turn_all.new.enc, c.turn_all.new.board.slots.items) (states_at (c.meet_visit.new.enc, c.meet_visit.new.board.slots.items) k)) place t.0 in
+    let z = went (board_of start) c.combine.new.enc c.combine.new.self.slots.items _ c.combine.result _ c.in_ok-combine.was (c.combine.ensures (board_of start) t.0.worked.ready.at (kept_fits start conds (c.meet_visit.new.enc, c.meet_visit.new.board.slots.items) (c.turn_all.new.enc, c.turn_all.new.board.slots.items) r i less m last)) in (
+      visits_more start conds (c.meet_visit.new.enc, c.meet_visit.new.board.slots.items) (c.turn_all.new.enc, c.turn_all.new.board.slots.items) r i less m last (c.combine.new.enc, c.combine.new.self.slots.items) z,
+      visit_steps start conds (c.meet_visit.new.enc, c.meet_visit.new.board.slots.items) r i c.args.place c.in_ok-steps.steps.items place m.met t.1,
+    )
+
+pub returns-in_err-combine : goal.returns-in_err-combine
+returns-in_err-combine c start conds r i place less is_visit h =
+    let m = went (board_of start) c.meet_visit.new.enc c.meet_visit.new.board.slots.items _ c.meet_visit.result _ c.in_ok-meet_visit.was (c.meet_visit.ensures start conds r i place less is_visit h) in
+    let at = m.visits.stay.ready in
+    let turns = subst (λ k. TurnsFit Growing (within_round start conds r) (states_at (c.meet_visit.new.enc, c.meet_visit.new.board.slots.items) k)) (sym place) (met_turns start conds (c.meet_visit.new.enc, c.meet_visit.new.board.slots.items) r i less m) in
+    let t = answered start (c.turn_all.new.enc, c.turn_all.new.board.slots.items) _ c.turn_all.result _ c.in_ok-steps.was (c.turn_all.ensures (within_round start conds r) at turns) in
+    let last = subst (λ k. HasLast Growing (within_round start conds r) (c.meet_visit.new.enc, c.meet_visit.new.board.slots.items) (c.turn_all.new.enc, c.turn_all.new.board.slots.items) (states_at (c.meet_visit.new.enc, c.meet_visit.new.board.slots.items) k)) place t.0 in
+    refused start (c.combine.new.enc, c.combine.new.self.slots.items) _ _ c.combine.result c.from_residual-in_err-combine.result _ c.in_err-combine.was (err_from_is_err_and c.from_residual-in_err-combine.result c.from_residual-in_err-combine.ensures.1) (c.combine.ensures (board_of start) t.0.worked.ready.at (kept_fits start conds (c.meet_visit.new.enc, c.meet_visit.new.board.slots.items) (c.turn_all.new.enc, c.turn_all.new.board.slots.items) r i less m last))
