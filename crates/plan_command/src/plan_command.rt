@@ -205,11 +205,7 @@ fn plan_class(
 
 /// The plan for a task, or that there is none, with the certificate of that where it is wanted; or
 /// `None` where there is no initial state.
-fn plan_task(
-    alloc: Global,
-    wanted: &ClassSearch,
-    task: &Task,
-) -> Result<Option<Planned>, SetErr>
+fn plan_task(alloc: Global, wanted: &ClassSearch, task: &Task) -> Result<Option<Planned>, SetErr>
     requires room { IsNodeLimit wanted.now.nodes }
     requires goal { IsSome task.now.goal }
     ensures none { IfOk result (λ found. found ≡ None → initial_states task.now ≡ []) }
