@@ -232,7 +232,7 @@ fn class_verdict(
         → IfOk result (IsVerdict (system_of task.now) rules class) }
 {
     let short = short_task(alloc, task)?;
-    // The short task has a goal where the task has one. No clause says so, so the task serves else.
+    // The short task has a goal if the task has one. No clause says so; without one the task is judged.
     let asked = if short.goal.is_some() { &short } else { task };
     judge_class(alloc, asked, graph, class)
 }
