@@ -1,13 +1,13 @@
 -- The elements of a list: of a list with one more, of a map, a filter, a flat map and a range, and
 -- tests over a list against its elements.
-use Rattle.std.proofs.Common.{◌≡◌, ◌≢◌, ℕ, zero, suc, ◌+◌, ◌<◌, Bool, true, false, cond, List, [], ◌∷◌, ◌++◌, length, get_or, None, Some, refl, sym, ap, ◌∙◌, subst, arith, inl, inr, ⊎_elim}
+use Rattle.std.proofs.Common.{◌≡◌, ◌≢◌, ℕ, zero, suc, ◌+◌, ◌<◌, ◌≤◌, Bool, true, false, cond, List, [], ◌∷◌, ◌++◌, length, get_or, take, None, Some, refl, sym, ap, ◌∙◌, subst, arith, append_assoc, inl, inr, ⊎_elim}
 use Rattle.std.specs.Prelude.{map, slice_get, ◌||◌, ◌⊎◌}
 use Rattle.std.specs.List.{All, Contains, list_any, list_all, find, filter, flat_map, range_with_len}
 use Rattle.std.proofs.lemmas.Bool.{false≢true, true≢false, or_cases, or_left, or_right, or_parts, or_from, and_parts, and_from, cond-true, cond-false}
-use Rattle.std.proofs.lemmas.List.Elements.{Contains-append_left, Contains-append_right, Contains-append_cases}
-use Rattle.std.proofs.lemmas.List.{get_or-map, length-map}
+use Rattle.std.proofs.lemmas.List.Elements.{All-more, Contains-append_left, Contains-append_right, Contains-append_cases}
+use Rattle.std.proofs.lemmas.List.{get_or-map, length-map, take_all}
 use Rattle.std.proofs.lemmas.List.FromFn.{length-range_with_len, get_or-range_with_len}
-use Rattle.std.proofs.lemmas.Option.{none-some, same_Some}
+use Rattle.std.proofs.lemmas.Option.{none-some, same_Some, slice_get_within, get_or_from_slice_get}
 
 pub Contains-head : {X : Type 0} (x : X) (xs : List X) → Contains (x ∷ xs) x
 Contains-head x xs = (0, omega arith, refl)
@@ -163,3 +163,22 @@ map-range f g (x ∷ xs) a same =
 pub map-map : {X Y Z : Type 0} (g : Y → Z) (h : X → Y) (xs : List X) → map g (map h xs) ≡ map (λ x. g (h x)) xs
 map-map g h [] = refl
 map-map g h (x ∷ xs) = ap (λ l. g (h x) ∷ l) (map-map g h xs)
+
+-- the element at a place
+pub contains_at : {X : Type 0} (xs : List X) (k : ℕ) (x : X) → slice_get xs k ≡ Some x → Contains xs x
+contains_at xs k x e = (k, slice_get_within xs k x e, get_or_from_slice_get xs k x x e)
+
+-- a pass over a list that has come one element further, or to the end
+pub one_reached : {X : Type 0} (P : X → Type 0) (xs : List X) (i : ℕ) (x : X) → i < length xs → x ≡ get_or xs i x → All P (take i xs) → P x → All P (take (i + 1) xs)
+one_reached P xs i x h is all here = All-more P xs i x h all (subst P is here)
+
+pub all_reached : {X : Type 0} (P : X → Type 0) (xs ys : List X) (i : ℕ) → length xs ≤ i → xs ≡ ys → All P (take i xs) → All P ys
+all_reached P xs ys i past same all = subst (All P) (take_all i xs past ∙ same) all
+
+-- lists that are appended one after another
+pub pushed_two : {X : Type 0} (old a b mid new : List X) → mid ≡ old ++ a → new ≡ mid ++ b → new ≡ old ++ (a ++ b)
+pushed_two old a b mid new first second = second ∙ ap (λ xs. xs ++ b) first ∙ append_assoc old a b
+
+pub pushed_four : {X : Type 0} (old a b c d m1 m2 m3 new : List X) → m1 ≡ old ++ a → m2 ≡ m1 ++ b → m3 ≡ m2 ++ c → new ≡ m3 ++ d → new ≡ old ++ (((a ++ b) ++ c) ++ d)
+pushed_four old a b c d m1 m2 m3 new e f g h =
+    pushed_two old ((a ++ b) ++ c) d m3 new (pushed_two old (a ++ b) c m2 m3 (pushed_two old a b m1 m2 e f) g) h

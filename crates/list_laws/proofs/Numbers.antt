@@ -30,3 +30,6 @@ least_bit (suc (suc x)) y hx hy = absurd (omega arith)
 
 pub trichotomy : (x y : ℕ) → (x < y) ⊎ (x ≡ y) ⊎ (y < x)
 trichotomy x y = grind arith
+
+pub below_power_two : (n : ℕ) → n + 2 ≤ 2 ^ n + 1
+below_power_two n = omega (arith, below_power n)
