@@ -17,7 +17,7 @@ use Rattle.ctl_syntax.proofs.Parts.{each_mapped, each_weaker}
 use Rattle.fair_plan.specs.Found.{CanBeHad, IsFairPlannersAnswer}
 use Rattle.fair_plan.specs.declared.found.FairFound.{FairFound}
 use Rattle.fair_plan.specs.declared.found.FairFound.TheVariants.{NoPlan, Plan}
-use Rattle.fair_plan.specs.Goals.{IsConditionOver, IsFairGoalOver}
+use Rattle.fair_plan.specs.Goals.{IsFairGoalOver}
 use Rattle.fair_theory.specs.FairGoals.{both, fair_chain, fair_tree}
 use Rattle.fair_theory.specs.FairPlans.{HasNoFairPlan, IsTrueFairly, sets_of_goal}
 use Rattle.fair_theory.specs.FairSets.{SetGoal}
@@ -33,7 +33,7 @@ use Rattle.plan_io.specs.Held.{Held}
 use Rattle.plan_rules.specs.Denoted.{denoted_contexts}
 use Rattle.plan_rules.specs.Rules.{PlainPlan, automaton, table}
 use Rattle.controller_rules.specs.AsRun.{HasNoDeadRule, HasOneMove}
-use Rattle.task_core.specs.Conditions.{depth, ids_below, is_shallow}
+use Rattle.task_core.specs.Conditions.{IsConditionOver, depth, ids_below, is_shallow}
 use Rattle.task_core.specs.Systems.{System}
 use Rattle.task_core.specs.Tasks.{fluent_count, initial_states, system_of}
 use Rattle.task_core.specs.declared.conditions.Cond.{Cond}
@@ -53,7 +53,7 @@ use Rattle.command_base.specs.declared.answers.Refusal.{Refusal as CodeRefusal}
 use Rattle.command_base.specs.declared.answers.Shown.{Shown}
 use Rattle.plan_command.specs.ContextGoals.{part_count}
 use Rattle.plan_command.specs.FoundGoals.{StandsForGoal}
-use Rattle.plan_command.specs.GoalConditions.{HasSomeVisit, count_of, limit_of_goal, sets_of_goal as plan_sets}
+use Rattle.plan_command.specs.GoalConditions.{limit_of_goal, sets_of_goal as plan_sets}
 use Rattle.plan_command.specs.GoalSets.{goal_sets}
 use Rattle.plan_command.specs.PlanCommand.{no_plan_text}
 use Rattle.controller_plan.specs.FairControllers.{FairThen, HasLongFairText, IsFairAnswer, IsFairController, IsFairResult, IsFairShown, IsTried, MeetsFairly, fair_goal_of, fair_sets, most_fair_parts}
@@ -66,6 +66,7 @@ use Rattle.controller_plan.specs.declared.fair_controllers.FairTask.{FairTask}
 use Rattle.controller_plan.specs.declared.made.Wanted.{Wanted}
 use Rattle.controller_plan.specs.Judged.{CanBeJudged, HasLongJudged, IsFoundGood, IsJudged, IsJudgedShown, IsMadeRefusal}
 use Rattle.controller_plan.proofs.Yes.{text_long, text_shown}
+use Rattle.ctl_syntax.specs.GoalSizes.{HasSomeVisit, count_of}
 
 -- what is known of goals whose actions may be tried again
 abbrev pub FairGoalsAreTrue : Type 0
