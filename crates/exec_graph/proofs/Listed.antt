@@ -93,9 +93,6 @@ all_added_length xs (y ∷ ys) =
     let rest = all_added_length (add_configuration xs y) ys in
     omega arith
 
-pub none_differ : AreDifferent []
-none_differ i j d l h = absurd (omega arith)
-
 -- configurations that are all different are added one after another
 pub first_differs : (x : Configuration) (xs : List Configuration) → AreDifferent (x ∷ xs) → Contains xs x → ⊥
 first_differs x xs differ c = let l : c.0 < length xs = c.1 in differ zero (suc c.0) x (omega arith) (omega arith) (sym c.2)
