@@ -5,7 +5,6 @@ use Rattle.std.specs.List.{Contains, fold, list_any}
 use Rattle.std.specs.Option.{option_map, option_and_then}
 use Rattle.std.proofs.lemmas.Bool.{false≢true, and_parts, and_from, or_cases, or_left, or_right, eqb-true, eq-eqb}
 use Rattle.std.proofs.lemmas.Option.{none-some, same_Some}
-use Rattle.task_core.proofs.EntryStates.{none_differ}
 use Rattle.task_core.specs.Vectors.{Vector}
 use Rattle.task_core.specs.Systems.{System, Exec, IsState, IsSystem}
 use Rattle.task_core.specs.Tables.{Leads}
@@ -16,7 +15,7 @@ use Rattle.plan_rules.specs.Rules.{PlanRule, PlanNext, ContextRule, PlainPlan, a
 use Rattle.exec_graph.specs.Counting.{Moved, advised_in_table, moves_by, moves_from, no_moves, onward_to, with_outcome, with_rule, with_table_rule}
 use Rattle.plan_rules.specs.Advices.{Advised, advised_by}
 use Rattle.exec_graph.specs.Executions.{GoesTo, HasBadAction, HasBadRule, HasLostOutcome, IsStuckAt, IsUnexecutableAt}
-use Rattle.exec_graph.proofs.Listed.{AreDifferent, all_added_has, all_added_only, all_added_differ}
+use Rattle.exec_graph.proofs.Listed.{AreDifferent, all_added_has, all_added_only, all_added_differ, none_differ}
 use Rattle.plan_rules.proofs.DenotedPairs.{can_execute-Exec, can_execute-outcome, cannot-refused, refused-cannot, denoted-from, denoted-pair}
 use Rattle.list_laws.proofs.Elements.{Contains-cases, Contains-cons, Contains-head, Contains-nil, list_any-from, list_any-witness}
 use Rattle.list_laws.proofs.Booleans.{or_false, or_assoc}
