@@ -24,7 +24,6 @@ use Rattle.plan_check.specs.declared.verdicts.Verdict.TheVariants.{Yes, No}
 use Rattle.plan_io.specs.Held.{Held}
 use Rattle.plan_rules.specs.Denoted.{denoted_contexts}
 use Rattle.plan_rules.specs.Rules.{PlainPlan, table, automaton}
-use Rattle.sexpr_text.specs.declared.forms.Place.{Place}
 use Rattle.task_core.specs.ContextPlans.{Configuration, ContextPlan}
 use Rattle.task_core.specs.Names.{Name}
 use Rattle.task_core.specs.Systems.{System}
@@ -33,7 +32,7 @@ use Rattle.task_core.specs.declared.tasks.Task.{Task}
 use Rattle.command_base.specs.Answers.{Answer, Refusal, refused, no_memory}
 use Rattle.check_command.specs.CheckCommand.{CheckThen, ExploreThen, IsChecked, IsVerdictOf, ShowsVerdict, VerdictThen}
 use Rattle.command_base.specs.Following.{HasTooManyStates, most_followed}
-use Rattle.command_base.specs.Grounding.{GoalThen, GroundThen, has_goal_for}
+use Rattle.command_base.specs.Grounding.{GroundThen, has_goal_for}
 use Rattle.command_base.specs.InitialStates.{InitialThen, empty_init}
 use Rattle.check_command.specs.Judged.{HasGoalIn, IsTaskVerdict}
 use Rattle.command_base.specs.PlanFiles.{IsFaultyPlan, KindThen, PlacedPlan, SpellsPlaced}
@@ -45,20 +44,7 @@ use Rattle.command_base.proofs.Later.{read_over}
 use Rattle.command_base.proofs.TaskNames.{same_actions, same_fluents}
 use Rattle.command_base.proofs.TooMany.{too_many as too_many_states, too_many_back as too_many_states_back}
 use Rattle.command_base.proofs.TaskGoals.{goal_behind, has_some, has_some_back}
-
--- the same from what follows
-goal_map : (kind : PlanKind) (name : Bytes) (problem : ProblemTree) (P Q : Answer → Type 0) (a : Answer) → (P a → Q a) → GoalThen kind name problem P a → GoalThen kind name problem Q a
-goal_map kind name problem P Q a f (inl why) = inl why
-goal_map kind name problem P Q a f (inr (some, then)) = inr (some, f then)
-
-ground_map : (d : DomainTree) (p : ProblemTree) (P Q : Answer → Type 0) (a : Answer) → (P a → Q a) → GroundThen d p P a → GroundThen d p Q a
-ground_map d p P Q a f (inl why) = inl why
-ground_map d p P Q a f (inr (kept, then)) = inr (kept, f then)
-
-kind_map : (kind : PlanKind) (name : Bytes) (place : Place) (plan : PlainPlan) (P Q : Answer → Type 0) (a : Answer)
-    → (P a → Q a) → KindThen kind name place plan P a → KindThen kind name place plan Q a
-kind_map kind name place plan P Q a f (inl why) = inl why
-kind_map kind name place plan P Q a f (inr (is, then)) = inr (is, f then)
+use Rattle.command_base.proofs.WhatFollows.{goal_map, ground_map, kind_map}
 
 -- what is said from a later state of the shelf holds from the command's start
 checked_over : (held held' : Bytes → Held) (failed failed' : Bytes → Type 0) (asked : CheckWords) (d : DomainTree) (p : ProblemTree) (a : Answer)

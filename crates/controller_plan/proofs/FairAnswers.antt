@@ -3,6 +3,7 @@ use Rattle.std.proofs.Common.{◌≡◌, ◌≢◌, ◌≤◌, ◌<◌, ◌⊎�
 use Rattle.std.specs.Prelude.{IfErr, IfOk, IfSome, Option, Result, Ok, Err, codes}
 use Rattle.std.proofs.lemmas.Bool.{le-leb}
 use Rattle.std.proofs.lemmas.List.Elements.{All-cons, All-head, All-nil, All-tail}
+use Rattle.std.proofs.lemmas.Option.{same_Some}
 use Rattle.ctl_syntax.specs.Conditions.{CondTree, condition_value}
 use Rattle.ctl_syntax.specs.ContextGoals.{PlainGoal, plain_patrol, plain_until}
 use Rattle.ctl_syntax.specs.GoalValues.{EachInStage, GoalIsAtMostDeep, GoalNamesBelow, stage_value, tree_of_goal}
@@ -104,15 +105,12 @@ module _ (n : ℕ) where
       (each_mapped condition_value Below (ctl_value made) (subst (EachPlain Below) (sym is) (tree_names goal names)))
 
 -- a plan that was judged by it has the goal
-one_goal : (f g : Ctl) → Some f ≡ Some g → g ≡ f
-one_goal f g same = cc
-
 module _ (law : FairGoalsAreTrue) (t : Task) (goal : ContextGoal) (made : Ctl) (is : IsTranslated goal made) where
   by_verdict : (plan : PlainPlan) (v : Verdict) → IsTaskVerdict with_contexts t (Some made) plan v → SaysYes v → MeetsFairly (system_of t) (sets_of_goal goal) plan
   by_verdict (table written rules) v never says = absurd never
   by_verdict (automaton contexts rules) v (formula, same, verdict) says =
       let plan = denoted_contexts rules in
-      let formula_is = one_goal made formula same in
+      let formula_is = same_Some formula made (sym same) in
       let met = (yes_met (system_of t) plan (IsTrueAt (system_of t) plan (ctl_value formula)) v verdict).0 says in
       record {
         complete = met.complete;

@@ -1,5 +1,5 @@
 -- From what follows the reading of both files to the answer, and from the answer to a run.
-use Rattle.std.proofs.Common.{◌≡◌, codes, ◌≢◌, ◌⊎◌, ◌≤◌, ℕ, List, [], ◌∷◌, Contains, get_or, length, map, inl, inr, refl, sym, subst, ap, ◌∙◌, arith, None, drop}
+use Rattle.std.proofs.Common.{◌≡◌, ◌≢◌, ◌⊎◌, ◌≤◌, ℕ, List, [], ◌∷◌, Contains, get_or, length, map, inl, inr, refl, sym, subst, ap, ◌∙◌, arith, None, drop}
 use Rattle.exec_graph.specs.Executions.{IsReachedBy, ReachesMoreThan}
 use Rattle.exec_graph.specs.Initials.{HasTooManyInitial}
 use Rattle.pddl_ast.specs.Trees.{DomainTree, ProblemTree}
@@ -16,7 +16,7 @@ use Rattle.task_core.specs.Systems.{System}
 use Rattle.task_core.specs.Tasks.{action_names as names_of_actions, fluent_names as names_of_fluents, initial_states, system_of}
 use Rattle.task_core.specs.Vectors.{Vector}
 use Rattle.task_core.specs.declared.tasks.Task.{Task}
-use Rattle.command_base.specs.Answers.{Answer, Refusal, no_memory, refused}
+use Rattle.command_base.specs.Answers.{Answer, no_memory, refused}
 use Rattle.command_base.specs.Faults.{IsQuietAt}
 use Rattle.command_base.specs.Following.{HasTooManyStates, most_followed}
 use Rattle.command_base.specs.InitialStates.{empty_init}
@@ -30,6 +30,7 @@ use Rattle.picture_plan.specs.Fetching.{FetchesToPicture}
 use Rattle.command_base.proofs.Initials.{initial_over}
 use Rattle.command_base.proofs.Later.{read_over}
 use Rattle.command_base.proofs.TaskNames.{same_actions, same_fluents}
+use Rattle.command_base.proofs.WhatFollows.{then_map}
 use Rattle.picture_plan.specs.Pictures.{DrawnOf, DrawnThen, IsFaultyExplanation, IsPictureAnswer, IsPictured, RunThen, ShowsPicture, TaskThen, most_for}
 use Rattle.picture_plan.specs.Runs.{HasPictureCause, HasPictured, PictureRun}
 use Rattle.picture_plan.specs.Words.{AskNothing, PictureForm, PictureWords, SaysPicture, as_graph, as_graph_with, as_page, as_page_with, as_rules, form_said, wrong_picture}
@@ -42,21 +43,16 @@ use Rattle.answer_help.specs.Keeping.{AreToldAs, KeepsAfter, held_by, kept_in}
 use Rattle.answer_help.specs.declared.keeping.KeepingShelf.{KeepingShelf}
 use Rattle.answer_help.proofs.HelpedFrames.{IsTold, is_helped_run, told_fetch}
 
--- what follows the reading of a file, or of a run
-read_map : {X : Type 0} (held : Bytes → Held) (failed : Bytes → Type 0) (name : Bytes) (Spells : Bytes → X → Type 0) (Wrong : Bytes → Bytes → Refusal → Type 0)
-    (Then Then' : X → Answer → Type 0) (a : Answer) → ((x : X) → Then x a → Then' x a) → ReadThen held failed name Spells Wrong Then a → ReadThen held failed name Spells Wrong Then' a
-read_map held failed name Spells Wrong Then Then' a over (inl why) = inl why
-read_map held failed name Spells Wrong Then Then' a over (inr (x, holds, then)) = inr (x, holds, over x then)
-
+-- what follows the reading of a run
 run_map : (held : Bytes → Held) (failed : Bytes → Type 0) (form : PictureForm) (Then Then' : Option PlainExplanation → Answer → Type 0) (a : Answer)
     → ((explanation : Option PlainExplanation) → Then explanation a → Then' explanation a) → RunThen held failed form Then a → RunThen held failed form Then' a
 run_map held failed as_graph Then Then' a over then = over None then
 run_map held failed (as_graph_with file) Then Then' a over then =
-    read_map held failed file TellsExplanation IsFaultyExplanation (λ (e : PlainExplanation). Then (Some e)) (λ (e : PlainExplanation). Then' (Some e)) a (λ e. over (Some e)) then
+    then_map held failed file TellsExplanation IsFaultyExplanation (λ (e : PlainExplanation). Then (Some e)) (λ (e : PlainExplanation). Then' (Some e)) a (λ e. over (Some e)) then
 run_map held failed as_rules Then Then' a over then = over None then
 run_map held failed as_page Then Then' a over then = over None then
 run_map held failed (as_page_with file) Then Then' a over then =
-    read_map held failed file TellsExplanation IsFaultyExplanation (λ (e : PlainExplanation). Then (Some e)) (λ (e : PlainExplanation). Then' (Some e)) a (λ e. over (Some e)) then
+    then_map held failed file TellsExplanation IsFaultyExplanation (λ (e : PlainExplanation). Then (Some e)) (λ (e : PlainExplanation). Then' (Some e)) a (λ e. over (Some e)) then
 
 -- what is said from a later state of the shelf holds from the start
 pub run_later : (held held' : Bytes → Held) (failed failed' : Bytes → Type 0) (form : PictureForm) (Then : Option PlainExplanation → Answer → Type 0) (a : Answer)
@@ -85,7 +81,7 @@ pictured_later held held' failed failed' asked d p a same over (inr (inr (within
     let Wrong = IsFaultyPlan (fluent_names d p) (action_names d p) in
     inr (inr (
       within,
-      read_map held failed asked.plan Spells Wrong (λ placed. RunThen held' failed' asked.form (DrawnThen asked d p placed)) (λ placed. RunThen held failed asked.form (DrawnThen asked d p placed)) a
+      then_map held failed asked.plan Spells Wrong (λ placed. RunThen held' failed' asked.form (DrawnThen asked d p placed)) (λ placed. RunThen held failed asked.form (DrawnThen asked d p placed)) a
           (λ placed. run_later held held' failed failed' asked.form (DrawnThen asked d p placed) a same over)
           (read_over held held' failed failed' asked.plan Spells Wrong (λ placed. RunThen held' failed' asked.form (DrawnThen asked d p placed)) a same (over asked.plan) then),
     ))
@@ -122,7 +118,7 @@ task_answer held failed asked d p t a is system_is within (inl memory) = inl mem
 task_answer held failed asked d p t a is system_is within (inr then) =
     let Then : PlacedPlan → Answer → Type 0 = λ placed. RunThen held failed asked.form (DrawnThen asked d p placed) in
     let drawn : ReadThen held failed asked.plan (SpellsPlaced (names_of_fluents t) (names_of_actions t)) (IsFaultyPlan (names_of_fluents t) (names_of_actions t)) Then a =
-    read_map held failed asked.plan (SpellsPlaced (names_of_fluents t) (names_of_actions t)) (IsFaultyPlan (names_of_fluents t) (names_of_actions t))
+    then_map held failed asked.plan (SpellsPlaced (names_of_fluents t) (names_of_actions t)) (IsFaultyPlan (names_of_fluents t) (names_of_actions t))
     (λ placed. RunThen held failed asked.form (DrawnOf asked p t placed.plan)) Then a
     (λ placed. run_map held failed asked.form (DrawnOf asked p t placed.plan) (DrawnThen asked d p placed) a (λ run. drawn_for asked d p t placed run a is system_is)) then in
     let fluents_named = subst (λ (ns : List Name). ReadThen held failed asked.plan (SpellsPlaced ns (names_of_actions t)) (IsFaultyPlan ns (names_of_actions t)) Then a) (same_fluents d p t is) drawn in
