@@ -412,7 +412,7 @@ fn replay_words<'a>(words: &'a [String]) -> Option<ReplayWords<'a>>
 }
 
 /// The kind of plan of this name.
-fn kind_named(word: &str) -> Option<PlanKind>
+pub fn kind_named(word: &str) -> Option<PlanKind>
     ensures { MatchOption result ((kind : AskedKind) → word.now ≡ kind_word kind → ⊥)
         (λ kind. word.now ≡ kind_word (kind_of kind)) }
 {

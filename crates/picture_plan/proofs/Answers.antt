@@ -1,5 +1,5 @@
 -- From what follows the reading of both files to the answer, and from the answer to a run.
-use Rattle.std.proofs.Common.{◌≡◌, ◌≢◌, ◌⊎◌, ◌≤◌, ℕ, List, [], ◌∷◌, Contains, get_or, length, map, inl, inr, refl, sym, subst, ap, ◌∙◌, arith, None, drop}
+use Rattle.std.proofs.Common.{◌≡◌, ◌≢◌, ◌⊎◌, List, [], ◌∷◌, Contains, get_or, length, map, inl, inr, refl, sym, subst, ap, ◌∙◌, arith, None, drop}
 use Rattle.exec_graph.specs.Executions.{IsReachedBy, ReachesMoreThan}
 use Rattle.exec_graph.specs.Initials.{HasTooManyInitial}
 use Rattle.pddl_ast.specs.Trees.{DomainTree, ProblemTree}
@@ -17,31 +17,21 @@ use Rattle.task_core.specs.Tasks.{action_names as names_of_actions, fluent_names
 use Rattle.task_core.specs.Vectors.{Vector}
 use Rattle.task_core.specs.declared.tasks.Task.{Task}
 use Rattle.command_base.specs.Answers.{Answer, no_memory, refused}
-use Rattle.command_base.specs.Faults.{IsQuietAt}
 use Rattle.command_base.specs.Following.{HasTooManyStates, most_followed}
 use Rattle.command_base.specs.InitialStates.{empty_init}
 use Rattle.command_base.specs.PlanFiles.{IsFaultyPlan, PlacedPlan, SpellsPlaced}
 use Rattle.command_base.specs.Reading.{ReadThen}
 use Rattle.command_base.specs.Words.{Bytes}
 use Rattle.command_base.proofs.TooMany.{too_many as too_many_states, too_many_back as too_many_states_back}
-use Rattle.command_base.proofs.Frames.{IsGivenFor}
-use Rattle.command_base.specs.Frame.{FailedIn}
-use Rattle.picture_plan.specs.Fetching.{FetchesToPicture}
 use Rattle.command_base.proofs.Initials.{initial_over}
 use Rattle.command_base.proofs.Later.{read_over}
 use Rattle.command_base.proofs.TaskNames.{same_actions, same_fluents}
 use Rattle.command_base.proofs.WhatFollows.{then_map}
-use Rattle.picture_plan.specs.Pictures.{DrawnOf, DrawnThen, IsFaultyExplanation, IsPictureAnswer, IsPictured, RunThen, ShowsPicture, TaskThen, most_for}
-use Rattle.picture_plan.specs.Runs.{HasPictureCause, HasPictured, PictureRun}
-use Rattle.picture_plan.specs.Words.{AskNothing, PictureForm, PictureWords, SaysPicture, as_graph, as_graph_with, as_page, as_page_with, as_rules, form_said, wrong_picture}
+use Rattle.picture_plan.specs.Pictures.{DrawnOf, DrawnThen, IsFaultyExplanation, IsPictured, RunThen, ShowsPicture, TaskThen, most_for}
+use Rattle.picture_plan.specs.Words.{PictureForm, PictureWords, SaysPicture, as_graph, as_graph_with, as_page, as_page_with, as_rules, form_said}
 use Rattle.plan_page.specs.Explanations.{PlainExplanation, TellsExplanation}
 use Rattle.std.specs.Prelude.{Option, Some}
 use Rattle.std.proofs.lemmas.Option.{same_Some}
-use Rattle.picture_plan.proofs.PictureFetched.{over_picture, picture_for_memory}
-use Rattle.answer_help.specs.Helped.{IsHelpFor, IsHelpedDelivery}
-use Rattle.answer_help.specs.Keeping.{AreToldAs, KeepsAfter, held_by, kept_in}
-use Rattle.answer_help.specs.declared.keeping.KeepingShelf.{KeepingShelf}
-use Rattle.answer_help.proofs.HelpedFrames.{IsTold, is_helped_run, told_fetch}
 
 -- what follows the reading of a run
 run_map : (held : Bytes → Held) (failed : Bytes → Type 0) (form : PictureForm) (Then Then' : Option PlainExplanation → Answer → Type 0) (a : Answer)
@@ -176,31 +166,3 @@ one_asked words v w says says' =
     let rests : says.rest ≡ says'.rest = ap (drop 3) both in
     let forms : v.form ≡ w.form = same_Some v.form w.form (sym says.ends ∙ ap form_said rests ∙ says'.ends) in
     λ i. record { domain = domains i; problem = problems i; plan = plans i; form = forms i }
-
--- what was found for the words, and what was given for it
-module _ {S : Type 0} (held : S → Bytes → Held) (faults : S → ℕ) (fetched : S → Bytes → S → Type 0) (run : PictureRun S) where
-  pub has_pictured : (found given : Answer) (help : Bytes) → HasPictureCause (held run.shelf) (FailedIn faults fetched run) run.words found
-      → ((asked : PictureWords) → SaysPicture run.words asked → FetchesToPicture (held run.shelf) (FailedIn faults fetched run) fetched asked found run.shelf run.shelf_after)
-      → (AskNothing run.words → run.shelf_after ≡ run.shelf) → IsQuietAt found (faults run.shelf) (faults run.shelf_after)
-      → ((file : Bytes) → held run.shelf_after file ≡ held run.shelf file) → faults run.shelf ≤ faults run.shelf_after
-      → IsGivenFor found given → IsHelpFor (held run.shelf_after) (wrong_picture run.words) given help
-      → IsHelpedDelivery help given run.out run.out_after run.err run.err_after run.status → HasPictured held faults fetched run
-  has_pictured =
-      is_helped_run SaysPicture (IsPictureAnswer (held run.shelf) (FailedIn faults fetched run))
-      (FetchesToPicture (held run.shelf) (FailedIn faults fetched run) fetched) wrong_picture held faults run
-      (λ asked a was. picture_for_memory (held run.shelf) (FailedIn faults fetched run) fetched asked a run.shelf run.shelf_after was)
-
--- what is kept after a run can be what is told
-module _ {S : Type 0} (held : S → Bytes → Held) (failed : Bytes → Type 0) (fetched : S → Bytes → S → Type 0) where
-  pub told_after : (words : List Bytes) (answer : Answer) (before after : KeepingShelf S) → kept_in before ≡ []
-      → HasPictureCause (held_by held before) failed words answer
-      → ((asked : PictureWords) → SaysPicture words asked → FetchesToPicture (held_by held before) failed (KeepsAfter held fetched) asked answer before after)
-      → (AskNothing words → after ≡ before) → IsTold held after
-  told_after words answer before after none cause fetches unfetched = go cause where
-    begun : IsTold held before
-    begun = subst (AreToldAs (held_by held before)) (sym none) tt
-
-    go : HasPictureCause (held_by held before) failed words answer → IsTold held after
-    go (inl (nothing, is)) = subst (IsTold held) (sym (unfetched nothing)) begun
-    go (inr (asked, says, why)) =
-        over_picture (IsTold held) (held_by held before) failed (KeepsAfter held fetched) (told_fetch held fetched) asked answer before after (fetches asked says) begun
