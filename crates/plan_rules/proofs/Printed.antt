@@ -135,7 +135,7 @@ class_is_word Weak = fixed 119 (codes "eak") refl
 class_is_word Strong = fixed 115 (codes "trong") refl
 class_is_word Cyclic = fixed 99 (codes "yclic") refl
 
-table_shape : (w z : List ℕ) → codes "(plan table " ++ w ++ line_feed ++ z ++ codes ")" ++ line_feed ≡ in_parentheses (codes "plan" ++ (32 ∷ (codes "table" ++ (32 ∷ (w ++ (10 ∷ z)))))) ++ 10 ∷ []
+pub table_shape : (w z : List ℕ) → codes "(plan table " ++ w ++ line_feed ++ z ++ codes ")" ++ line_feed ≡ in_parentheses (codes "plan" ++ (32 ∷ (codes "table" ++ (32 ∷ (w ++ (10 ∷ z)))))) ++ 10 ∷ []
 table_shape w z = simp append_assoc
 
 abbrev pub table_row : List Name → List Name → Class → List PlanRule → Row
