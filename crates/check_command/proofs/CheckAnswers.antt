@@ -1,5 +1,5 @@
 -- The verdict on a plan of a task is that for the domain and the problem that the task comes from.
-use Rattle.std.proofs.Common.{◌≡◌, ◌⊎◌, ◌↔◌, List, inl, inr, refl, sym, subst, ap, ◌∙◌, None, Some, Option, true, []}
+use Rattle.std.proofs.Common.{◌≡◌, ◌⊎◌, List, inl, inr, refl, sym, subst, ap, ◌∙◌, None, Some, Option, true, []}
 use Rattle.std.specs.Option.{option_map}
 use Rattle.ctl_syntax.specs.Conditions.{condition_value}
 use Rattle.ctl_syntax.specs.Values.{ctl_value}
@@ -16,15 +16,13 @@ use Rattle.pddl_system.specs.Systems.{action_names, fluent_names, system}
 use Rattle.pddl_system.specs.Tasks.{TaskTree, condition_of, task_of}
 use Rattle.pddl_system.specs.Values.{task_value}
 use Rattle.plan_check.specs.Verdicts.{IsVerdict}
-use Rattle.plan_check.specs.ContextVerdicts.{IsContextVerdict, IsTrueAt, IsFreeOfContextReason, HasContextReason}
-use Rattle.plan_check.specs.declared.verdicts.Reason.{Reason}
-use Rattle.plan_check.specs.declared.verdicts.Reason.TheVariants.{Unexecutable, Stuck, Terminal, Cycle, Unreachable, Formula}
+use Rattle.plan_check.specs.ContextVerdicts.{IsContextVerdict, IsTrueAt}
 use Rattle.plan_check.specs.declared.verdicts.Verdict.{Verdict}
-use Rattle.plan_check.specs.declared.verdicts.Verdict.TheVariants.{Yes, No}
+use Rattle.plan_check.proofs.Carried.{verdict_carried}
 use Rattle.plan_io.specs.Held.{Held}
 use Rattle.plan_rules.specs.Denoted.{denoted_contexts}
 use Rattle.plan_rules.specs.Rules.{PlainPlan, table, automaton}
-use Rattle.task_core.specs.ContextPlans.{Configuration, ContextPlan}
+use Rattle.task_core.specs.ContextPlans.{ContextPlan}
 use Rattle.task_core.specs.Names.{Name}
 use Rattle.task_core.specs.Systems.{System}
 use Rattle.task_core.specs.Tasks.{action_names as names_of_actions, fluent_names as names_of_fluents, initial_states, system_of}
@@ -69,28 +67,6 @@ pub too_many_back : (d : DomainTree) (p : ProblemTree) (t : Task) → task_value
 too_many_back d p t is many =
     let back = too_many_states_back d p t is many in
     record { entries = many.entries; first = back.0; more = back.1 }
-
--- a verdict for one property of configurations is that for another that holds at the same ones
-module _ (sys : System) (plan : ContextPlan) (G H : Configuration → Type 0) (same : (x : Configuration) → G x ↔ H x) where
-  free_carried : (reason : Reason) → IsFreeOfContextReason sys plan G reason → IsFreeOfContextReason sys plan H reason
-  free_carried Unexecutable free = free
-  free_carried Stuck free = free
-  free_carried Terminal free = free
-  free_carried Cycle free = free
-  free_carried Unreachable free = free
-  free_carried Formula free = λ x initial. (same x).0 (free x initial)
-
-  reason_carried : (reason : Reason) → HasContextReason sys plan G reason → HasContextReason sys plan H reason
-  reason_carried Unexecutable has = has
-  reason_carried Stuck has = has
-  reason_carried Terminal has = has
-  reason_carried Cycle has = has
-  reason_carried Unreachable has = has
-  reason_carried Formula has = record { start = has.start; initial = has.initial; misses = λ h. has.misses ((same has.start).1 h) }
-
-  verdict_carried : (verdict : Verdict) → IsContextVerdict sys plan G verdict → IsContextVerdict sys plan H verdict
-  verdict_carried (Yes bound) is = record { free = λ reason. free_carried reason (is.free reason); unbounded = is.unbounded }
-  verdict_carried (No reason) is = record { has = reason_carried reason is.has; first = λ earlier before. free_carried earlier (is.first earlier before) }
 
 -- the verdict on a plan of a task is that for the domain and the problem
 context_verdict_for : GroundedGoalsAreTrue → (d : DomainTree) (p : ProblemTree) (sys : System) (formula : Ctl) (plan : ContextPlan) (v : Verdict) → sys ≡ system d p

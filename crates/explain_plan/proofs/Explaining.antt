@@ -4,6 +4,7 @@ use Rattle.std.proofs.Common.{◌≡◌, ◌⊎◌, Bool, List, inl, inr, refl, 
 use Rattle.std.specs.Option.{option_map}
 use Rattle.ctl_syntax.specs.declared.goals.Ctl.{Ctl}
 use Rattle.exec_graph.specs.Initials.{HasTooManyInitial}
+use Rattle.fair_theory.proofs.NamesBelow.{FairGoalsAreTrue}
 use Rattle.pddl_ast.specs.Trees.{DomainTree, ProblemTree}
 use Rattle.pddl_system.specs.CtlGoals.{ctl_goal_of, goal_value}
 use Rattle.pddl_system.specs.Laws.{GroundedGoalsAreTrue}
@@ -33,7 +34,7 @@ use Rattle.explain_plan.specs.Explained.{Explains, ExplainsIn, ExplainedThen, Fo
 use Rattle.explain_plan.specs.Fairly.{FairThen, GoalForThen, IsGoalFor, IsGoalRefusal}
 use Rattle.explain_plan.specs.Lined.{LinedPlan, SpellsLined}
 use Rattle.explain_plan.specs.Words.{ExplainWords}
-use Rattle.explain_plan.proofs.Fairness.{FairGoalsAreTrue, judged_as}
+use Rattle.explain_plan.proofs.Fairness.{judged_as}
 
 -- what is said from a later state of the shelf holds from the command's start
 explained_over : (held held' : Bytes → Held) (failed failed' : Bytes → Type 0) (asked : ExplainWords) (d : DomainTree) (p : ProblemTree) (a : Answer)

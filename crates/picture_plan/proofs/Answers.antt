@@ -1,7 +1,8 @@
 -- From what follows the reading of both files to the answer, and from the answer to a run.
 use Rattle.std.proofs.Common.{◌≡◌, ◌≢◌, ◌⊎◌, List, [], ◌∷◌, Contains, get_or, length, map, inl, inr, refl, sym, subst, ap, ◌∙◌, arith, None, drop}
-use Rattle.exec_graph.specs.Executions.{IsReachedBy, ReachesMoreThan}
+use Rattle.exec_graph.specs.Executions.{ReachesMoreThan}
 use Rattle.exec_graph.specs.Initials.{HasTooManyInitial}
+use Rattle.exec_graph.proofs.Reaching.{begins, reached_first}
 use Rattle.pddl_ast.specs.Trees.{DomainTree, ProblemTree}
 use Rattle.pddl_system.specs.Sizes.{first_passed}
 use Rattle.pddl_system.specs.Systems.{action_names, fluent_names, system}
@@ -9,7 +10,7 @@ use Rattle.pddl_system.specs.Tasks.{task_of}
 use Rattle.pddl_system.specs.Values.{task_value}
 use Rattle.plan_io.specs.Held.{Held}
 use Rattle.plan_picture.specs.Pictures.{IsPictureOf, PlainNode, configurations}
-use Rattle.plan_rules.specs.Rules.{PlainPlan, table, automaton}
+use Rattle.plan_rules.specs.Rules.{PlainPlan}
 use Rattle.task_core.specs.ContextPlans.{Configuration, first_context}
 use Rattle.task_core.specs.Names.{Name}
 use Rattle.task_core.specs.Systems.{System}
@@ -115,17 +116,6 @@ task_answer held failed asked d p t a is system_is within (inr then) =
     inr (inr (within, subst (λ (ns : List Name). ReadThen held failed asked.plan (SpellsPlaced (fluent_names d p) ns) (IsFaultyPlan (fluent_names d p) ns) Then a) (same_actions d p t is) fluents_named))
 
 -- a picture has nodes exactly where there is an initial state
-reached_first : (sys : System) (plan : PlainPlan) (s : Vector) → Contains sys.initial s → IsReachedBy sys plan (record { state = s; context = first_context })
-reached_first sys (table class rules) s listed =
-    (record { start = s; initial = listed; path = record { rest = []; path = tt; ends = refl } }, refl)
-reached_first sys (automaton contexts rules) s listed = record {
-  start = record { state = s; context = first_context };
-  initial = record { state = listed; context = refl };
-  rest = [];
-  path = tt;
-  ends = refl;
-}
-
 pub shows_nothing : (sys : System) (plan : PlainPlan) (nodes : List PlainNode) → IsPictureOf sys plan nodes → nodes ≡ [] → sys.initial ≡ []
 shows_nothing sys plan nodes is none = go sys.initial refl where
   go : (states : List Vector) → sys.initial ≡ states → states ≡ []
@@ -133,13 +123,9 @@ shows_nothing sys plan nodes is none = go sys.initial refl where
   go (s ∷ rest) same =
       let listed : Contains sys.initial s = subst (λ (vs : List Vector). Contains vs s) (sym same) (0, omega arith, refl) in
       let x : Configuration = record { state = s; context = first_context } in
-      let node = (is.reached x).1 (reached_first sys plan s listed) in
+      let node = (is.reached x).1 (reached_first sys plan x (record { state = listed; context = refl })) in
       let nowhere : Contains (configurations []) x = subst (λ (ns : List PlainNode). Contains (configurations ns) x) none node in
       absurd (let within = nowhere.1 in omega (arith, within))
-
-begins : (sys : System) (plan : PlainPlan) (x : Configuration) → IsReachedBy sys plan x → (s : Vector) × Contains sys.initial s
-begins sys (table class rules) x reached = (reached.0.start, reached.0.initial)
-begins sys (automaton contexts rules) x reached = (reached.start.state, reached.initial.state)
 
 pub shows_some : (sys : System) (plan : PlainPlan) (nodes : List PlainNode) → IsPictureOf sys plan nodes → nodes ≢ [] → sys.initial ≢ []
 shows_some sys plan [] is some none = some refl

@@ -226,7 +226,7 @@ pub refused_goal : (certified : Bool) (name : Bytes) (d : DomainTree) (p : Probl
 refused_goal certified name d p a none is = inl (none, is)
 
 -- the conditions of a goal are such as a search takes
-shallow_within : (cond : Cond) → depth cond ≤ 200 → is_shallow cond ≡ true
+pub shallow_within : (cond : Cond) → depth cond ≤ 200 → is_shallow cond ≡ true
 shallow_within cond deep = le-leb (depth cond) 200 deep
 
 all_shallow : (conds : List Cond) → All (λ (c : Cond). depth c ≤ 200) conds → All (λ (c : Cond). is_shallow c ≡ true) conds
