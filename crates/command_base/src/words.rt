@@ -442,17 +442,6 @@ fn class_named(word: &str) -> Option<Class>
     None
 }
 
-/// The name of a class.
-pub fn class_name(class: Class) -> &'static str
-    ensures { result.now ≡ class_word class }
-{
-    match class {
-        Class::Weak => "weak",
-        Class::Strong => "strong",
-        Class::Cyclic => "cyclic",
-    }
-}
-
 /// `drill`, and these words after it.
 fn drill_words(words: &[String]) -> Option<DrillWords>
     ensures { let said = codes "drill" ∷ map string_bytes words.now in
