@@ -9,7 +9,7 @@ use Rattle.command_base.specs.Fetching.{FetchesBoth, FetchThen, HoldsDomain}
 use Rattle.command_base.specs.Frame.{HasCauseOf, Run, SaysNone}
 use Rattle.command_base.specs.Shelves.{KeepsShelf}
 use Rattle.command_base.specs.Words.{Bytes}
-use Rattle.command_base.proofs.Frames.{IsGivenFor, given_cause, given_quiet}
+use Rattle.command_base.proofs.Frames.{IsGivenFor, given_cause, given_fetched, given_quiet}
 use Rattle.answer_help.specs.Helped.{IsHelpFor, IsHelpedDelivery}
 use Rattle.answer_help.specs.HelpedRuns.{IsHelpedRunOf}
 use Rattle.answer_help.specs.Keeping.{AreToldAs, KeepsAfter, faults_by, held_by, kept_in}
@@ -70,18 +70,12 @@ is_helped_run {S} {X} {C} Says IsAnswer FetchesFiles wrong held faults run for_m
   cause = given_cause Says IsAnswer run.words found given cause same;
   helps = help_as (held run.shelf) (held run.shelf_after) (wrong run.words) given help kept helps;
   delivered = delivered;
-  fetches = λ command says. given_fetches command (fetches command says) same;
+  fetches = λ command says. given_fetched (FetchesFiles command) run.shelf run.shelf_after found given (for_memory command found) (fetches command says) same;
   unfetched = unfetched;
   quiet = given_quiet (faults run.shelf) (faults run.shelf_after) found given quiet same;
   kept = kept;
   later = later;
 }
-  where
-    given_fetches : (command : C) → FetchesFiles command found run.shelf run.shelf_after → IsGivenFor found given
-        → FetchesFiles command given run.shelf run.shelf_after
-    given_fetches command was (inl is) = subst (λ (a : Answer). FetchesFiles command a run.shelf run.shelf_after) (sym is) was
-    given_fetches command was (inr (is, said)) =
-        subst (λ (a : Answer). FetchesFiles command a run.shelf run.shelf_after) (sym is) (for_memory command found was)
 
 -- what was found for the words was delivered with help, made from the files that are kept
 module _ {S X C : Type 0} (Says : List Bytes → C → Type 0) (IsAnswer : C → Answer → Type 0) (FetchesFiles : C → Answer → KeepingShelf S → KeepingShelf S → Type 0) (wrong : List Bytes → WrongWords)
