@@ -1,15 +1,16 @@
 -- A run of a program that helps: from the answer that was found to the one that was given.
-use Rattle.std.proofs.Common.{◌≡◌, ◌≤◌, ℕ, List, [], ◌∷◌, inl, inr, subst, sym}
+use Rattle.std.proofs.Common.{◌≡◌, ◌≤◌, ℕ, List, [], inl, inr, subst, sym}
 use Rattle.std.specs.Prelude.{⊤}
-use Rattle.plan_io.specs.Fetches.{Fetches, FetchesNothing, MayFetch}
+use Rattle.plan_io.specs.Fetches.{FetchesNothing, MayFetch}
 use Rattle.plan_io.specs.Held.{Held}
 use Rattle.command_base.specs.Answers.{Answer, no_memory, refused}
 use Rattle.command_base.specs.Faults.{IsQuietAt}
-use Rattle.command_base.specs.Fetching.{FetchesBoth, FetchThen, HoldsDomain}
+use Rattle.command_base.specs.Fetching.{FetchesBoth, HoldsDomain}
 use Rattle.command_base.specs.Frame.{HasCauseOf, Run, SaysNone}
 use Rattle.command_base.specs.Shelves.{KeepsShelf}
 use Rattle.command_base.specs.Words.{Bytes}
 use Rattle.command_base.proofs.Frames.{IsGivenFor, given_cause, given_fetched, given_quiet}
+pub use Rattle.command_base.proofs.Fetched.{over_fetch_then, over_fetches, over_may_fetch}
 use Rattle.answer_help.specs.Helped.{IsHelpFor, IsHelpedDelivery}
 use Rattle.answer_help.specs.HelpedRuns.{IsHelpedRunOf}
 use Rattle.answer_help.specs.Keeping.{AreToldAs, KeepsAfter, faults_by, held_by, kept_in}
@@ -28,22 +29,6 @@ pub told_fetch : {S : Type 0} (held : S → Bytes → Held) (fetched : S → Byt
     → KeepsAfter held fetched before name after → IsTold held before → IsTold held after
 told_fetch held fetched before name after keeps told =
     told_as (held_by held before) (held_by held after) (kept_in after) keeps.same (told_kept (held_by held before) (kept_in before) (kept_in after) name keeps.kept told)
-
--- what one fetch keeps true stays true over several
-module _ {S : Type 0} (P : S → Type 0) (fetched : S → Bytes → S → Type 0) (keeps : (before : S) (name : Bytes) (after : S) → fetched before name after → P before → P after) where
-  pub over_fetches : (names : List Bytes) (before after : S) → Fetches fetched names before after → P before → P after
-  over_fetches [] before after same holds = subst P (sym same) holds
-  over_fetches (name ∷ names) before after (between, fetch, rest) holds = over_fetches names between after rest (keeps before name between fetch holds)
-
-  pub over_fetch_then : (name : Bytes) (Decided Needed : Type 0) (Then : S → S → Type 0) (before after : S) → ((between : S) → Then between after → P between → P after)
-      → FetchThen fetched name Decided Needed Then before after → P before → P after
-  over_fetch_then name Decided Needed Then before after over (between, fetch, inl (decided, same)) holds = subst P (sym same) (keeps before name between fetch holds)
-  over_fetch_then name Decided Needed Then before after over (between, fetch, inr (needed, then)) holds = over between then (keeps before name between fetch holds)
-
-  pub over_may_fetch : (Needed : Type 0) (name : Bytes) (Then : S → S → Type 0) (before after : S) → ((between : S) → Then between after → P between → P after)
-      → MayFetch fetched Needed name Then before after → P before → P after
-  over_may_fetch Needed name Then before after over (inl same) holds = subst P (sym same) holds
-  over_may_fetch Needed name Then before after over (inr (needed, between, fetch, then)) holds = over between then (keeps before name between fetch holds)
 
 -- what is kept can be what is told after the fetches of a domain and a problem
 pub over_both : {S : Type 0} (held : S → Bytes → Held) (fetched : S → Bytes → S → Type 0) (domain problem : Bytes) (before after : KeepingShelf S)

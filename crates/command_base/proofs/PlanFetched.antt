@@ -17,7 +17,7 @@ use Rattle.command_base.specs.Grounding.{GroundThen}
 use Rattle.command_base.specs.PddlTexts.{HoldBoth, ReadBoth}
 use Rattle.command_base.specs.PlanFiles.{IsFaultyPlan, SpellsPlaced}
 use Rattle.command_base.specs.Words.{Bytes}
-use Rattle.command_base.proofs.Fetched.{after_files, both_stop, one_decides}
+use Rattle.command_base.proofs.Fetched.{after_files, both_stop, domain_for_memory, fetch_for_memory, one_decides, over_fetch_then}
 use Rattle.command_base.proofs.Later.{read_over, some_plan_over}
 use Rattle.command_base.proofs.PddlDecides.{refused_both}
 use Rattle.command_base.proofs.TaskNames.{same_actions, same_fluents}
@@ -58,7 +58,7 @@ module _ {S : Type 0} (held : Bytes → Held) (failed : Bytes → Type 0) (fetch
   abbrev FetchPlan : Answer → S → S → Type 0
   FetchPlan a = FetchThen fetched plan (Stops (Both Plans) a) NeedsMore Then
 
-  abbrev FetchProblem : Answer → S → S → Type 0
+  abbrev pub FetchProblem : Answer → S → S → Type 0
   FetchProblem a = FetchThen fetched problem_name (Stops (Both Limits) a) NeedsPlan (FetchPlan a)
 
   -- one of the first two files is refused
@@ -67,6 +67,22 @@ module _ {S : Type 0} (held : Bytes → Held) (failed : Bytes → Type 0) (fetch
   plan_unfetched r before after refuses f =
       one_decides held failed fetched domain_name problem_name (Both Limits) NeedsPlan (FetchPlan (refused r)) (refused r) before after
       (refused_both held failed domain_name problem_name Limits r refuses) f
+
+  -- want of memory may come in place of an answer
+  pub plan_for_memory : (a : Answer) (before after : S) → FetchDomain held failed fetched domain_name a (FetchProblem a) before after
+      → FetchDomain held failed fetched domain_name (refused no_memory) (FetchProblem (refused no_memory)) before after
+  plan_for_memory a before after =
+      domain_for_memory held failed fetched domain_name (FetchProblem a) (FetchProblem (refused no_memory)) a before after
+      (λ x. fetch_for_memory fetched problem_name (Both Limits) NeedsPlan (FetchPlan a) (FetchPlan (refused no_memory)) a x after
+      (λ y. fetch_for_memory fetched plan (Both Plans) NeedsMore Then Then a y after (λ z more. more)))
+
+  -- what each fetch keeps true is true after all of them
+  pub over_plan_fetched : (P : S → Type 0) → ((before : S) (name : Bytes) (after : S) → fetched before name after → P before → P after) → (a : Answer) (before after : S)
+      → ((between : S) → Then between after → P between → P after) → FetchDomain held failed fetched domain_name a (FetchProblem a) before after → P before → P after
+  over_plan_fetched P keeps a before after next =
+      over_fetch_then P fetched keeps domain_name _ _ (FetchProblem a) before after
+      (λ x. over_fetch_then P fetched keeps problem_name (Stops (Both Limits) a) NeedsPlan (FetchPlan a) x after
+      (λ y. over_fetch_then P fetched keeps plan (Stops (Both Plans) a) NeedsMore Then y after next))
 
   -- both were read, and then the plan may be, and more
   module _ (held' : Bytes → Held) (failed' : Bytes → Type 0) (domain : DomainTree) (problem : ProblemTree) (a : Answer) (between after : S)

@@ -1,5 +1,5 @@
 -- Which files a picture fetched, and which of them decided the answer.
-use Rattle.std.proofs.Common.{◌≡◌, ◌⊎◌, ℕ, [], ◌∷◌, inl, inr, refl, subst, sym, None}
+use Rattle.std.proofs.Common.{◌≡◌, ◌⊎◌, ℕ, [], ◌∷◌, subst, sym, None}
 use Rattle.pddl_ast.specs.Trees.{DomainTree, ProblemTree}
 use Rattle.pddl_system.specs.Sizes.{first_passed}
 use Rattle.pddl_system.specs.Systems.{action_names, fluent_names}
@@ -11,13 +11,13 @@ use Rattle.plan_io.specs.Fetches.{FailedLast, Fetches}
 use Rattle.plan_io.specs.Held.{Held}
 use Rattle.command_base.specs.Answers.{Answer, no_memory, refused, Refusal}
 use Rattle.command_base.specs.Fetching.{FetchDomain, HoldsSomePlan, RefusesBoth, RefusesPlan, Stops}
-use Rattle.picture_plan.specs.Fetching.{AsksForPlan, AsksForRun, FetchPlan, FetchPlanAndRun, FetchesRun, FetchesToPicture}
+use Rattle.picture_plan.specs.Fetching.{FetchPlan, FetchPlanAndRun, FetchesRun, FetchesToPicture}
 use Rattle.command_base.specs.Grounding.{GroundThen}
-use Rattle.command_base.specs.PddlTexts.{HoldBoth, ReadBoth}
+use Rattle.command_base.specs.PddlTexts.{HoldBoth}
 use Rattle.command_base.specs.Words.{Bytes}
 use Rattle.picture_plan.specs.Words.{PictureForm, PictureWords, as_graph, as_graph_with, as_page, as_page_with, as_rules}
-use Rattle.command_base.proofs.PlanFetched.{names_fetched, plan_fetched, plan_unfetched}
-use Rattle.answer_help.proofs.HelpedFrames.{over_fetch_then, over_fetches}
+use Rattle.command_base.proofs.Fetched.{over_fetches}
+use Rattle.command_base.proofs.PlanFetched.{names_fetched, over_plan_fetched, plan_fetched, plan_for_memory, plan_unfetched}
 
 -- one of the first two files is refused
 pub picture_stopped : {S : Type 0} (held : Bytes → Held) (failed : Bytes → Type 0) (fetched : S → Bytes → S → Type 0) (asked : PictureWords) (r : Refusal) (before after : S)
@@ -47,16 +47,10 @@ picture_fetched held held' fetched faults asked domain problem a before between 
 -- want of memory may come in place of an answer
 pub picture_for_memory : {S : Type 0} (held : Bytes → Held) (failed : Bytes → Type 0) (fetched : S → Bytes → S → Type 0) (asked : PictureWords) (a : Answer) (before after : S)
     → FetchesToPicture held failed fetched asked a before after → FetchesToPicture held failed fetched asked (refused no_memory) before after
-picture_for_memory held failed fetched asked a before after (x, first, inl (was, same)) = (x, first, inl (inl refl, same))
-picture_for_memory held failed fetched asked a before after (x, first, inr (holds, (y, second, inl (was, same)))) = (x, first, inr (holds, (y, second, inl (inl refl, same))))
-picture_for_memory held failed fetched asked a before after (x, first, inr (holds, (y, second, inr (needed, (z, third, inl (was, same)))))) =
-    (x, first, inr (holds, (y, second, inr (needed, (z, third, inl (inl refl, same))))))
-picture_for_memory held failed fetched asked a before after (x, first, inr (holds, (y, second, inr (needed, (z, third, inr (plan, run)))))) =
-    (x, first, inr (holds, (y, second, inr (needed, (z, third, inr (plan, run))))))
+picture_for_memory held failed fetched asked = plan_for_memory held failed fetched asked.domain asked.problem asked.plan (FetchesRun fetched asked.form)
 
 -- what each fetch keeps true is true after all of them
-module _ {S : Type 0} (P : S → Type 0) (held : Bytes → Held) (failed : Bytes → Type 0) (fetched : S → Bytes → S → Type 0)
-    (keeps : (before : S) (name : Bytes) (after : S) → fetched before name after → P before → P after) where
+module _ {S : Type 0} (P : S → Type 0) (fetched : S → Bytes → S → Type 0) (keeps : (before : S) (name : Bytes) (after : S) → fetched before name after → P before → P after) where
   over_run : (form : PictureForm) (before after : S) → FetchesRun fetched form before after → P before → P after
   over_run as_graph before after same holds = subst P (sym same) holds
   over_run (as_graph_with file) before after fetches holds = over_fetches P fetched keeps (file ∷ []) before after fetches holds
@@ -64,22 +58,6 @@ module _ {S : Type 0} (P : S → Type 0) (held : Bytes → Held) (failed : Bytes
   over_run as_page before after same holds = subst P (sym same) holds
   over_run (as_page_with file) before after fetches holds = over_fetches P fetched keeps (file ∷ []) before after fetches holds
 
-  abbrev Passes : PictureWords → Answer → Type 0
-  Passes asked a = Stops (ReadBoth held failed asked.domain asked.problem (λ domain problem. GroundThen domain problem (λ answer. ⊥))) a
-
-  abbrev Refuses : PictureWords → Answer → Type 0
-  Refuses asked =
-      ReadBoth held failed asked.domain asked.problem (λ domain problem. GroundThen domain problem (RefusesPlan held failed (fluent_names domain problem) (action_names domain problem) asked.plan))
-
-  over_plan : (asked : PictureWords) (a : Answer) (before after : S) → FetchPlan fetched asked (Refuses asked) (AsksForRun held asked) a before after → P before → P after
-  over_plan asked a before after =
-      over_fetch_then P fetched keeps asked.plan (Stops (Refuses asked) a) (AsksForRun held asked) (FetchesRun fetched asked.form) before after (λ z. over_run asked.form z after)
-
-  over_problem : (asked : PictureWords) (a : Answer) (before after : S) → FetchPlanAndRun held failed fetched asked a before after → P before → P after
-  over_problem asked a before after =
-      over_fetch_then P fetched keeps asked.problem (Passes asked a) (AsksForPlan held asked) (FetchPlan fetched asked (Refuses asked) (AsksForRun held asked) a) before after
-      (λ y. over_plan asked a y after)
-
-  pub over_picture : (asked : PictureWords) (a : Answer) (before after : S) → FetchesToPicture held failed fetched asked a before after → P before → P after
-  over_picture asked a before after =
-      over_fetch_then P fetched keeps asked.domain _ _ (FetchPlanAndRun held failed fetched asked a) before after (λ x. over_problem asked a x after)
+  pub over_picture : (held : Bytes → Held) (failed : Bytes → Type 0) (asked : PictureWords) (a : Answer) (before after : S) → FetchesToPicture held failed fetched asked a before after → P before → P after
+  over_picture held failed asked a before after =
+      over_plan_fetched held failed fetched asked.domain asked.problem asked.plan (FetchesRun fetched asked.form) P keeps a before after (λ z. over_run asked.form z after)

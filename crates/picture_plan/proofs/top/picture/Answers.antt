@@ -18,5 +18,5 @@ returns g c =
     let found = c.answer-found.ensures in
     helped_run SaysPicture (IsPictureAnswer (held_by held before) failed) (FetchesToPicture (held_by held before) failed fetched) wrong_picture held g.S.Shelf.faults _
     (λ asked a. picture_for_memory (held_by held before) failed fetched asked a before after)
-    (λ asked a. over_picture (IsTold held) (held_by held before) failed fetched (told_fetch held g.S.Shelf.fetched) asked a before after)
+    (λ asked a. over_picture (IsTold held) fetched (told_fetch held g.S.Shelf.fetched) (held_by held before) failed asked a before after)
     (answer_of c.answer-found.result) found.cause found.fetches found.no_fetch c.requires found.shelf c.wrong_picture.result c.wrong_picture.ensures c.deliver_helped.ensures
