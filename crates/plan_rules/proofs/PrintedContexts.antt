@@ -23,7 +23,7 @@ abbrev pub context_rule_row : List Name → List Name → ContextRule → Row
 context_rule_row fluents actions rule =
     word (codes "rule") (word (decimal rule.context) (group (cube_row fluents rule.cube) (group (words (name_at actions rule.action)) (next_row fluents rule.next))))
 
-context-word : (contexts n : ℕ) → contexts ≤ most_contexts → IsContextOf contexts n → IsWord (decimal n)
+pub context-word : (contexts n : ℕ) → contexts ≤ most_contexts → IsContextOf contexts n → IsWord (decimal n)
 context-word contexts n small is = let high : n ≤ contexts = is.last in decimal-word n (omega arith)
 
 case_shape : (x n : List ℕ) → in_parentheses (x ++ codes " " ++ n) ≡ in_parentheses (x ++ (32 ∷ n))
