@@ -13,7 +13,7 @@ use Rattle.ctl_syntax.specs.declared.goals.Ctl.{Ctl}
 use Rattle.fair_plan.specs.Found.{CanBeHad, IsFairPlannersAnswer}
 use Rattle.fair_plan.specs.declared.found.FairFound.{FairFound}
 use Rattle.fair_plan.specs.declared.found.FairFound.TheVariants.{NoPlan, Plan}
-use Rattle.fair_plan.specs.Goals.{IsConditionOver, IsFairGoalOver}
+use Rattle.fair_plan.specs.Goals.{IsFairGoalOver}
 use Rattle.fair_theory.specs.FairGoals.{both}
 use Rattle.fair_theory.specs.FairPlans.{HasNoFairPlan, sets_of_goal}
 use Rattle.fair_theory.specs.FairSets.{SetGoal}
@@ -30,7 +30,7 @@ use Rattle.plan_io.specs.Held.{Held}
 use Rattle.plan_rules.specs.Denoted.{denoted_contexts}
 use Rattle.plan_rules.specs.Rules.{PlainPlan, automaton, table}
 use Rattle.controller_rules.specs.AsRun.{HasNoDeadRule, HasOneMove}
-use Rattle.task_core.specs.Conditions.{depth, ids_below}
+use Rattle.task_core.specs.Conditions.{IsConditionOver, depth, ids_below}
 use Rattle.task_core.specs.Systems.{System}
 use Rattle.task_core.specs.Tasks.{fluent_count, initial_states, system_of}
 use Rattle.task_core.specs.declared.conditions.Cond.{Cond}
@@ -50,7 +50,7 @@ use Rattle.command_base.specs.declared.answers.Refusal.{Refusal as CodeRefusal}
 use Rattle.command_base.specs.declared.answers.Shown.{Shown}
 use Rattle.plan_command.specs.ContextGoals.{part_count}
 use Rattle.plan_command.specs.FoundGoals.{StandsForGoal}
-use Rattle.plan_command.specs.GoalConditions.{HasSomeVisit, count_of, limit_of_goal, sets_of_goal as plan_sets}
+use Rattle.plan_command.specs.GoalConditions.{limit_of_goal, sets_of_goal as plan_sets}
 use Rattle.plan_command.specs.GoalSets.{goal_sets}
 use Rattle.plan_command.specs.PlanCommand.{no_plan_text}
 use Rattle.plan_command.proofs.ContextAnswers.{shallow_within}
@@ -64,6 +64,7 @@ use Rattle.controller_plan.specs.declared.fair_controllers.FairTask.{FairTask}
 use Rattle.controller_plan.specs.declared.made.Wanted.{Wanted}
 use Rattle.controller_plan.specs.Judged.{CanBeJudged, HasLongJudged, IsFoundGood, IsJudged, IsJudgedShown, IsMadeRefusal}
 use Rattle.controller_plan.proofs.Yes.{text_long, text_shown}
+use Rattle.ctl_syntax.specs.GoalSizes.{HasSomeVisit, count_of}
 
 -- a plan that was judged by the goal that stands in its place has the goal
 module _ (law : FairGoalsAreTrue) (t : Task) (goal : ContextGoal) (made : Ctl) (is : IsTranslated goal made) where

@@ -39,7 +39,7 @@ use Rattle.plan_command.specs.Enough.{IsTightForGoal, IsTightPlan}
 use Rattle.task_sets.specs.FullTables.{IsTightToEncode}
 use Rattle.task_sets.specs.NodeRoom.{IsTightLimit}
 use Rattle.plan_command.specs.FoundGoals.{IsGoalMissing, IsGoalResult, IsGoalShown, IsPlanFor, StandsForGoal}
-use Rattle.plan_command.specs.GoalConditions.{HasSomeVisit, IsGoalOver, count_of, grounded_parts, grounded_formula, limit_of_goal, most_of, sets_of_goal}
+use Rattle.plan_command.specs.GoalConditions.{IsGoalOver, grounded_parts, grounded_formula, limit_of_goal, sets_of_goal}
 use Rattle.plan_command.specs.GoalSets.{GoalSets, HasNoGoalPlan, IsGoalPlan, contexts_for, rules_for}
 use Rattle.command_base.specs.Grounded.{IsTaskOf}
 use Rattle.command_base.specs.InitialStates.{empty_init}
@@ -55,6 +55,7 @@ use Rattle.command_base.proofs.TaskNames.{same_actions, same_fluents}
 use Rattle.plan_meets.proofs.Meetings.{contexts_meet}
 use Rattle.plan_command.proofs.Meetings.{no_contexts}
 use Rattle.plan_command.proofs.PlanAnswers.{tight_to_encode}
+use Rattle.ctl_syntax.specs.GoalSizes.{HasSomeVisit, count_of, most_of}
 
 -- what the task's goal and that of the text have in common
 record Pair (d : DomainTree) (p : ProblemTree) (tree : GoalTree) (theirs : Option (PlainGoal FormulaTree)) : Type 0 where
