@@ -135,7 +135,7 @@ count_sets sets = go sets.live
     go (Some number ∷ slots) = omega (arith, go slots, count_more (Some number) slots)
 
 -- no value is in A and not in B exactly where each one of A is in B
-inside_to : (a b : Bool) → a && not b ≡ false → a ≡ true → b ≡ true
+pub inside_to : (a b : Bool) → a && not b ≡ false → a ≡ true → b ≡ true
 inside_to true true e is = refl
 inside_to true false e is = absurd (cc)
 inside_to false b e is = absurd (cc)

@@ -32,3 +32,5 @@ pub mod PatrolSets
 pub mod PatrolSound
 pub mod PatrolRules
 pub mod NoPatrol
+pub mod FirstActions
+pub mod FewerStates
