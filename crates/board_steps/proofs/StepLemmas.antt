@@ -1,12 +1,10 @@
 -- What a step leaves on a board, and which steps can be made.
-use Rattle.std.proofs.Common.{◌≡◌, ◌≢◌, ℕ, ◌==◌, List, [], ◌∷◌, ◌++◌, length, Result, Ok, Err, refl, sym, ap, subst, ◌∙◌, ⊎_elim, arith}
+use Rattle.std.proofs.Common.{◌≡◌, ◌≢◌, ℕ, ◌==◌, List, [], ◌∷◌, ◌++◌, length, refl, sym, ap, ◌∙◌, ⊎_elim, arith}
 use Rattle.std.proofs.lemmas.Bool.{cases_eq, cond-false, cond-true, eq-eqb, ne_eqb}
 use Rattle.dd_nodes.specs.Subfunctions.{Function}
-use Rattle.dd_sets.specs.declared.errors.SetErr.{SetErr}
-use Rattle.dd_sets.specs.declared.errors.SetErr.TheVariants.{Full, Memory}
 use Rattle.dd_sets.specs.declared.slots.SetId.{SetId}
 use Rattle.encode_task.specs.Slots.{Encoded}
-use Rattle.slot_board.specs.Board.{At, Ends, Moved, Start, set_at}
+use Rattle.slot_board.specs.Board.{Moved, Start, set_at}
 use Rattle.board_steps.specs.Steps.{CanMakeAll, Placed, Shows, after_step, after_steps, with_set}
 use Rattle.board_steps.specs.declared.steps.Step.{Step}
 
@@ -37,20 +35,3 @@ after_append start placed (x ∷ xs) ys = after_append start (after_step start p
 pub can_append : (start : Start) (placed : Placed) (xs ys : List Step) → CanMakeAll start placed xs → CanMakeAll start (after_steps start placed xs) ys → CanMakeAll start placed (xs ++ ys)
 can_append start placed [] ys first second = second
 can_append start placed (x ∷ xs) ys first second = (first.0, can_append start (after_step start placed x) xs ys first.1 second)
-
--- answers passed on
-pub found_of : {T : Type 0} (start : Start) (now : Encoded) (slots : List SetId) (P : T → Type 0) (result : Result T SetErr) (x : T) → result ≡ Ok x → Ends start now slots P result → P x
-found_of start now slots P result x is ends = subst (Ends start now slots P) is ends
-
-pub passed_on : {S T : Type 0} (start : Start) (now : Encoded) (slots : List SetId) (P : S → Type 0) (Q : T → Type 0) (inner : Result S SetErr) (outer : Result T SetErr) (e : SetErr) → inner ≡ Err e → (x : SetErr) × (outer ≡ Err x) × (x ≡ e) → Ends start now slots P inner → Ends start now slots Q outer
-passed_on start now slots P Q inner outer e was p ends =
-    subst (Ends start now slots Q) (sym p.1) (let kept = subst (Ends start now slots P) was ends in (kept.0, λ full. kept.1 (sym p.2 ∙ full)))
-
-pub ends_with : {T : Type 0} (start : Start) (now : Encoded) (slots : List SetId) (P Q : T → Type 0) (result : Result T SetErr) → ((x : T) → P x → Q x) → Ends start now slots P result → Ends start now slots Q result
-ends_with start now slots P Q (Ok x) f ends = f x ends
-ends_with start now slots P Q (Err e) f ends = ends
-
--- want of memory, where the board is as it was
-pub wants_memory : {T : Type 0} (start : Start) (now : Encoded) (slots : List SetId) (Q : T → Type 0) (outer : Result T SetErr) (e : SetErr) → e ≡ Memory → (x : SetErr) × (outer ≡ Err x) × (x ≡ e) → At start now slots → Ends start now slots Q outer
-wants_memory start now slots Q outer e memory p at =
-    subst (Ends start now slots Q) (sym p.1) (at, λ full. absurd (let same : Memory ≡ Full = sym memory ∙ sym p.2 ∙ full in cc))

@@ -11,6 +11,7 @@ use Rattle.dd_sets.specs.declared.errors.SetErr.{SetErr}
 use Rattle.dd_sets.specs.declared.errors.SetErr.TheVariants.{Full}
 use Rattle.dd_sets.specs.declared.slots.SetId.{SetId}
 use Rattle.encode_task.specs.Slots.{Encoded}
+use Rattle.encode_task.proofs.StateVectors.{cubes_agree, same_functions}
 use Rattle.task_core.specs.Cubes.{cubes_of}
 use Rattle.task_core.specs.Solutions.{HasNoSolution}
 use Rattle.task_core.specs.Systems.{IsVector, IsSystem, System, goal_states}
@@ -46,9 +47,7 @@ use Rattle.cyclic_plan.specs.Rounds.{LosesNone}
 use Rattle.cyclic_plan.specs.Stages.{HasRounds, none_taken}
 use Rattle.cyclic_plan.proofs.Answered.{all_covered, lost_is, near_covered_is}
 use Rattle.cyclic_plan.proofs.Fitting.{new_fits, space_itself}
-use Rattle.cyclic_plan.proofs.Growth.{same_functions}
 use Rattle.cyclic_plan.proofs.Narrowing.{kept_narrowed, none_lost}
-use Rattle.cyclic_plan.proofs.PlanMade.{cubes_agree}
 use Rattle.cyclic_plan.proofs.Premises.{at_place}
 use Rattle.cyclic_plan.proofs.RoundsMade.{round_less}
 use Rattle.cyclic_plan.proofs.StageSteps.{here, near_still}

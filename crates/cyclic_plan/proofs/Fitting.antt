@@ -14,11 +14,12 @@ use Rattle.dd_sets.specs.declared.slots.SetId.{SetId}
 use Rattle.dd_sets.proofs.OperationSizes.{agreeing_sized, constants_small, difference_rough, meet_rough}
 use Rattle.dd_sets.proofs.SizeLemmas.{every_small}
 use Rattle.encode_task.specs.Slots.{Encoded}
-use Rattle.encode_task.specs.TaskSets.{exec_set, first_values, initial_set, lands_set, led_into, space_set}
+use Rattle.encode_task.specs.TaskSets.{exec_set, first_values, initial_set, lands_set, led_into, space_set, states_in}
 use Rattle.encode_task.proofs.ShownLemmas.{first_are}
 use Rattle.preimage.specs.Preimages.{weak_preimage}
 use Rattle.preimage.specs.WorkingSets.{IsMadeByRound, PreimageFits, first_every, first_some, hits_at, some_below}
 use Rattle.preimage.specs.WorkingSets.IsMadeByRound.{itself, hit, first_led, joined, led}
+use Rattle.preimage.proofs.Leads.{weak_agrees}
 use Rattle.task_core.specs.Actions.{after_value}
 use Rattle.task_core.specs.Cubes.{SetOfVectors}
 use Rattle.task_core.specs.Systems.{IsVector, System}
@@ -32,24 +33,21 @@ use Rattle.plan_theory.specs.Layers.{layer, may_lead}
 use Rattle.plan_theory.specs.LayerPlans.{takers}
 use Rattle.plan_theory.specs.PairRounds.{kept, progress, round}
 use Rattle.plan_theory.specs.Pairs.{Pairs, is_goal, restricted}
+use Rattle.list_laws.proofs.Numbers.{below_power_two}
 use Rattle.list_laws.proofs.Ranges.{range-more}
 use Rattle.slot_board.specs.Board.{At, Fits, IsSmall, LeadFits, Start, TestFits, first_of, set_at}
 use Rattle.slot_board.specs.declared.board.Outcomes.{Outcomes as HowMany}
 use Rattle.slot_board.specs.declared.board.Outcomes.TheVariants as Outcomes
 use Rattle.cyclic_plan.specs.Stages.{Agrees, IsFit, IsLeft, IsNear, IsSmallSet, kept_system, next_by, rough_places}
-use Rattle.cyclic_plan.specs.WorkingSets.{BoundsCyclicSets, near_set, pair_hits, pair_set, pairs_in, states_in}
+use Rattle.cyclic_plan.specs.WorkingSets.{BoundsCyclicSets, near_set, pair_hits, pair_set, pairs_in}
 use Rattle.cyclic_plan.specs.WorkingSets.IsTaskRound.{initial_round, space_round}
 use Rattle.cyclic_plan.specs.WorkingSets.IsWorkingSet.{by_near, by_rounds, paired, taken}
-use Rattle.cyclic_plan.proofs.StageSteps.{may_restricted, weak_agrees}
+use Rattle.cyclic_plan.proofs.StageSteps.{may_restricted}
 
 -- every width is one that is greater than the number of lists of truth values
-more_lists : (n : ℕ) → n + 2 ≤ 2 ^ n + 1
-more_lists zero = omega arith
-more_lists (suc n) = let h : n + 2 ≤ 2 ^ n + 1 = more_lists n in let e : 2 ^ suc n ≡ 2 ^ n + 2 ^ n = omega arith in omega arith
-
 pub all_wide : (task : Task) → BoundsCyclicSets (2 ^ fluent_count task + 1) task
 all_wide task = record {
-  wide = more_lists (fluent_count task);
+  wide = below_power_two (fluent_count task);
   each = λ set working. every_small (fluent_count task) set;
 }
 
@@ -191,7 +189,7 @@ module _ (start : Start) (fit : IsFit start) where
     hits_at_state : (a : ℕ) (v : Vector) → IsVector (system_of start.task) v → pair_hits Outcomes.Some start.task r k a (value_of v) ≡ may_lead sub close v a
     hits_at_state a v is =
         ap (λ (f : Function). f (value_of v) && pair_set start.task r a (value_of v)) (sym (led_hits start.task (near_set start.task r k) a))
-        ∙ ap (λ b. b && pair_set start.task r a (value_of v)) (weak_agrees start a (near_set start.task r k) close (states_depend start.task close) (states_at start.task close) v is)
+        ∙ ap (λ b. b && pair_set start.task r a (value_of v)) (weak_agrees start.task a (near_set start.task r k) close (states_depend start.task close) (states_at start.task close) v is)
         ∙ ap (λ b. may_lead (system_of start.task) close v a && b) (states_at start.task (λ u. these u a) v is)
         ∙ sym (may_restricted (system_of start.task) these close v a)
 

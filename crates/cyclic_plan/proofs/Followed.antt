@@ -1,13 +1,11 @@
 -- The steps of a round that changed something: what is left out adds nothing.
-use Rattle.std.proofs.Common.{◌≡◌, ◌≢◌, ◌⊎◌, inl, inr, ℕ, zero, suc, ◌+◌, ◌<◌, ◌≤◌, ◌^◌, ◌==◌, Bool, true, false, cond, not, ◌&&◌, ◌||◌, List, [], ◌∷◌, ◌++◌, length, refl, sym, ap, subst, ◌∙◌, ⊎_elim, arith, get_or, Result, Ok, Err, IfErr, OnOk}
+use Rattle.std.proofs.Common.{◌≡◌, ◌≢◌, ◌⊎◌, inl, inr, ℕ, zero, suc, ◌+◌, ◌<◌, ◌≤◌, ◌^◌, ◌==◌, Bool, true, false, cond, not, ◌&&◌, ◌||◌, List, [], ◌∷◌, ◌++◌, length, refl, sym, ap, subst, ◌∙◌, ⊎_elim, arith, get_or}
 use Rattle.std.specs.Prelude.{slice_index_or, slice_set}
 use Rattle.std.proofs.lemmas.Bool.{and_parts, cases_eq, cases_lt, false≢true, or_left, or_right}
 use Rattle.std.proofs.lemmas.List.{append-nil, append_assoc, length-set, get_or-set_same, get_or-set_other}
-use Rattle.list_laws.proofs.Booleans.{or_same}
+use Rattle.list_laws.proofs.Booleans.{or_never, or_same}
 use Rattle.dd_nodes.specs.Subfunctions.{Function}
 use Rattle.dd_ops.specs.Operations.{or_of}
-use Rattle.dd_sets.specs.declared.errors.SetErr.{SetErr}
-use Rattle.dd_sets.specs.declared.errors.SetErr.TheVariants.{Full, Memory}
 use Rattle.dd_sets.specs.declared.slots.SetId.{SetId}
 use Rattle.encode_task.specs.Slots.{Encoded}
 use Rattle.task_core.specs.Cubes.{SetOfVectors}
@@ -22,7 +20,7 @@ use Rattle.plan_theory.specs.Layers.{may_lead}
 use Rattle.plan_theory.specs.LayerPlans.{is_action}
 use Rattle.plan_theory.specs.PairRounds.{connected, kept}
 use Rattle.plan_theory.proofs.Restricted.{restricted_system}
-use Rattle.slot_board.specs.Board.{At, Left, Moved, Start, set_at}
+use Rattle.slot_board.specs.Board.{Moved, Start, set_at}
 use Rattle.cyclic_plan.specs.Stages.{AddsToSmall, AreTakersSmall, HasHits, HasNear, HasNext, IsFit, IsLeft, IsSmallSet, Takings, kept_system, next_by, none_taken, taken_also, taken_by, takers_within}
 use Rattle.cyclic_plan.specs.Steps.{AddsNothing, AreAll, BeginsStep, AreStepsFrom, HasGrown, HasJoined, HasLed, HasRetraced, RetracedOn, near_at, next_at}
 use Rattle.slot_board.specs.declared.steps.Step.{Step}
@@ -31,24 +29,11 @@ use Rattle.cyclic_plan.proofs.Growth.{adds_small, chosen_same, layer_last, near_
 use Rattle.cyclic_plan.proofs.Fitting.{next_small, set_as}
 use Rattle.cyclic_plan.proofs.StageSteps.{here, may_restricted, near_copied, near_still, next_copied, next_still, still}
 
--- a note behind the last call, and a refusal for want of memory that is passed on
-pub noted_then : {T : Type 0} (start : Start) (now : Encoded) (slots : List SetId) (P Q : Type 0) (result : Result T SetErr) → IfErr result (λ e. e ≡ Memory) → OnOk result P → At start now slots → (P → Q) → Left start now slots Q result
-noted_then start now slots P Q (Ok x) never done at then = then done
-noted_then start now slots P Q (Err e) never done at then = (at, λ full. absurd (let no : Memory ≡ Full = sym never ∙ full in cc))
-
-pub memory_passed : {S T : Type 0} (start : Start) (now : Encoded) (slots : List SetId) (Q : Type 0) (inner : Result S SetErr) (outer : Result T SetErr) (e : SetErr) → inner ≡ Err e → (x : SetErr) × (outer ≡ Err x) × (x ≡ e) → IfErr inner (λ e. e ≡ Memory) → At start now slots → Left start now slots Q outer
-memory_passed start now slots Q inner outer e was p never at =
-    subst (Left start now slots Q) (sym p.1) (at, λ full. absurd (let m : e ≡ Memory = subst (λ r. IfErr r (λ e. e ≡ Memory)) was never in let no : Memory ≡ Full = sym m ∙ sym p.2 ∙ full in cc))
-
 and_never : (x y : Bool) → (y ≡ true → x ≡ true) → false ≡ (y && not x)
 and_never true true up = refl
 and_never true false up = refl
 and_never false true up = up refl
 and_never false false up = refl
-
-or_never : (x y : Bool) → false ≡ y → x ≡ (x || y)
-or_never true y e = refl
-or_never false y e = e
 
 cond_never : (also t h : Bool) → false ≡ h → t ≡ cond also (t || h) t
 cond_never false t h e = refl

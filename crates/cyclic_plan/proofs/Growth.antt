@@ -1,15 +1,12 @@
 -- One step more from the goal: what is near, and what is taken.
-use Rattle.std.proofs.Common.{◌≡◌, ◌≢◌, ℕ, zero, suc, ◌+◌, ◌-◌, ◌<◌, ◌≤◌, ◌^◌, ◌==◌, Bool, true, false, cond, not, ◌&&◌, ◌||◌, List, [], ◌∷◌, ◌++◌, map, length, None, Some, refl, sym, ap, subst, ◌∙◌, ⊎_elim, arith, nat_lt}
+use Rattle.std.proofs.Common.{◌≡◌, ◌≢◌, ℕ, zero, suc, ◌+◌, ◌-◌, ◌<◌, ◌≤◌, ◌^◌, ◌==◌, Bool, true, false, cond, not, ◌&&◌, ◌||◌, List, [], ◌∷◌, ◌++◌, None, Some, refl, sym, ap, subst, ◌∙◌, ⊎_elim, arith, nat_lt}
 use Rattle.std.specs.Option.{option_and_then}
-use Rattle.std.specs.List.{Contains, find, list_any, range_with_len}
-use Rattle.std.proofs.Math.Path.{fun_ext}
-use Rattle.std.proofs.lemmas.Bool.{cases_eq, cases_lt, cond-false, cond-true, eq-eqb, false_from_ne_true, false≢true, lt-ltb, ltb-true, ne_eqb, or_left, true≢false}
-use Rattle.std.proofs.lemmas.Option.{same_Some}
+use Rattle.std.specs.List.{find, list_any, range_with_len}
+use Rattle.std.proofs.lemmas.Bool.{cases_eq, cases_lt, cond-false, cond-true, eq-eqb, lt-ltb, ltb-true, ne_eqb, or_left}
 use Rattle.std.proofs.lemmas.List.Folds.{list_any-append}
-use Rattle.std.proofs.lemmas.List.FromFn.{get_or-map-range_with_len, length-map-range_with_len}
-use Rattle.dd_nodes.specs.Subfunctions.{DependsOnly, Function}
 use Rattle.dd_sets.specs.declared.slots.SetId.{SetId}
 use Rattle.encode_task.specs.Slots.{Encoded}
+use Rattle.encode_task.proofs.StateVectors.{same_functions}
 use Rattle.task_core.specs.Cubes.{SetOfVectors}
 use Rattle.task_core.specs.Systems.{IsVector, IsSystem, System}
 use Rattle.task_core.specs.Tasks.{action_count, fluent_count, system_of}
@@ -19,12 +16,12 @@ use Rattle.plan_theory.specs.Classes.{IsStable}
 use Rattle.plan_theory.specs.Layers.{action_numbers, layer, may_lead}
 use Rattle.plan_theory.specs.LayerPlans.{action_of_rank, chosen_action, is_action, takers}
 use Rattle.plan_theory.proofs.ClassLayers.{chosen_kept, chosen_zero, layer-stable, rank_within-None, step_choice}
-use Rattle.list_laws.proofs.Ranges.{find-first, range-more, find-before}
+use Rattle.list_laws.proofs.Booleans.{or_none}
+use Rattle.list_laws.proofs.Ranges.{range-more}
+use Rattle.plan_theory.proofs.FewerStates.{fewer_outside}
+use Rattle.plan_theory.proofs.FirstActions.{first_is}
 use Rattle.plan_theory.proofs.LeastBounds.{stands_still}
-use Rattle.list_laws.proofs.Elements.{find-None, find-Some, find-found, Contains-range_with_len-below}
-use Rattle.plan_theory.proofs.WeakPrinted.{is_action-Some, is_action-from}
-use Rattle.plan_theory.proofs.Cubes.{all_vectors-agree, all_vectors-length}
-use Rattle.plan_theory.proofs.RoundSteps.{held, holds_fewer}
+use Rattle.plan_theory.proofs.RoundSteps.{held}
 use Rattle.slot_board.proofs.BoardSlots.{depends}
 use Rattle.slot_board.specs.Board.{set_at}
 use Rattle.slot_board.specs.Board.{Start}
@@ -62,10 +59,6 @@ next_as start now slots left taken other near next more h same alike = record {
 }
 
 -- no action yet, and one more
-or_none : (b : Bool) → b ≡ (b || false)
-or_none true = refl
-or_none false = refl
-
 or_assoc : (a b c : Bool) → ((a || b) || c) ≡ (a || (b || (c || false)))
 or_assoc true b c = refl
 or_assoc false true c = refl
@@ -113,29 +106,6 @@ taken_more true sys near taken n a v =
     taken_below true sys near taken n a v false (not_below a n above) ∙ sym (taken_below true sys near taken (n + 1) a v false (not_below a (n + 1) (omega (arith, differs)))))
     (cases_lt a n))
     (cases_eq a n)
-
--- the least-numbered action that passes a test is b
-pub first_is : (p : ℕ → Bool) (n b : ℕ) → b < n → (p b && not (list_any p (range_with_len 0 b))) ≡ is_action b (find p (range_with_len 0 n))
-first_is p n b below = go (p b) (list_any p (range_with_len 0 b)) refl refl
-  where
-    not_it : ((is_action b (find p (range_with_len 0 n)) ≡ true) → ⊥) → false ≡ is_action b (find p (range_with_len 0 n))
-    not_it no_more = sym (false_from_ne_true (is_action b (find p (range_with_len 0 n))) no_more)
-
-    earlier : list_any p (range_with_len 0 b) ≡ true → is_action b (find p (range_with_len 0 n)) ≡ true → ⊥
-    earlier f h =
-        let w = find-Some p (range_with_len 0 b) f in
-        let at = find-found p (range_with_len 0 b) w.0 w.1 in
-        let low : w.0 < b = Contains-range_with_len-below b w.0 at.0 in
-        let e : w.0 ≡ b = same_Some w.0 b (sym (find-before p b n w.0 below w.1) ∙ is_action-Some b (find p (range_with_len 0 n)) h) in
-        omega arith
-
-    fails : p b ≡ false → is_action b (find p (range_with_len 0 n)) ≡ true → ⊥
-    fails e h = true≢false (sym (find-found p (range_with_len 0 n) b (is_action-Some b (find p (range_with_len 0 n)) h)).1 ∙ e)
-
-    go : (x y : Bool) → p b ≡ x → list_any p (range_with_len 0 b) ≡ y → (x && not y) ≡ is_action b (find p (range_with_len 0 n))
-    go true false e f = sym (is_action-from b (find p (range_with_len 0 n)) (find-first p b n (find-None p (range_with_len 0 b) f) below e))
-    go true true e f = not_it (earlier f)
-    go false y e f = not_it (fails e)
 
 -- a state that no layer up to k holds has no action within it
 unchosen : (sys : System) (k : ℕ) (v : Vector) → layer Weak sys k v ≡ false → chosen_action Weak sys k v ≡ None
@@ -188,13 +158,6 @@ pub chosen_same : (sys : System) (j k : ℕ) (v : Vector) → layer Weak sys j v
 chosen_same sys j k v same =
     ⊎_elim (λ (l : j < k). chosen_alike sys j k v (omega arith) same) (λ (l : k ≤ j). sym (chosen_alike sys k j v l (sym same))) (cases_lt j k)
 
--- a set that depends on n fluents alone is known by the states over them
-pub same_functions : (n : ℕ) (f g : Function) → DependsOnly 0 n f → DependsOnly 0 n g → ((v : Vector) → length v ≡ n → f (value_of v) ≡ g (value_of v)) → f ≡ g
-same_functions n f g only_f only_g same = fun_ext (λ values.
-    let v : Vector = map values (range_with_len 0 n) in
-    let within : (u : ℕ) → 0 ≤ u → u < n → values u ≡ value_of v u = λ u low l. sym (get_or-map-range_with_len values 0 n u u false l (omega arith)) in
-    only_f values (value_of v) within ∙ same v (length-map-range_with_len values 0 n) ∙ sym (only_g values (value_of v) within))
-
 -- none is taken within 0 steps; and one step more
 pub takers_none : (taking : Bool) (sys : System) (a : ℕ) (v : Vector) → false ≡ takers_within taking sys 0 a v
 takers_none false sys a v = refl
@@ -207,32 +170,13 @@ pub spread_less : (start : Start) (enc now : Encoded) (old new : List SetId) (le
     → HasNext start now new left none_taken (layer Weak (kept_system start left) (suc k)) next
     → held (λ v. not (set_at now.sets new 3 (value_of v))) (all_vectors n) < held (λ v. not (set_at enc.sets old 3 (value_of v))) (all_vectors n)
 spread_less start enc now old new left k n h differ is_n next after =
-    holds_fewer (λ v. not (set_at enc.sets old 3 (value_of v))) (λ v. not (set_at now.sets new 3 (value_of v))) (all_vectors n)
-    (λ v c out. fewer v (state v c) out)
+    fewer_outside n (λ v. set_at enc.sets old 3 (value_of v)) (λ v. set_at now.sets new 3 (value_of v))
+    (λ v long near.
+    let is : IsVector (system_of start.task) v = long ∙ is_n in
+    after.by_near.holds_near v is ∙ or_left (layer Weak (kept_system start left) k v) _ (sym (h.by_near.holds_near v is) ∙ near))
     (λ same. differ (same_functions (fluent_count start.task) (set_at enc.sets old 4) (set_at enc.sets old 3)
     (depends start enc old h.by_near.round.at h.by_near.round.sound 4) (depends start enc old h.by_near.round.at h.by_near.round.sound 3)
-    (λ v is.
-    h.holds_next v is ∙ sym (after.by_near.holds_near v is)
-    ∙ not_same (set_at now.sets new 3 (value_of v)) (set_at enc.sets old 3 (value_of v))
-    (all_vectors-agree (λ u. not (set_at now.sets new 3 (value_of u))) (λ u. not (set_at enc.sets old 3 (value_of u))) n same v (is ∙ sym is_n)))))
-  where
-    state : (v : Vector) → Contains (all_vectors n) v → length v ≡ fluent_count start.task
-    state v c = all_vectors-length n v c ∙ is_n
-
-    not_same : (a b : Bool) → not a ≡ not b → a ≡ b
-    not_same true true e = refl
-    not_same true false e = absurd (false≢true e)
-    not_same false true e = absurd (true≢false e)
-    not_same false false e = refl
-
-    up : (a b : Bool) → (a ≡ true → b ≡ true) → not b ≡ true → not a ≡ true
-    up true b more out = absurd (false≢true (sym (ap not (more refl)) ∙ out))
-    up false b more out = refl
-
-    fewer : (v : Vector) → length v ≡ fluent_count start.task → not (set_at now.sets new 3 (value_of v)) ≡ true → not (set_at enc.sets old 3 (value_of v)) ≡ true
-    fewer v is out =
-        up (set_at enc.sets old 3 (value_of v)) (set_at now.sets new 3 (value_of v))
-        (λ near. after.by_near.holds_near v is ∙ or_left (layer Weak (kept_system start left) k v) _ (sym (h.by_near.holds_near v is) ∙ near)) out
+    (λ v is. h.holds_next v is ∙ sym (after.by_near.holds_near v is) ∙ same v (is ∙ sym is_n))))
 
 -- one step's sets are small, where those of all steps are
 pub step_small : (start : Start) (left : SetOfVectors) (taking : Bool) (k : ℕ) → AreTakersSmall start taking left → IsStep start taking left (takers_within taking (kept_system start left) k) (layer Weak (kept_system start left) k)

@@ -18,6 +18,7 @@ use Rattle.plan_theory.specs.Pairs.{Pairs, is_goal, restricted}
 use Rattle.plan_theory.proofs.Restricted.{outcome_of_pair, progress_connected, progress_step}
 use Rattle.plan_theory.proofs.RoundSteps.{kept_more, round_shrinks}
 use Rattle.list_laws.proofs.Elements.{Contains-range_with_len-below, list_any-witness}
+use Rattle.preimage.proofs.Leads.{strong_agrees}
 use Rattle.slot_board.proofs.BoardSlots.{depends}
 use Rattle.slot_board.specs.Board.{Moved, Start, led, set_at}
 use Rattle.slot_board.specs.declared.board.Outcomes.TheVariants as Outcomes
@@ -26,7 +27,7 @@ use Rattle.cyclic_plan.specs.Rounds.{HasDropped, HasMet, LosesNone}
 use Rattle.cyclic_plan.proofs.Growth.{near_as}
 use Rattle.list_laws.proofs.Booleans.{same_truth}
 use Rattle.cyclic_plan.proofs.RoundsMade.{left_copied}
-use Rattle.cyclic_plan.proofs.StageSteps.{here, round_still, still, strong_agrees}
+use Rattle.cyclic_plan.proofs.StageSteps.{here, round_still, still}
 
 -- a round keeps, of the pairs of states that are left, those that don't lead out of these
 pub kept_narrowed : (sys : System) (r : ℕ) (v : Vector) (a : ℕ) → kept sys (round sys (suc r)) v a ≡ (must_lead sys (round sys (suc r)) v a && (kept sys (round sys r) v a && round sys (suc r) v))
@@ -125,10 +126,6 @@ module _ (start : Start) (enc now : Encoded) (old new : List SetId) (r a : ℕ) 
         holds_before = λ b above within. still start enc now old new (7 + a) _ m places (7 + b) _ (omega arith) (λ e. absurd (omega arith)) (h.holds_before b (omega arith) within);
       }
 
-pub not_false : (b : Bool) → not b ≡ false → b ≡ true
-not_false true e = refl
-not_false false e = sym e
-
 -- there are some, of which those that don't lead out
 pub kept_agree : (start : Start) (enc mid : Encoded) (old half : List SetId) (r a : ℕ) → HasMet start enc old r a → Moved start enc.sets old mid half 5 (led Outcomes.Every start.task a (set_at enc.sets old 1))
     → Agrees start (and_of (set_at mid.sets half 5) (set_at mid.sets half 6)) (λ v. kept (system_of start.task) (round (system_of start.task) (suc r)) v a)
@@ -137,7 +134,7 @@ kept_agree start enc mid old half r a h first v is =
     let left : SetOfVectors = round sys (suc r) in
     let places : start.places ≡ 7 + action_count start.task + action_count start.task = h.round.places in
     ap (λ x. x && set_at mid.sets half 6 (value_of v))
-    (here start enc mid old half 5 _ first places (λ w. must_lead sys left w a) (strong_agrees start a (set_at enc.sets old 1) left (depends start enc old h.round.at h.round.sound 1) h.round.holds_left) v is)
+    (here start enc mid old half 5 _ first places (λ w. must_lead sys left w a) (strong_agrees start.task a (set_at enc.sets old 1) left (depends start enc old h.round.at h.round.sound 1) h.round.holds_left) v is)
     ∙ ap (λ x. must_lead sys left v a && x) (still start enc mid old half 5 _ first places 6 _ (omega arith) (λ e. absurd (omega arith)) h.holds_met v is)
     ∙ sym (kept_narrowed sys r v a)
 

@@ -1,7 +1,7 @@
 -- What the parts of the planner answer.
-use Rattle.std.proofs.Common.{◌≡◌, ℕ, zero, suc, ◌+◌, ◌<◌, ◌^◌, Bool, true, false, cond, not, List, [], ◌∷◌, ◌++◌, map, length, Option, None, Some, refl, sym, ap, subst, ◌∙◌, arith}
+use Rattle.std.proofs.Common.{◌≡◌, ℕ, ◌+◌, ◌<◌, ◌^◌, true, cond, List, [], ◌∷◌, ◌++◌, map, length, Option, None, Some, refl, sym, ap, subst, ◌∙◌, arith}
 use Rattle.std.specs.Option.{option_map, unwrap_or}
-use Rattle.std.specs.List.{Contains, flat_map, list_all, list_any, range_with_len}
+use Rattle.std.specs.List.{flat_map, list_all, list_any, range_with_len}
 use Rattle.std.proofs.lemmas.Grind.{flat_map-append}
 use Rattle.std.proofs.lemmas.List.{append-nil}
 use Rattle.std.proofs.lemmas.Bool.{and_from, and_parts}
@@ -16,16 +16,16 @@ use Rattle.dd_sets.specs.declared.slots.SetId.{SetId}
 use Rattle.encode_task.specs.Made.{Holds, HoldsGoal}
 use Rattle.encode_task.specs.Slots.{Encoded}
 use Rattle.encode_task.specs.TaskSets.{goal_set}
+use Rattle.encode_task.proofs.StateVectors.{cubes_agree}
 use Rattle.task_core.specs.Conditions.{holds}
-use Rattle.task_core.specs.Cubes.{Cube, SetOfVectors, cubes_from, cubes_of, half, ignores_first, is_empty_set, is_whole_set, literal}
+use Rattle.task_core.specs.Cubes.{Cube, SetOfVectors, cubes_of, half}
 use Rattle.task_core.specs.Tasks.{action_count, fluent_count, in_space, initial_states, states_where, system_of}
-use Rattle.task_core.specs.Vectors.{Vector, all_vectors, same_value, same_vector, value_of}
+use Rattle.task_core.specs.Vectors.{Vector, same_vector, value_of}
 use Rattle.task_core.specs.declared.conditions.Cond.{Cond}
 use Rattle.task_core.specs.declared.tasks.Task.{Task}
 use Rattle.task_core.proofs.TaskSystem.{is_system, states_where_has, states_where_holds}
-use Rattle.plan_theory.proofs.Cubes.{all_vectors-length}
 use Rattle.plan_theory.proofs.Weak.{same_vector-itself, same_vector-true}
-use Rattle.list_laws.proofs.Elements.{list_all-agree, list_any-agree, list_any-from, list_any-witness}
+use Rattle.list_laws.proofs.Elements.{list_all-agree, list_any-from, list_any-witness}
 use Rattle.slot_board.specs.Rules.{rule_for}
 use Rattle.slot_board.specs.Board.{set_at}
 use Rattle.slot_board.specs.Board.{At, Moved, Start, Stayed}
@@ -103,24 +103,6 @@ pub covered_is : (start : Start) (enc : Encoded) (slots : List SetId) (left : Se
     → list_all (λ state. set_at enc.sets slots 1 (value_of state)) (initial_states start.task) ≡ list_all left (system_of start.task).initial
 covered_is start enc slots left taken near h =
     list_all-agree (λ state. set_at enc.sets slots 1 (value_of state)) left (initial_states start.task) (λ s c. h.round.holds_left s ((is_system start.task).initial s c).vector)
-
--- the cubes of sets that hold the same states
-pub cubes_agree : (n first : ℕ) (f g : SetOfVectors) → ((v : Vector) → length v ≡ n → f v ≡ g v) → cubes_from first n f ≡ cubes_from first n g
-cubes_agree zero first f g same = ap (λ b. cond b ([] ∷ []) []) (same [] refl)
-cubes_agree (suc n) first f g same =
-    let each = λ (v : Vector) (c : Contains (all_vectors (suc n)) v). same v (all_vectors-length (suc n) v c) in
-    let low : cubes_from (first + 1) n (half false f) ≡ cubes_from (first + 1) n (half false g) = cubes_agree n (first + 1) (half false f) (half false g) (λ v is. same (false ∷ v) (ap suc is)) in
-    let high : cubes_from (first + 1) n (half true f) ≡ cubes_from (first + 1) n (half true g) = cubes_agree n (first + 1) (half true f) (half true g) (λ v is. same (true ∷ v) (ap suc is)) in
-    let empty : is_empty_set (suc n) f ≡ is_empty_set (suc n) g = ap not (list_any-agree f g (all_vectors (suc n)) each) in
-    let whole : is_whole_set (suc n) f ≡ is_whole_set (suc n) g = list_all-agree f g (all_vectors (suc n)) each in
-    let ignores : ignores_first n f ≡ ignores_first n g =
-    list_all-agree (λ v. same_value (f (false ∷ v)) (f (true ∷ v))) (λ v. same_value (g (false ∷ v)) (g (true ∷ v))) (all_vectors n)
-    (λ v c. let is = all_vectors-length n v c in ap (λ b. same_value b (f (true ∷ v))) (same (false ∷ v) (ap suc is)) ∙ ap (λ b. same_value (g (false ∷ v)) b) (same (true ∷ v) (ap suc is))) in
-    put (is_empty_set (suc n) f) (is_empty_set (suc n) g) (is_whole_set (suc n) f) (is_whole_set (suc n) g) (ignores_first n f) (ignores_first n g) empty whole ignores low high
-  where
-    put : (e d w x i j : Bool) → e ≡ d → w ≡ x → i ≡ j → {k l p q : List Cube} → k ≡ l → p ≡ q → cond e [] (cond w ([] ∷ []) (cond i k (map (λ cube. literal first false ∷ cube) k ++ map (λ cube. literal first true ∷ cube) p)))
-        ≡ cond d [] (cond x ([] ∷ []) (cond j l (map (λ cube. literal first false ∷ cube) l ++ map (λ cube. literal first true ∷ cube) q)))
-    put e d w x i j a b c {k} {l} {p} {q} s t = λ z. cond (a z) [] (cond (b z) ([] ∷ []) (cond (c z) (s z) (map (λ cube. literal first false ∷ cube) (s z) ++ map (λ cube. literal first true ∷ cube) (t z))))
 
 -- the rules of one action more
 pub rules_more : (start : Start) (enc : Encoded) (slots : List SetId) (h : HasTable start enc slots) (a place : ℕ) (before after : List PlanRule) (cubes : List Cube) → a < action_count start.task → place ≡ 7 + action_count start.task + a

@@ -1,20 +1,20 @@
 -- The rounds on sets of states: from one to the next, and the last one.
-use Rattle.std.proofs.Common.{◌≡◌, ℕ, suc, ◌+◌, ◌<◌, List, length, refl, sym, ap, ◌∙◌, arith}
-use Rattle.std.specs.List.{Contains}
+use Rattle.std.proofs.Common.{◌≡◌, ℕ, suc, ◌+◌, ◌<◌, List, refl, sym, ap, ◌∙◌, arith}
 use Rattle.dd_nodes.specs.Subfunctions.{Function}
 use Rattle.dd_sets.specs.declared.slots.SetId.{SetId}
 use Rattle.encode_task.specs.Slots.{Encoded}
+use Rattle.encode_task.proofs.StateVectors.{same_functions}
 use Rattle.task_core.specs.Cubes.{SetOfVectors}
+use Rattle.task_core.specs.Systems.{IsVector}
 use Rattle.task_core.specs.Tasks.{action_count, fluent_count, system_of}
-use Rattle.task_core.specs.Vectors.{Vector, all_vectors, value_of}
-use Rattle.plan_theory.proofs.Cubes.{all_vectors-agree, all_vectors-length}
+use Rattle.task_core.specs.Vectors.{all_vectors, value_of}
 use Rattle.slot_board.proofs.BoardSlots.{depends}
 use Rattle.slot_board.specs.Board.{set_at}
 use Rattle.slot_board.specs.Board.{Moved, Start}
 use Rattle.plan_theory.specs.PairRounds.{IsLastRound, round}
 use Rattle.cyclic_plan.specs.Stages.{HasNear, HasPairs, HasRound, HasRounds, IsLeft, Takings}
-use Rattle.cyclic_plan.proofs.Growth.{same_functions}
-use Rattle.plan_theory.proofs.RoundSteps.{held, holds_fewer, round_shrinks}
+use Rattle.plan_theory.proofs.FewerStates.{fewer}
+use Rattle.plan_theory.proofs.RoundSteps.{held, round_shrinks}
 use Rattle.cyclic_plan.proofs.StageSteps.{here, still}
 
 -- whatever stands at the near states' place
@@ -49,15 +49,10 @@ pub round_less : (start : Start) (enc now : Encoded) (old new : List SetId) (r n
     → HasNear start now new (round (system_of start.task) (suc r)) taken near
     → held (λ v. set_at now.sets new 1 (value_of v)) (all_vectors n) < held (λ v. set_at enc.sets old 1 (value_of v)) (all_vectors n)
 round_less start enc now old new r n h differ is_n taken near after =
-    holds_fewer (λ v. set_at enc.sets old 1 (value_of v)) (λ v. set_at now.sets new 1 (value_of v)) (all_vectors n)
-    (λ v c inside.
-    let is = state v c in
+    fewer n (λ v. set_at enc.sets old 1 (value_of v)) (λ v. set_at now.sets new 1 (value_of v))
+    (λ v long inside.
+    let is : IsVector (system_of start.task) v = long ∙ is_n in
     h.round.holds_left v is ∙ round_shrinks (system_of start.task) r v (sym (after.round.holds_left v is) ∙ inside))
     (λ same. differ (same_functions (fluent_count start.task) (set_at enc.sets old 3) (set_at enc.sets old 1)
     (depends start enc old h.round.at h.round.sound 3) (depends start enc old h.round.at h.round.sound 1)
-    (λ v is.
-    h.holds_near v is ∙ sym (after.round.holds_left v is)
-    ∙ all_vectors-agree (λ u. set_at now.sets new 1 (value_of u)) (λ u. set_at enc.sets old 1 (value_of u)) n same v (is ∙ sym is_n))))
-  where
-    state : (v : Vector) → Contains (all_vectors n) v → length v ≡ fluent_count start.task
-    state v c = all_vectors-length n v c ∙ is_n
+    (λ v is. h.holds_near v is ∙ sym (after.round.holds_left v is) ∙ same v (is ∙ sym is_n))))

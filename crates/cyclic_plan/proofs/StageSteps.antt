@@ -1,21 +1,18 @@
 -- What the slots of a search hold after each step.
-use Rattle.std.proofs.Common.{◌≡◌, ◌≢◌, ℕ, ◌+◌, ◌<◌, ◌≤◌, ◌==◌, Bool, true, false, cond, not, ◌&&◌, ◌||◌, List, [], ◌∷◌, length, refl, sym, ap, subst, ◌∙◌, ⊎_elim, arith}
-use Rattle.std.specs.List.{list_all, list_any}
-use Rattle.std.proofs.lemmas.Bool.{cases_eq, cond-false, cond-true, eq-eqb, false≢true, ne_eqb}
-use Rattle.dd_nodes.specs.Subfunctions.{DependsOnly, Function}
+use Rattle.std.proofs.Common.{◌≡◌, ◌≢◌, ℕ, ◌+◌, ◌<◌, ◌≤◌, ◌==◌, Bool, true, false, cond, not, ◌&&◌, ◌||◌, List, [], length, refl, sym, ap, subst, ◌∙◌, ⊎_elim, arith}
+use Rattle.std.specs.List.{list_any}
+use Rattle.std.proofs.lemmas.Bool.{cases_eq, cond-false, cond-true, eq-eqb, ne_eqb}
+use Rattle.dd_nodes.specs.Subfunctions.{Function}
 use Rattle.dd_ops.specs.Operations.{and_of, minus_of, or_of}
 use Rattle.dd_sets.specs.declared.slots.SetId.{SetId}
 use Rattle.encode_task.specs.Slots.{Encoded}
-use Rattle.preimage.specs.Preimages.{strong_preimage, weak_preimage}
-use Rattle.preimage.proofs.OutcomeLemmas.{strong_leads, weak_leads}
+use Rattle.preimage.proofs.Leads.{strong_agrees, weak_agrees}
 use Rattle.task_core.specs.Cubes.{SetOfVectors}
 use Rattle.task_core.specs.Systems.{System}
-use Rattle.task_core.specs.Tasks.{action_count, fluent_count, is_executable, next_states, system_of}
+use Rattle.task_core.specs.Tasks.{action_count, system_of}
 use Rattle.task_core.specs.Vectors.{Vector, value_of}
-use Rattle.task_core.proofs.TaskSystem.{exec_executable, executable_exec, is_system}
 use Rattle.plan_theory.specs.Layers.{may_lead, must_lead}
-use Rattle.plan_theory.proofs.Weak.{HasOutcome-Exec}
-use Rattle.list_laws.proofs.Elements.{Contains-head, list_all-agree, list_any-agree, list_any-from, list_any-witness, list_all-at}
+use Rattle.list_laws.proofs.Booleans.{and_false, and_one}
 use Rattle.slot_board.proofs.BoardSlots.{depends}
 use Rattle.slot_board.specs.Board.{led, set_at}
 use Rattle.slot_board.specs.Board.{Moved, Start}
@@ -60,53 +57,13 @@ module _ (start : Start) (enc now : Encoded) (old new : List SetId) (place : ℕ
     holds_next = still 4 next (omega arith) (λ e. d (sym e)) h.holds_next;
   }
 
--- where an action leads into a set of states
-pub weak_agrees : (start : Start) (a : ℕ) (f : Function) (set : SetOfVectors) → DependsOnly 0 (fluent_count start.task) f → Agrees start f set → Agrees start (weak_preimage start.task a f) (λ v. may_lead (system_of start.task) set v a)
-weak_agrees start a f set only same v is =
-    weak_leads start.task a f v only
-    ∙ list_any-agree (λ t. f (value_of t)) set (next_states start.task v a) (λ t o. same t ((is_system start.task).next v a t o).vector)
-
-both_lead : (e any all : Bool) → (all ≡ true → e ≡ true → any ≡ true) → (any ≡ true → e ≡ true) → (e && all) ≡ (any && all)
-both_lead true true all there back = refl
-both_lead true false true there back = absurd (false≢true (there refl refl))
-both_lead true false false there back = refl
-both_lead false true all there back = absurd (false≢true (back refl))
-both_lead false false all there back = refl
-
-pub strong_agrees : (start : Start) (a : ℕ) (f : Function) (set : SetOfVectors) → DependsOnly 0 (fluent_count start.task) f → Agrees start f set → Agrees start (strong_preimage start.task a f) (λ v. must_lead (system_of start.task) set v a)
-strong_agrees start a f set only same v is =
-    strong_leads start.task a f v only
-    ∙ ap (λ b. is_executable start.task v a && b) (list_all-agree (λ t. f (value_of t)) set (next_states start.task v a) (λ t o. same t ((is_system start.task).next v a t o).vector))
-    ∙ both_lead (is_executable start.task v a) (list_any set (next_states start.task v a)) (list_all set (next_states start.task v a)) some none
-  where
-    -- an action that can be executed has an outcome
-    pick : (xs : List Vector) → (xs ≡ [] → ⊥) → list_all set xs ≡ true → list_any set xs ≡ true
-    pick [] full h = absurd (full refl)
-    pick (x ∷ xs) full h = list_any-from set (x ∷ xs) x (Contains-head x xs) (list_all-at set (x ∷ xs) x h (Contains-head x xs))
-
-    some : list_all set (next_states start.task v a) ≡ true → is_executable start.task v a ≡ true → list_any set (next_states start.task v a) ≡ true
-    some h e = pick (next_states start.task v a) (executable_exec start.task v a e) h
-
-    none : list_any set (next_states start.task v a) ≡ true → is_executable start.task v a ≡ true
-    none h =
-        let w = list_any-witness set (next_states start.task v a) h in
-        exec_executable start.task v a (HasOutcome-Exec (system_of start.task) v a w.0 w.1)
-
 -- an outcome of a kept pair
 pub may_restricted : (sys : System) (pairs : Pairs) (set : SetOfVectors) (v : Vector) (a : ℕ) → may_lead (restricted sys pairs) set v a ≡ (may_lead sys set v a && pairs v a)
 may_restricted sys pairs set v a = go (pairs v a)
   where
-    last : (b : Bool) → b ≡ (b && true)
-    last true = refl
-    last false = refl
-
-    none : (b : Bool) → false ≡ (b && false)
-    none true = refl
-    none false = refl
-
     go : (b : Bool) → list_any set (cond b (sys.next v a) []) ≡ (may_lead sys set v a && b)
-    go true = last (list_any set (sys.next v a))
-    go false = none (list_any set (sys.next v a))
+    go true = and_one (list_any set (sys.next v a))
+    go false = sym (and_false (list_any set (sys.next v a)))
 
 turned : (m l g : Bool) → (m && (l && g)) ≡ (l && (g && m))
 turned true true true = refl
@@ -122,7 +79,7 @@ pub pairs_agree : (start : Start) (enc mid : Encoded) (old half : List SetId) (a
 pairs_agree start enc mid old half a left taken l h first v is =
     let sys = system_of start.task in
     let outside = still start enc mid old half (7 + a) _ first h.round.places 2 _ (omega arith) (λ e. absurd (omega arith)) h.holds_outside in
-    ap (λ x. x && set_at mid.sets half 2 (value_of v)) (here start enc mid old half (7 + a) _ first h.round.places (λ u. must_lead sys left u a) (strong_agrees start a (set_at enc.sets old 1) left (depends start enc old h.round.at h.round.sound 1) h.round.holds_left) v is)
+    ap (λ x. x && set_at mid.sets half 2 (value_of v)) (here start enc mid old half (7 + a) _ first h.round.places (λ u. must_lead sys left u a) (strong_agrees start.task a (set_at enc.sets old 1) left (depends start enc old h.round.at h.round.sound 1) h.round.holds_left) v is)
     ∙ ap (λ x. must_lead sys left v a && x) (outside v is)
     ∙ turned (must_lead sys left v a) (left v) (not (is_goal sys v))
 
@@ -153,7 +110,7 @@ pub hits_agree : (start : Start) (enc mid : Encoded) (old half : List SetId) (a 
 hits_agree start enc mid old half a left taken near next l h first v is =
     let sys = system_of start.task in
     let n = next_still start enc mid old half 5 _ first h.by_near.round.places left taken near next h (λ e. absurd (omega arith)) (λ e. absurd (omega arith)) (λ e. absurd (omega arith)) (λ e. absurd (omega arith)) (omega arith) in
-    ap (λ x. x && set_at mid.sets half (7 + a) (value_of v)) (here start enc mid old half 5 _ first h.by_near.round.places (λ u. may_lead sys near u a) (weak_agrees start a (set_at enc.sets old 3) near (depends start enc old h.by_near.round.at h.by_near.round.sound 3) h.by_near.holds_near) v is)
+    ap (λ x. x && set_at mid.sets half (7 + a) (value_of v)) (here start enc mid old half 5 _ first h.by_near.round.places (λ u. may_lead sys near u a) (weak_agrees start.task a (set_at enc.sets old 3) near (depends start enc old h.by_near.round.at h.by_near.round.sound 3) h.by_near.holds_near) v is)
     ∙ ap (λ x. may_lead sys near v a && x) (n.by_near.holds_pairs a l v is)
     ∙ sym (may_restricted sys (kept sys left) near v a)
 

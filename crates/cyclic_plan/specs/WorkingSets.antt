@@ -3,12 +3,11 @@ use Rattle.std.specs.Prelude.{◌≡◌, ℕ, ◌+◌, ◌<◌, ◌≤◌, true}
 use Rattle.dd_nodes.specs.Subfunctions.{Function}
 use Rattle.dd_ops.specs.Operations.{and_of}
 use Rattle.dd_sets.specs.Rooms.{Small}
-use Rattle.encode_task.specs.TaskSets.{first_values, initial_set, space_set}
+use Rattle.encode_task.specs.TaskSets.{initial_set, space_set, states_in}
 use Rattle.encode_task.specs.WorkingSets.{IsMadeByEncode}
 use Rattle.preimage.specs.WorkingSets.{IsMadeByRound, IsMadeByRounds, hits_at}
 use Rattle.slot_board.specs.Board.{first_of}
 use Rattle.slot_board.specs.declared.board.Outcomes.{Outcomes}
-use Rattle.task_core.specs.Cubes.{SetOfVectors}
 use Rattle.task_core.specs.Tasks.{action_count, fluent_count, system_of}
 use Rattle.task_core.specs.declared.classes.Class.TheVariants.{Weak}
 use Rattle.task_core.specs.declared.tasks.Task.{Task}
@@ -16,10 +15,6 @@ use Rattle.plan_theory.specs.LargestSets.{IsLargestSet, covers}
 use Rattle.plan_theory.specs.LayerPlans.{takers}
 use Rattle.plan_theory.specs.PairRounds.{kept, progress, round}
 use Rattle.plan_theory.specs.Pairs.{Pairs, restricted}
-
--- the function that is true on the states of a set
-abbrev pub states_in : Task → SetOfVectors → Function
-states_in task set values = set (first_values (fluent_count task) values)
 
 -- the pairs of round r: those of states that are left by the rounds before it, outside the goal, that
 -- don't lead out of what is left

@@ -28,7 +28,7 @@ one_number nodes vars reduced m n number_m number_n same = canonical vars nodes 
     (agree_values vars (function nodes m) (function nodes n) (depends_number vars nodes reduced m) (depends_number vars nodes reduced n) same)
 
 -- what holds of each list of at most n truth values holds of all in `lists_up_to n`
-lists_up_from : (p : List Bool → Bool) (n : ℕ) → ((first : List Bool) → length first ≤ n → p first ≡ true) → list_all p (lists_up_to n) ≡ true
+pub lists_up_from : (p : List Bool → Bool) (n : ℕ) → ((first : List Bool) → length first ≤ n → p first ≡ true) → list_all p (lists_up_to n) ≡ true
 unfolding lists_up_to
 lists_up_from p zero each = and_from (p []) true (each [] (omega arith)) refl
 lists_up_from p (suc n) each =

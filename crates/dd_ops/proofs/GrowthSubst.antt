@@ -6,6 +6,7 @@ use Rattle.std.proofs.lemmas.Bool.{cases_Bool, cases_lt, cases_eq, cond-true, co
 use Rattle.std.proofs.lemmas.List.{map-append}
 use Rattle.std.proofs.lemmas.List.FromFn.{length-range_with_len}
 use Rattle.std.proofs.lemmas.List.Elements.{Contains-append_left, Contains-append_right, All-nil, All-cons, All-append, All-map, All-weaker, All-filter, filter_passes}
+use Rattle.std.proofs.lemmas.Simd.{map-map}
 use Rattle.dd_nodes.specs.declared.node.Node.{Node}
 use Rattle.dd_nodes.specs.NodeList.{Values, with_value, node_at, function, IsReduced}
 use Rattle.dd_nodes.specs.Subfunctions.{Function, with_first, fixed, lists, lists_up_to, agree, subfunctions, IsSubfunction}
@@ -19,10 +20,6 @@ use Rattle.dd_nodes.proofs.Dependence.{sub_chain, sub_self, function_at_hi, func
 use Rattle.dd_ops.proofs.GrowthParts.{part_same}
 use Rattle.dd_nodes.proofs.Reaching.{within_at, past_at}
 use Rattle.dd_ops.proofs.GrowthBounds.{length-lists_up_to, length-filter_within, grow_piece, grow-append, grow-nil, grow_each, grow_variable, grow_constant}
-
-map-map : {X Y Z : Type 0} (g : Y → Z) (h : X → Y) (xs : List X) → map g (map h xs) ≡ map (λ x. g (h x)) xs
-map-map g h [] = refl
-map-map g h (x ∷ xs) = ap (λ l. g (h x) ∷ l) (map-map g h xs)
 
 -- n is less than 2 ^ n, and 4 ^ n is its square
 less_pow : (n : ℕ) → n < 2 ^ n

@@ -1,7 +1,6 @@
 -- What a collection leaves in the slots and in the table.
-use Rattle.std.proofs.Common.{◌≡◌, inl, ℕ, zero, suc, ◌+◌, ◌<◌, cond, List, [], ◌∷◌, length, map, filter_map, drop, get_or, Option, Some, None, is_some, count_by, slice_index_or, All, refl, sym, ap, subst, ◌∙◌, arith}
+use Rattle.std.proofs.Common.{◌≡◌, inl, ℕ, zero, suc, ◌+◌, ◌<◌, List, [], ◌∷◌, length, map, filter_map, drop, get_or, Option, Some, None, is_some, count_by, slice_index_or, All, refl, sym, ap, subst, ◌∙◌, arith}
 use Rattle.std.specs.Option.{option_map_or}
-use Rattle.std.proofs.lemmas.List.Sums.{sum_by-cons}
 use Rattle.std.proofs.lemmas.Option.{none-some, same_Some}
 use Rattle.slab.specs.Slab.{entries_from}
 use Rattle.dd_nodes.specs.declared.node.Node.{Node}
@@ -18,6 +17,7 @@ use Rattle.dd_sets.specs.Orders.{read}
 use Rattle.dd_sets.specs.Stores.{renumbered, view_of}
 use Rattle.dd_sets.specs.Tries.{Collects}
 use Rattle.dd_sets.proofs.OrderLemmas.{order_kept}
+use Rattle.dd_sets.proofs.SlotLemmas.{count_more}
 
 -- the numbers that slots hold
 abbrev held : List (Option Ref) → List Ref
@@ -38,15 +38,12 @@ same_liveness (Some old ∷ slots) [] slot = refl
 same_liveness (Some old ∷ slots) (number ∷ new) zero = refl
 same_liveness (Some old ∷ slots) (number ∷ new) (suc slot) = same_liveness slots new slot
 
-one : Option Ref → ℕ
-one slot = cond (is_some slot) 1 0
-
 same_count : (slots : List (Option Ref)) (new : List Ref) → count_by is_some (renumbered slots new) ≡ count_by is_some slots
-unfolding renumbered one
+unfolding renumbered
 same_count [] new = refl
-same_count (None ∷ slots) new = omega (arith, same_count slots new, sum_by-cons one None slots, sum_by-cons one None (renumbered slots new))
+same_count (None ∷ slots) new = omega (arith, same_count slots new, count_more None slots, count_more None (renumbered slots new))
 same_count (Some old ∷ slots) [] = refl
-same_count (Some old ∷ slots) (number ∷ new) = omega (arith, same_count slots new, sum_by-cons one (Some old) slots, sum_by-cons one (Some number) (renumbered slots new))
+same_count (Some old ∷ slots) (number ∷ new) = omega (arith, same_count slots new, count_more (Some old) slots, count_more (Some number) (renumbered slots new))
 
 held_new : (slots : List (Option Ref)) (new : List Ref) → length new ≡ length (held slots) → held (renumbered slots new) ≡ new
 unfolding renumbered

@@ -2,7 +2,7 @@
 use Rattle.std.proofs.Common.{◌≡◌, ◌⊎◌, ℕ, zero, suc, ◌+◌, ◌-◌, ◌<◌, ◌≤◌, Bool, true, false, not, cond, List, [], ◌∷◌, ◌++◌, length, map, Some, refl, sym, ap, subst, ◌∙◌, ⊎_elim, inl, inr, arith, append_assoc, append-nil, ◌==◌}
 use borrow.Author.Tests.{eq-eqb}
 use Rattle.std.specs.List.{list_any, list_all}
-use Rattle.std.proofs.lemmas.Bool.{cases_lt, cond-true, cond-false, false_from_ne_true, both_ways, and_from, or_from}
+use Rattle.std.proofs.lemmas.Bool.{cases_lt, cond-true, cond-false, false_from_ne_true, both_ways, and_from, or_from, not-true}
 use Rattle.std.proofs.lemmas.List.{map-append}
 use Rattle.dd_nodes.specs.declared.node.Node.{Node}
 use Rattle.dd_nodes.specs.NodeList.{Values, IsNumber, IsReduced, StandsBelow, StandsFrom, function, node_at}
@@ -22,13 +22,9 @@ any_none : {X : Type 0} (p : X → Bool) → ((x : X) → p x ≡ false) → (xs
 any_none p each [] = refl
 any_none p each (x ∷ xs) = or_from (p x) (list_any p xs) (each x) (any_none p each xs)
 
-true_not_false : (b : Bool) → not b ≡ true → b ≡ false
-true_not_false true e = absurd (cc)
-true_not_false false e = refl
-
 -- an empty set, a whole one, and one that ignores the first fluent
 empty_each : (k : ℕ) (set : SetOfVectors) → is_empty_set k set ≡ true → (v : Vector) → length v ≡ k → set v ≡ false
-empty_each k set e v long = list_any_contains set (all_vectors k) v (true_not_false (list_any set (all_vectors k)) e) (all_vectors_has k v long)
+empty_each k set e v long = list_any_contains set (all_vectors k) v (not-true (list_any set (all_vectors k)) e) (all_vectors_has k v long)
 
 whole_each : (k : ℕ) (set : SetOfVectors) → is_whole_set k set ≡ true → (v : Vector) → length v ≡ k → set v ≡ true
 whole_each k set e v long = list_all_contains set (all_vectors k) v e (all_vectors_has k v long)

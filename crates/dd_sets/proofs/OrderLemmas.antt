@@ -1,5 +1,6 @@
 -- Functions read through an order of the fluents.
-use Rattle.std.proofs.Common.{◌≡◌, ℕ, ◌==◌, Bool, true, false, cond, List, [], refl, sym, ap, subst, ◌∙◌, arith}
+use Rattle.std.proofs.Common.{◌≡◌, ℕ, ◌==◌, Bool, cond, List, [], sym, ap, subst, ◌∙◌, arith}
+use Rattle.std.specs.Cmp.{both_ways}
 use borrow.Author.Tests.{eqb-true, eq-eqb}
 use Rattle.dd_nodes.specs.NodeList.{Values}
 use Rattle.dd_nodes.specs.Subfunctions.{Function, DependsOnly}
@@ -17,21 +18,15 @@ read_none order f none = ap (λ (o : List ℕ). read o f) none
 pub variable_none : {count : ℕ} (order variables : List ℕ) → AreInverse count order variables → (f : ℕ) → order ≡ [] → at_place variables f ≡ f
 variable_none order variables inverse f none = sym (at_none order (at_place variables f) none) ∙ inverse.there f
 
--- two tests that are true together are equal
-same_test : (a b : Bool) → (a ≡ true → b ≡ true) → (b ≡ true → a ≡ true) → a ≡ b
-same_test true b there back = sym (there refl)
-same_test false true there back = back refl
-same_test false false there back = refl
-
 module _ {count : ℕ} (order variables : List ℕ) (inverse : AreInverse count order variables) where
   -- the fluent of a variable is another's exactly where the variable is
   pub same_place : (v f : ℕ) → (v == at_place variables f) ≡ (at_place order v == f)
-  same_place v f = same_test (v == at_place variables f) (at_place order v == f)
+  same_place v f = both_ways (v == at_place variables f) (at_place order v == f)
       (λ e. eq-eqb (at_place order v) f (ap (at_place order) (eqb-true v (at_place variables f) e) ∙ inverse.there f))
       (λ e. eq-eqb v (at_place variables f) (sym (inverse.back v) ∙ ap (at_place variables) (eqb-true (at_place order v) f e)))
 
   pub same_fluent : (f v : ℕ) → (at_place variables f == v) ≡ (f == at_place order v)
-  same_fluent f v = same_test (at_place variables f == v) (f == at_place order v)
+  same_fluent f v = both_ways (at_place variables f == v) (f == at_place order v)
       (λ e. eq-eqb f (at_place order v) (sym (inverse.there f) ∙ ap (at_place order) (eqb-true (at_place variables f) v e)))
       (λ e. eq-eqb (at_place variables f) v (ap (at_place variables) (eqb-true f (at_place order v) e) ∙ inverse.back v))
 

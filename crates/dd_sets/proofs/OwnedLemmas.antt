@@ -1,6 +1,7 @@
 -- A function's own slots, put together from those of its calls.
-use Rattle.std.proofs.Common.{◌≡◌, ℕ, ◌+◌, ◌==◌, Bool, true, false, ◌||◌, [], ◌∷◌, ◌++◌, length, Result, Ok, Err, IfOk, OnErr, refl, sym, ap, ◌∙◌, arith, length-append}
+use Rattle.std.proofs.Common.{◌≡◌, ℕ, ◌+◌, ◌==◌, true, false, ◌||◌, [], ◌∷◌, ◌++◌, length, Result, Ok, Err, IfOk, OnErr, refl, sym, ap, ◌∙◌, arith, length-append}
 use borrow.Author.Tests.{eq-eqb}
+use Rattle.std.proofs.Math.Bool.{or_assoc}
 use Rattle.std.proofs.lemmas.Bool.{both_ways, or_parts, or_from, or_left, or_right}
 use Rattle.std.proofs.lemmas.List.Folds.{list_any-append}
 use Rattle.dd_nodes.specs.Subfunctions.{Function}
@@ -17,10 +18,6 @@ pub answered : (before after : LiveSets) (set : Function) (result : Result SetId
     → OnErr result (AddsNone before after) → OwnsAnswer before after set result
 answered before after set (Ok slot) adds kept none = own_add before before after [] (own_none before) kept slot.0 set adds
 answered before after set (Err e) adds kept none = own_same before before after [] (own_none before) kept none
-
-or_assoc : (a b c : Bool) → (a || (b || c)) ≡ ((a || b) || c)
-or_assoc true b c = refl
-or_assoc false b c = refl
 
 -- each own slot keeps its set where the live slots do
 new_kept : (before now next : LiveSets) → KeepsSets now next → (own : Slots) → ((slot : ℕ) → has_slot own slot ≡ true → IsLive now slot) → AreNew before now own → AreNew before next own
@@ -52,7 +49,7 @@ own_chain a b c xs ys first second =
       new = new_chain a b c xs first second.kept ys second.new;
       live = λ slot.
           second.live slot ∙ ap (λ l. has_slot ys slot || l) (first.live slot)
-          ∙ or_assoc (has_slot ys slot) (has_slot xs slot) (is_live a slot)
+          ∙ sym (or_assoc (has_slot ys slot) (has_slot xs slot) (is_live a slot))
           ∙ ap (λ l. l || is_live a slot) (sym (list_any-append (λ (e : ℕ × Function). e.0 == slot) ys xs));
       count = omega (arith, length-append ys xs);
     }

@@ -1,8 +1,7 @@
 -- How a caller takes over that its call found no room.
-use Rattle.std.proofs.Common.{◌≡◌, ◌⊎◌, inl, inr, ℕ, zero, suc, ◌+◌, ◌≤◌, true, false, cond, List, [], ◌∷◌, length, Contains, Option, Some, None, is_some, unwrap_or, Result, Ok, Err, IsErrOf, count_by, slice_index_or, refl, sym, ap, subst, ◌∙◌, ⊎_elim, arith}
+use Rattle.std.proofs.Common.{◌≡◌, ◌⊎◌, inl, inr, ℕ, zero, suc, ◌+◌, ◌≤◌, true, false, List, [], ◌∷◌, length, Contains, Option, Some, None, is_some, unwrap_or, Result, Ok, Err, IsErrOf, count_by, slice_index_or, refl, sym, ap, subst, ◌∙◌, ⊎_elim, arith}
 use Rattle.std.proofs.lemmas.Bool.{cases_Bool}
 use Rattle.std.proofs.lemmas.Option.{none-some}
-use Rattle.std.proofs.lemmas.List.Sums.{sum_by-cons}
 use Rattle.dd_nodes.specs.declared.node.Ref.{Ref}
 use Rattle.dd_nodes.specs.NodeList.{function}
 use Rattle.dd_nodes.specs.Subfunctions.{Function}
@@ -18,7 +17,7 @@ use Rattle.dd_sets.proofs.NoRoomLemmas.{no_room_of_piece, no_room_more, no_room_
 use Rattle.dd_sets.proofs.LiveLemmas.{added, in_live, live_in, moved}
 use Rattle.dd_sets.proofs.OwnedLemmas.{both, own_set}
 use Rattle.dd_sets.proofs.SizeLemmas.{no_pieces_rough}
-use Rattle.dd_sets.proofs.SlotLemmas.{live_number, set_is}
+use Rattle.dd_sets.proofs.SlotLemmas.{count_more, live_number, set_is}
 
 -- the sets of the slots that are live now and were not before
 module _ (meaning : Ref → Function) where
@@ -32,21 +31,18 @@ module _ (meaning : Ref → Function) where
   new_sets [] (x ∷ now) = with_slot None x (new_sets [] now)
   new_sets (b ∷ before) (x ∷ now) = with_slot b x (new_sets before now)
 
-  one : Option Ref → ℕ
-  one slot = cond (is_some slot) 1 0
-
   new_count : (before now : List (Option Ref)) → ((slot : ℕ) → is_some (slice_index_or before slot None) ≡ true → is_some (slice_index_or now slot None) ≡ true)
       → length (new_sets before now) + count_by is_some before ≤ count_by is_some now
-  unfolding new_sets with_slot one
+  unfolding new_sets with_slot
   new_count [] [] live = omega arith
-  new_count (None ∷ before) [] live = let rest = new_count before [] (λ slot is. absurd (let e = live (suc slot) is in cc)) in omega (arith, rest, sum_by-cons one None before)
+  new_count (None ∷ before) [] live = let rest = new_count before [] (λ slot is. absurd (let e = live (suc slot) is in cc)) in omega (arith, rest, count_more None before)
   new_count (Some n ∷ before) [] live = absurd (let e = live 0 refl in cc)
-  new_count [] (None ∷ now) live = let rest = new_count [] now (λ slot is. absurd (cc)) in omega (arith, rest, sum_by-cons one None now)
-  new_count [] (Some n ∷ now) live = let rest = new_count [] now (λ slot is. absurd (cc)) in omega (arith, rest, sum_by-cons one (Some n) now)
-  new_count (None ∷ before) (None ∷ now) live = let rest = new_count before now (λ slot is. live (suc slot) is) in omega (arith, rest, sum_by-cons one None before, sum_by-cons one None now)
-  new_count (None ∷ before) (Some n ∷ now) live = let rest = new_count before now (λ slot is. live (suc slot) is) in omega (arith, rest, sum_by-cons one None before, sum_by-cons one (Some n) now)
+  new_count [] (None ∷ now) live = let rest = new_count [] now (λ slot is. absurd (cc)) in omega (arith, rest, count_more None now)
+  new_count [] (Some n ∷ now) live = let rest = new_count [] now (λ slot is. absurd (cc)) in omega (arith, rest, count_more (Some n) now)
+  new_count (None ∷ before) (None ∷ now) live = let rest = new_count before now (λ slot is. live (suc slot) is) in omega (arith, rest, count_more None before, count_more None now)
+  new_count (None ∷ before) (Some n ∷ now) live = let rest = new_count before now (λ slot is. live (suc slot) is) in omega (arith, rest, count_more None before, count_more (Some n) now)
   new_count (Some m ∷ before) (None ∷ now) live = absurd (let e = live 0 refl in cc)
-  new_count (Some m ∷ before) (Some n ∷ now) live = let rest = new_count before now (λ slot is. live (suc slot) is) in omega (arith, rest, sum_by-cons one (Some m) before, sum_by-cons one (Some n) now)
+  new_count (Some m ∷ before) (Some n ∷ now) live = let rest = new_count before now (λ slot is. live (suc slot) is) in omega (arith, rest, count_more (Some m) before, count_more (Some n) now)
 
   -- a slot that is live now and was not before is among them
   new_in : (before now : List (Option Ref)) (slot : ℕ) (number : Ref) → slice_index_or now slot None ≡ Some number → is_some (slice_index_or before slot None) ≡ false

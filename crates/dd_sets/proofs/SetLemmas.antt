@@ -3,7 +3,6 @@ use Rattle.std.proofs.Common.{◌≡◌, ◌≢◌, ◌↔◌, ℕ, zero, suc, �
 use Rattle.std.specs.Option.{option_map_or}
 use borrow.Author.Tests.{eqb-true, eq-eqb}
 use Rattle.std.proofs.lemmas.Bool.{cases_eq}
-use Rattle.std.proofs.lemmas.List.Sums.{sum_by-cons}
 use Rattle.dd_nodes.specs.declared.node.Ref.{Ref}
 use Rattle.dd_nodes.specs.NodeList.{Values, IsNumber, function}
 use Rattle.dd_nodes.specs.Subfunctions.{Function, DependsOnly}
@@ -19,7 +18,7 @@ use Rattle.dd_sets.specs.Orders.{read, at_place, AreInverse}
 use Rattle.dd_sets.specs.Stores.{view_of, ref_at, refs_of, AreRefs}
 use Rattle.dd_sets.specs.declared.slots.SetId.{SetId}
 use Rattle.dd_sets.proofs.OrderLemmas.{at_none, read_depends, read_same, same_fluent}
-use Rattle.dd_sets.proofs.SlotLemmas.{set_is, live_number}
+use Rattle.dd_sets.proofs.SlotLemmas.{set_is, live_number, count_more}
 
 -- the set of any slot is the function of its number, or of the number of the empty set
 pub set_ref : (sets : LiveSets) (slot : ℕ) → read sets.order (function sets.nodes (ref_at sets slot).0) ≡ set_of sets slot
@@ -132,11 +131,11 @@ count_sets sets = go sets.live
   where
     go : (slots : List (Option Ref)) → length (map (λ (number : Ref). read sets.order (function sets.nodes number.0)) (filter_map (λ slot. slot) slots)) ≡ count_by is_some slots
     go [] = refl
-    go (None ∷ slots) = omega (arith, go slots, sum_by-cons (λ (o : Option Ref). cond (is_some o) 1 0) None slots)
-    go (Some number ∷ slots) = omega (arith, go slots, sum_by-cons (λ (o : Option Ref). cond (is_some o) 1 0) (Some number) slots)
+    go (None ∷ slots) = omega (arith, go slots, count_more None slots)
+    go (Some number ∷ slots) = omega (arith, go slots, count_more (Some number) slots)
 
 -- no value is in A and not in B exactly where each one of A is in B
-inside_to : (a b : Bool) → a && not b ≡ false → a ≡ true → b ≡ true
+pub inside_to : (a b : Bool) → a && not b ≡ false → a ≡ true → b ≡ true
 inside_to true true e is = refl
 inside_to true false e is = absurd (cc)
 inside_to false b e is = absurd (cc)

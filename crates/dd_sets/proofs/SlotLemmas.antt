@@ -1,8 +1,9 @@
 -- From what an operation on numbers says, and what became of the slots, to what the call leaves in
 -- the slots.
-use Rattle.std.proofs.Common.{◌≡◌, ◌≢◌, ℕ, suc, ◌+◌, ◌≤◌, true, false, List, [], ◌∷◌, length, map, filter_map, slice_index_or, Option, Some, None, is_some, Result, Ok, Err, IfOk, OnErr, refl, sym, ap, subst, ◌∙◌, ⊎_elim, arith}
+use Rattle.std.proofs.Common.{◌≡◌, ◌≢◌, ℕ, suc, ◌+◌, ◌≤◌, true, false, cond, List, [], ◌∷◌, length, map, filter_map, slice_index_or, Option, Some, None, is_some, count_by, Result, Ok, Err, IfOk, OnErr, refl, sym, ap, subst, ◌∙◌, ⊎_elim, arith}
 use Rattle.std.specs.Option.{option_map_or}
 use Rattle.std.proofs.lemmas.Bool.{cases_eq}
+use Rattle.std.proofs.lemmas.List.Sums.{sum_by-cons}
 use Rattle.std.proofs.lemmas.Option.{same_Some}
 use Rattle.dd_nodes.specs.declared.node.Ref.{Ref}
 use Rattle.dd_nodes.specs.declared.node.DdErr.{DdErr}
@@ -219,3 +220,7 @@ placed {o} {t} {l0} {l} {number} {result} stores opens sound {set} value in_tabl
 
 pub number_in_table : {o : List ℕ} {table : NodeTable} {live : List (Option Ref)} {before : LiveSets} → view_of o table live ≡ before → {n : ℕ} → IsNumber before.nodes n → IsNumber table.nodes n
 number_in_table opens {n} number = subst (λ (s : LiveSets). IsNumber s.nodes n) (sym opens) number
+
+-- a slot counts one if it is live
+pub count_more : (slot : Option Ref) (slots : List (Option Ref)) → count_by is_some (slot ∷ slots) ≡ cond (is_some slot) 1 0 + count_by is_some slots
+count_more slot slots = sum_by-cons (λ (o : Option Ref). cond (is_some o) 1 0) slot slots

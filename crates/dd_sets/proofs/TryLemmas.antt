@@ -1,5 +1,5 @@
 -- An operation, its second try after a collection, and what they leave together.
-use Rattle.std.proofs.Common.{◌≡◌, ℕ, zero, suc, ◌+◌, ◌^◌, ◌<◌, ◌≤◌, Bool, true, false, List, [], ◌∷◌, ◌++◌, length, map, filter_map, flat_map, slice_index_or, Option, Some, None, Result, Ok, Err, IfOk, IsErrOf, is_some, ⊎_elim, refl, sym, ap, subst, ◌∙◌, arith}
+use Rattle.std.proofs.Common.{◌≡◌, ℕ, suc, ◌+◌, ◌^◌, ◌<◌, ◌≤◌, Bool, true, false, List, [], ◌∷◌, ◌++◌, length, map, filter_map, flat_map, slice_index_or, Option, Some, None, Result, Ok, Err, IfOk, IsErrOf, is_some, ⊎_elim, refl, sym, ap, subst, ◌∙◌, arith}
 use Rattle.std.specs.List.{list_any, list_all}
 use Rattle.std.specs.Option.{option_map_or}
 use Rattle.std.proofs.lemmas.Bool.{and_from, or_cases}
@@ -8,9 +8,10 @@ use Rattle.dd_nodes.specs.declared.node.DdErr.{DdErr}
 use Rattle.dd_nodes.specs.declared.node.Node.{Node}
 use Rattle.dd_nodes.specs.declared.node.Ref.{Ref}
 use Rattle.dd_nodes.specs.NodeList.{IsNumber, IsReduced, function}
-use Rattle.dd_nodes.specs.Subfunctions.{Function, IsSubfunction, agree, constants, fixed, functions, lists, lists_up_to, nodes, subfunctions}
+use Rattle.dd_nodes.specs.Subfunctions.{Function, IsSubfunction, agree, constants, fixed, functions, lists_up_to, nodes, subfunctions}
 use Rattle.dd_nodes.specs.Table.{NodeTable}
-use Rattle.dd_nodes.proofs.Agreement.{agree_chain, agree_same, lists_from}
+use Rattle.dd_nodes.proofs.Agreement.{agree_chain, agree_same}
+use Rattle.dd_nodes.proofs.NodeCount.{lists_up_from}
 use Rattle.dd_nodes.proofs.NodeLemmas.{function_false, function_true}
 use Rattle.dd_nodes.proofs.Reaching.{reached_number, sub_reached}
 use Rattle.dd_ops.specs.Calls.{Answers}
@@ -119,16 +120,6 @@ module _ (a b : LiveSets) (vars : b.vars ≡ a.vars) (live : (slot : ℕ) → is
 -- so an operation that was tried may be tried again
 pub ready_again : (operation : Operation) (before after : LiveSets) (answer : Result Ref DdErr) → IsSets before → Computes before after operation answer → IsReady before operation → IsReady after operation
 ready_again operation before after answer sound computes = still_ready before after computes.keeps.vars (same_adds_none before after sound computes.keeps computes.slots).others operation
-
--- what holds of each list of at most n truth values holds of all in `lists_up_to n`
-lists_up_from : (p : List Bool → Bool) (n : ℕ) → ((first : List Bool) → length first ≤ n → p first ≡ true) → list_all p (lists_up_to n) ≡ true
-unfolding lists_up_to
-lists_up_from p zero each = and_from (p []) true (each [] (omega arith)) refl
-lists_up_from p (suc n) each =
-    list_all-append p (lists_up_to n) (lists (suc n))
-    ∙ and_from (list_all p (lists_up_to n)) (list_all p (lists (suc n)))
-    (lists_up_from p n (λ first few. each first (omega arith)))
-    (lists_from p (suc n) (λ first long. each first (omega arith)))
 
 -- the subfunctions of live sets are functions of numbers of the table
 module _ (vars : ℕ) (list : List Node) (reduced : IsReduced vars list) where

@@ -5,6 +5,7 @@ use Rattle.std.proofs.lemmas.Bool.{and_parts, false≢true}
 use Rattle.std.proofs.lemmas.List.{take_more}
 use Rattle.std.proofs.lemmas.List.Concat.{flat_map-append}
 use Rattle.std.proofs.lemmas.List.Folds.{list_any_more}
+use Rattle.list_laws.proofs.Booleans.{or_false}
 use Rattle.dd_nodes.specs.Subfunctions.{Function}
 use Rattle.dd_ops.specs.Operations.{variable, minus_of, or_of}
 use Rattle.task_core.specs.Actions.{adds, deletes, after_value, change_makes}
@@ -24,11 +25,7 @@ about change f positive set is = λ i values. set values || (sym (ap (λ b. b &&
 -- another change makes nothing so
 pub not_about : (change : Change) (f : ℕ) (positive : Bool) (set : Function) → names_it positive f change.lits.items ≡ false
     → set ≡ (λ values. set values || change_makes positive values f change)
-not_about change f positive set is = λ i values. (sym (or_none (set values)) ∙ (λ j. set values || (sym (ap (λ b. b && holds change.cond values) is) j))) i
-  where
-    or_none : (a : Bool) → (a || false) ≡ a
-    or_none true = refl
-    or_none false = refl
+not_about change f positive set is = λ i values. (sym (or_false (set values)) ∙ (λ j. set values || (sym (ap (λ b. b && holds change.cond values) is) j))) i
 
 -- there is a literal that passes where some does
 pub some_literal : (p : Lit → Bool) (lits : Cube) → list_any p lits ≡ true → (lit : Lit) × Contains lits lit

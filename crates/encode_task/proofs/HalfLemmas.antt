@@ -1,9 +1,10 @@
 -- Conditions by halves: what a part weighs, and what two halves mean together.
-use Rattle.std.proofs.Common.{◌≡◌, ℕ, suc, ◌+◌, ◌*◌, ◌<◌, ◌≤◌, ◌/◌, ◌==◌, Bool, true, false, ◌&&◌, ◌||◌, List, [], ◌∷◌, ◌++◌, map, length, take, drop, take-append-drop, Vec, Box, Result, Ok, Err, refl, sym, ap, subst, ◌∙◌, arith}
+use Rattle.std.proofs.Common.{◌≡◌, ℕ, suc, ◌+◌, ◌*◌, ◌<◌, ◌≤◌, ◌/◌, ◌==◌, true, false, List, [], ◌∷◌, ◌++◌, map, length, take, drop, take-append-drop, Vec, Box, Result, Ok, Err, sym, ap, subst, ◌∙◌, arith}
 use Rattle.std.specs.declared.alloc.Global.{Global}
 use Rattle.std.specs.List.{list_all}
 use Rattle.std.proofs.lemmas.Bool.{and_parts, eq-eqb, true≢false}
 use Rattle.std.proofs.lemmas.List.Folds.{list_all-append, list_any-append}
+use Rattle.list_laws.proofs.Booleans.{and_one, or_none}
 use Rattle.dd_nodes.specs.Subfunctions.{Function}
 use Rattle.dd_ops.specs.Operations.{and_of, or_of}
 use Rattle.task_core.specs.Conditions.{holds, ids_below}
@@ -90,19 +91,11 @@ all_halves xs ys parts are = λ i values. (sym (list_all-append (λ part. holds 
 pub some_halves : (xs ys parts : List Cond) → xs ++ ys ≡ parts → or_of (some_hold xs) (some_hold ys) ≡ some_hold parts
 some_halves xs ys parts are = λ i values. (sym (list_any-append (λ part. holds part values) xs ys) ∙ ap (λ l. some_hold l values) are) i
 
-and_true : (b : Bool) → b ≡ (b && true)
-and_true true = refl
-and_true false = refl
-
-or_false : (b : Bool) → b ≡ (b || false)
-or_false true = refl
-or_false false = refl
-
 pub all_one : (part : Cond) (parts : List Cond) → parts ≡ part ∷ [] → holds part ≡ all_hold parts
-all_one part parts is = (λ i values. and_true (holds part values) i) ∙ ap all_hold (sym is)
+all_one part parts is = (λ i values. and_one (holds part values) i) ∙ ap all_hold (sym is)
 
 pub some_one : (part : Cond) (parts : List Cond) → parts ≡ part ∷ [] → holds part ≡ some_hold parts
-some_one part parts is = (λ i values. or_false (holds part values) i) ∙ ap some_hold (sym is)
+some_one part parts is = (λ i values. or_none (holds part values) i) ∙ ap some_hold (sym is)
 
 -- the fluents of the halves
 pub halves_below : (n : ℕ) (xs ys parts : List Cond) → xs ++ ys ≡ parts → list_all (ids_below n) parts ≡ true → (list_all (ids_below n) xs ≡ true) × (list_all (ids_below n) ys ≡ true)

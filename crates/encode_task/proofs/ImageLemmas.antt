@@ -1,9 +1,9 @@
 -- What assignments make of a set, value by value: each member of the image has the values of an
 -- assigned member.
-use Rattle.std.proofs.Common.{◌≡◌, ◌≢◌, ℕ, ◌<◌, ◌==◌, Bool, true, false, cond, ◌&&◌, ◌||◌, [], ◌∷◌, refl, sym, ap, ◌∙◌, ⊎_elim, inl, inr, ◌⊎◌}
+use Rattle.std.proofs.Common.{◌≡◌, ◌≢◌, ℕ, ◌<◌, ◌==◌, Bool, true, false, cond, ◌&&◌, ◌||◌, [], ◌∷◌, refl, sym, ap, ◌∙◌, ⊎_elim, ◌⊎◌}
 use Rattle.std.specs.List.{fold, list_all}
 use borrow.Author.Tests.{eq-eqb}
-use Rattle.std.proofs.lemmas.Bool.{and_parts, and_from, or_left, or_right, cases_eq, ne_eqb, ltb-true}
+use Rattle.std.proofs.lemmas.Bool.{and_parts, and_from, or_left, or_right, cases_eq, ne_eqb, ltb-true, or_cases}
 use Rattle.dd_nodes.specs.NodeList.{Values, with_value}
 use Rattle.dd_nodes.specs.Subfunctions.{Function}
 use Rattle.task_core.specs.Cubes.{Cube}
@@ -63,10 +63,6 @@ value_other values f b g ne = ap (λ t. cond t b (values g)) (ne_eqb g f ne)
 or_some : (set : Function) (values : Values) (f : ℕ) (c : Bool) → set (with_value values f c) ≡ true → (set (with_value values f false) || set (with_value values f true)) ≡ true
 or_some set values f false member = or_left (set (with_value values f false)) (set (with_value values f true)) member
 or_some set values f true member = or_right (set (with_value values f false)) (set (with_value values f true)) member
-
-or_cases : (a b : Bool) → (a || b) ≡ true → (a ≡ true) ⊎ (b ≡ true)
-or_cases true b e = inl refl
-or_cases false b e = inr e
 
 pub image_assigned : (n f : ℕ) (b : Bool) (set : Function) → f < n → Depends n set → IsImage n (λ w. with_value w f b) set (assigned f b set)
 image_assigned n f b set small depends = record { from = from; to = to }

@@ -2,7 +2,7 @@
 use Rattle.std.proofs.Common.{◌≡◌, ℕ, zero, suc, ◌+◌, ◌<◌, ◌≤◌, ◌==◌, true, false, ◌||◌, inl, inr, ⊎_elim, List, [], ◌∷◌, ◌++◌, map, length, get_or, Contains, Option, Some, None, refl, sym, ap, subst, ◌∙◌, arith}
 use borrow.Author.Tests.{eqb-true}
 use Rattle.std.specs.List.{flat_map, range_with_len}
-use Rattle.std.proofs.lemmas.Bool.{cases_eq}
+use Rattle.std.proofs.lemmas.Bool.{cases_eq, or_cases}
 use Rattle.std.proofs.lemmas.List.Elements.{Contains-append_left, Contains-append_right}
 use Rattle.dd_nodes.specs.Subfunctions.{Function}
 use Rattle.dd_sets.specs.Calls.{KeepsSets}
@@ -23,7 +23,6 @@ use Rattle.encode_task.specs.Counts.{IsLeftAlone, some_leaves}
 use Rattle.encode_task.specs.Tables.{IsSharedSlot}
 use Rattle.dd_ops.specs.Operations.{variable}
 use Rattle.dd_sets.specs.declared.slots.SetId.{SetId}
-use Rattle.encode_task.proofs.OnlyLemmas.{either}
 use Rattle.encode_task.specs.TaskSets.{exec_of, lands_of}
 
 -- an element of one of several lists, of a list of images, and a number below another
@@ -69,9 +68,9 @@ adds_weaker P Q a b weaker one slot live = ⊎_elim (λ (old : IsLive a slot). i
 
 pub adds_owned : (P : Function → Type 0) (a b : LiveSets) (slot : ℕ) (set : Function) → Owns a b ((slot, set) ∷ []) → P set → AddsSets P a b
 adds_owned P a b slot set owns is other live = ⊎_elim
-    (λ (here : (slot == other || false) ≡ true). inr (subst (λ s. P (set_of b s)) (⊎_elim (λ (same : (slot == other) ≡ true). eqb-true slot other same) (λ no. absurd (cc)) (either (slot == other) false here)) (subst P (sym owns.new.2) is)))
+    (λ (here : (slot == other || false) ≡ true). inr (subst (λ s. P (set_of b s)) (⊎_elim (λ (same : (slot == other) ≡ true). eqb-true slot other same) (λ no. absurd (cc)) (or_cases (slot == other) false here)) (subst P (sym owns.new.2) is)))
     (λ (old : is_live a other ≡ true). inl old)
-    (either (slot == other || false) (is_live a other) (sym (owns.live other) ∙ live))
+    (or_cases (slot == other || false) (is_live a other) (sym (owns.live other) ∙ live))
 
 -- the sets of an action are kept for it
 pub exec_of_action : (n : ℕ) (invariant : Cond) (action : GroundAction) → Contains (sets_of_action n invariant action) (exec_of invariant action)

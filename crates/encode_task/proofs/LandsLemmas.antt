@@ -2,9 +2,11 @@
 use Rattle.std.proofs.Common.{◌≡◌, ℕ, zero, suc, ◌+◌, ◌<◌, ◌^◌, ◌==◌, Bool, true, false, ◌&&◌, ◌||◌, ⊎_elim, List, [], ◌∷◌, ◌++◌, Vec, Contains, map, length, get_or, take, ltb, refl, sym, ap, subst, ◌∙◌, arith}
 use Rattle.std.specs.declared.alloc.Global.{Global}
 use Rattle.std.specs.List.{list_all, list_any}
+use Rattle.std.proofs.Math.Bool.{and-or_distrib_left}
 use Rattle.std.proofs.lemmas.Bool.{and_parts, false≢true, ltb-true}
 use Rattle.std.proofs.lemmas.List.{take_all, take_more}
 use Rattle.std.proofs.lemmas.List.Folds.{list_any_more}
+use Rattle.list_laws.proofs.Booleans.{and_false, and_one}
 use Rattle.dd_nodes.specs.NodeList.{Values}
 use Rattle.dd_nodes.specs.Subfunctions.{Function}
 use Rattle.dd_ops.specs.Operations.{and_of, or_of}
@@ -92,14 +94,10 @@ pub exec_always : (sets : LiveSets) (n : ℕ) (invariant : Cond) (action : Groun
     → and_of (holds invariant) (holds action.exec) ≡ exec_of invariant action
 exec_always sets n invariant action lands within made none = ⊎_elim
     (λ (always : AlwaysHolds invariant × (lands ≡ [])). λ i values.
-    (and_true (holds invariant values && holds action.exec values) ∙ ap (λ b. (holds invariant values && holds action.exec values) && b) (sym (every_lands invariant action.outcomes.items values always.0 (has_outcome n action within)))) i)
+    (and_one (holds invariant values && holds action.exec values) ∙ ap (λ b. (holds invariant values && holds action.exec values) && b) (sym (every_lands invariant action.outcomes.items values always.0 (has_outcome n action within)))) i)
     (λ (each : AllPaired (λ slot o. Holds sets slot (lands_of invariant o)) lands action.outcomes.items). absurd (no_pairs lands action.outcomes.items each none (has_outcome n action within)))
     made
   where
-    and_true : (a : Bool) → a ≡ (a && true)
-    and_true true = refl
-    and_true false = refl
-
     no_pairs : (lands : List SetId) (outcomes : List Outcome) → AllPaired (λ slot o. Holds sets slot (lands_of invariant o)) lands outcomes → length lands ≡ 0 → 0 < length outcomes → ⊥
     no_pairs [] [] each none some = omega arith
     no_pairs [] (o ∷ outcomes) each none some = each
@@ -145,23 +143,15 @@ pub first_lands : (before sets : LiveSets) (invariant : Cond) (outcomes : List O
     → in_slots sets allowed (take j lands) ≡ led_by invariant allowed (take j outcomes)
 first_lands before sets invariant outcomes lands allowed j kept each = λ i values. spread (allowed values) values j lands outcomes each i
   where
-    and_none : (a : Bool) → false ≡ (a && false)
-    and_none true = refl
-    and_none false = refl
-
-    out : (a s r : Bool) → ((a && s) || (a && r)) ≡ (a && (s || r))
-    out true s r = refl
-    out false s r = refl
-
     spread : (a : Bool) (values : Values) (j : ℕ) (lands : List SetId) (outcomes : List Outcome) → AllPaired (λ slot o. Holds before slot (lands_of invariant o)) lands outcomes
         → list_any (λ slot. a && set_of sets slot.0 values) (take j lands) ≡ (a && list_any (λ o. lands_of invariant o values) (take j outcomes))
-    spread a values zero lands outcomes each = and_none a
-    spread a values (suc j) [] [] each = and_none a
+    spread a values zero lands outcomes each = sym (and_false a)
+    spread a values (suc j) [] [] each = sym (and_false a)
     spread a values (suc j) [] (o ∷ outcomes) each = absurd each
     spread a values (suc j) (x ∷ lands) [] each = absurd each
     spread a values (suc j) (x ∷ lands) (o ∷ outcomes) each =
         let same = (holds_kept before sets kept x (lands_of invariant o) each.0).holds in
-        (λ i. (a && same i values) || spread a values j lands outcomes each.1 i) ∙ out a (lands_of invariant o values) (list_any (λ o. lands_of invariant o values) (take j outcomes))
+        (λ i. (a && same i values) || spread a values j lands outcomes each.1 i) ∙ sym (and-or_distrib_left a (lands_of invariant o values) (list_any (λ o. lands_of invariant o values) (take j outcomes)))
 
 -- with slots there is one for each outcome
 pub each_lands : (sets : LiveSets) (invariant : Cond) (outcomes : List Outcome) (lands : List SetId) → LandsMade sets invariant lands outcomes → 0 < length lands → AllPaired (λ slot o. Holds sets slot (lands_of invariant o)) lands outcomes

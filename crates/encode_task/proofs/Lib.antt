@@ -21,6 +21,7 @@ pub mod ShownLemmas
 pub mod SpaceLemmas
 pub mod StateLemmas
 pub mod StateSizes
+pub mod StateVectors
 pub mod StepLemmas
 pub mod TableLemmas
 pub mod TaskSizes

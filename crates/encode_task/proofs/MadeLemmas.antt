@@ -1,6 +1,8 @@
 -- The sets of a task stay so while live slots keep their sets.
 use Rattle.std.proofs.Common.{◌≡◌, ℕ, ◌<◌, List, Option, Some, None, length, get_or, refl, sym, subst, ◌∙◌}
 use Rattle.std.specs.Option.{option_map_or}
+use Rattle.std.specs.Prelude.{IsSome}
+use Rattle.std.proofs.lemmas.Bool.{false≢true}
 use Rattle.std.proofs.lemmas.Option.{same_Some}
 use Rattle.dd_nodes.specs.NodeList.{Values}
 use Rattle.dd_nodes.specs.Subfunctions.{Function}
@@ -69,3 +71,12 @@ next_holds task enc made a o f slot action outcome is =
           let shared = made.shared f slot same in
           record { live = shared.live; holds = shared.holds ∙ (λ i values. sym ((made.next a o action outcome).unlisted f unlisted values) i) }
     ] refl is
+
+-- the goal of a task has a slot
+goal_in : (task : Task) (sets : LiveSets) (slot : Option SetId) (goal : Option Cond) → HoldsGoal task sets slot goal → IsSome goal → IsSome slot
+goal_in task sets None (Some goal) holds some = absurd holds
+goal_in task sets (Some slot) goal holds some = refl
+goal_in task sets None None holds some = absurd (false≢true some)
+
+pub goal_there : (task : Task) (enc : Encoded) → MadeOf task enc → IsSome task.goal → IsSome enc.goal
+goal_there task enc made some = goal_in task enc.sets enc.goal task.goal made.goal some

@@ -1,8 +1,9 @@
 -- Which slots are live: a caller's, and those that were live before.
-use Rattle.std.proofs.Common.{◌≡◌, ℕ, ◌==◌, Bool, true, false, ◌||◌, List, [], ◌∷◌, ◌++◌, Option, Some, None, refl, sym, ap, subst, ◌∙◌, ⊎_elim, inl, inr, ◌⊎◌}
+use Rattle.std.proofs.Common.{◌≡◌, ℕ, ◌==◌, Bool, true, false, ◌||◌, List, [], ◌∷◌, ◌++◌, Option, Some, None, sym, ap, subst, ◌∙◌, ⊎_elim, ◌⊎◌}
 use Rattle.std.specs.List.{list_any}
-use Rattle.std.proofs.lemmas.Bool.{or_left, or_right}
+use Rattle.std.proofs.lemmas.Bool.{or_cases, or_left, or_right}
 use Rattle.std.proofs.lemmas.List.Folds.{list_any-append}
+use Rattle.list_laws.proofs.Booleans.{or_false}
 use Rattle.dd_nodes.specs.Subfunctions.{Function}
 use Rattle.dd_sets.specs.Frames.{Owns}
 use Rattle.dd_sets.specs.LiveSets.{LiveSets, is_live}
@@ -10,10 +11,6 @@ use Rattle.dd_sets.specs.declared.slots.SetId.{SetId}
 use Rattle.dd_ops.specs.Operations.{variable}
 use Rattle.encode_task.specs.Slots.{ActionSlots, is_listed, is_of_action, is_one_of, is_slot}
 use Rattle.encode_task.specs.Tables.{AddsOnly, IsSharedSlot}
-
-pub either : (a b : Bool) → (a || b) ≡ true → (a ≡ true) ⊎ (b ≡ true)
-either true b is = inl refl
-either false b is = inr is
 
 -- no slot more
 pub only_same : (sets : LiveSets) (own : ℕ → Bool) → AddsOnly sets sets own
@@ -27,16 +24,12 @@ only_chain a b c first second own before after firsts seconds slot live = ⊎_el
     (λ (was : is_live b slot ≡ true). ⊎_elim
     (λ (is : first slot ≡ true). or_left (own slot) (is_live a slot) (firsts slot is))
     (λ (old : is_live a slot ≡ true). or_right (own slot) (is_live a slot) old)
-    (either (first slot) (is_live a slot) (before slot was)))
-    (either (second slot) (is_live b slot) (after slot live))
+    (or_cases (first slot) (is_live a slot) (before slot was)))
+    (or_cases (second slot) (is_live b slot) (after slot live))
 
 -- the slot that a call answered
 pub only_owned : (before after : LiveSets) (slot : ℕ) (set : Function) → Owns before after ((slot, set) ∷ []) → AddsOnly before after (λ other. slot == other)
-only_owned before after slot set owns other live = ap (λ b. b || is_live before other) (sym (or_none (slot == other))) ∙ sym (owns.live other) ∙ live
-  where
-    or_none : (a : Bool) → (a || false) ≡ a
-    or_none true = refl
-    or_none false = refl
+only_owned before after slot set owns other live = ap (λ b. b || is_live before other) (sym (or_false (slot == other))) ∙ sym (owns.live other) ∙ live
 
 -- of a list the elements so far, and one more
 pub any_front : {X : Type 0} (p : X → Bool) (xs ys : List X) → list_any p xs ≡ true → list_any p (xs ++ ys) ≡ true

@@ -1,8 +1,10 @@
 -- A set of states over n fluents, by its members' values, and what an uncertain entry makes of it.
-use Rattle.std.proofs.Common.{◌≡◌, ℕ, zero, suc, ◌+◌, ◌<◌, Bool, true, false, cond, ◌||◌, List, [], ◌∷◌, ◌++◌, map, length, refl, sym, ap, subst, ◌∙◌, ⊎_elim, inl, inr, ◌⊎◌, arith}
+use Rattle.std.proofs.Common.{◌≡◌, ℕ, zero, suc, ◌+◌, ◌<◌, Bool, true, false, cond, List, [], ◌∷◌, ◌++◌, map, length, refl, sym, ap, subst, ◌∙◌, ⊎_elim, inl, inr, ◌⊎◌, arith}
 use Rattle.std.specs.List.{Contains, flat_map, fold, list_all, list_any, range_with_len}
-use Rattle.std.proofs.lemmas.Bool.{cases_Bool, and_parts}
+use Rattle.std.proofs.lemmas.Bool.{and_parts}
 use Rattle.std.proofs.lemmas.List.Elements.{Contains-append_left, Contains-append_right, Contains-append_cases}
+use Rattle.list_laws.proofs.Booleans.{same_truth}
+use Rattle.list_laws.proofs.Elements.{list_any-from, list_any-witness}
 use Rattle.dd_nodes.specs.NodeList.{Values}
 use Rattle.dd_nodes.specs.Subfunctions.{Function}
 use Rattle.task_core.specs.Cubes.{Cube}
@@ -25,35 +27,11 @@ shows_depends n states set shows v w agree member =
     shows.to state.0 w state.1 (λ g within. sym (agree g within) ∙ state.2 g within)
 
 -- a list of states has one set
-same_truth : (a b : Bool) → (a ≡ true → b ≡ true) → (b ≡ true → a ≡ true) → a ≡ b
-same_truth true b to from = sym (to refl)
-same_truth false true to from = from refl
-same_truth false false to from = refl
-
 pub shows_one : (n : ℕ) (states : List Vector) (a b : Function) → Shows n states a → Shows n states b → a ≡ b
 shows_one n states a b first second = λ i values. same_truth (a values) (b values) (into a b first second values) (into b a second first values) i
   where
     into : (a b : Function) → Shows n states a → Shows n states b → (values : Values) → a values ≡ true → b values ≡ true
     into a b first second values member = let state = first.from values member in second.to state.0 values state.1 state.2
-
--- an element that passes a test
-pub found : {X : Type 0} (p : X → Bool) (xs : List X) → list_any p xs ≡ true → (x : X) × Contains xs x × (p x ≡ true)
-found p [] any = absurd (cc)
-found p (x ∷ xs) any = ⊎_elim
-    (λ (here : p x ≡ true). (x, (0, omega arith, refl), here))
-    (λ (not_here : p x ≡ false).
-    let rest = found p xs (ap (λ b. b || list_any p xs) (sym not_here) ∙ any) in
-    (rest.0, (suc rest.1.0, omega (arith, rest.1.1), rest.1.2), rest.2))
-    (cases_Bool (p x))
-
-pub any_of : {X : Type 0} (p : X → Bool) (xs : List X) (x : X) → Contains xs x → p x ≡ true → list_any p xs ≡ true
-any_of p [] x (k, within, at) e = absurd (omega arith)
-any_of p (y ∷ xs) x (zero, within, at) e = ap (λ b. b || list_any p xs) (ap p at ∙ e)
-any_of p (y ∷ xs) x (suc k, within, at) e = or_second (p y) (list_any p xs) (any_of p xs x (k, omega arith, at) e)
-  where
-    or_second : (a b : Bool) → b ≡ true → (a || b) ≡ true
-    or_second true b e = refl
-    or_second false b e = e
 
 -- the values of a state that is computed value by value
 value_in_range : (p : ℕ → Bool) (first n g : ℕ) → g < n → value_of (map p (range_with_len first n)) g ≡ p (first + g)
@@ -81,14 +59,14 @@ first_are n values v long agree = values_are values 0 n v long (λ g within. ap 
 pub shows_states : (n : ℕ) (states : List Vector) → AreStates n states → Shows n states (set_of_states n states)
 shows_states n states are = record {
   from = λ values member.
-      let state = found (same_vector (first_values n values)) states member in (
+      let state = list_any-witness (same_vector (first_values n values)) states member in (
         state.0,
         state.1,
         λ g within.
             sym (value_computed values n g within) ∙ ap (λ v. value_of v g) (same_vector_equal (first_values n values) state.0 state.2),
       );
   to = λ v values among agree.
-      any_of (same_vector (first_values n values)) states v among
+      list_any-from (same_vector (first_values n values)) states v among
       (ap (λ w. same_vector w v) (first_are n values v (are v among) agree) ∙ same_vector_refl v);
 }
 
@@ -114,7 +92,7 @@ added_old listed v u among =
 added_new : (listed : List Vector) (v : Vector) → Contains (add_state listed v) v
 added_new listed v =
     elim (list_any (same_vector v) listed) as (λ b. list_any (same_vector v) listed ≡ b → Contains (cond b listed (listed ++ v ∷ [])) v) [
-      | true ↦ λ any. let state = found (same_vector v) listed any in subst (Contains listed) (sym (same_vector_equal v state.0 state.2)) state.1
+      | true ↦ λ any. let state = list_any-witness (same_vector v) listed any in subst (Contains listed) (sym (same_vector_equal v state.0 state.2)) state.1
       | false ↦ λ none. Contains-append_right listed (v ∷ []) v (0, omega arith, refl)
     ] refl
 
@@ -166,7 +144,7 @@ shows_entry n states set entry within shows = record { from = from; to = to }
 
     from : (values : Values) → entry_image set entry values ≡ true → (u : Vector) × Contains (after_entry n states entry) u × Agrees n values (value_of u)
     from values member =
-        let alternative = found (λ lits. image lits set values) entry member in
+        let alternative = list_any-witness (λ lits. image lits set values) entry member in
         let origin = (one alternative.0 alternative.1).from values alternative.2 in
         let state = shows.from origin.0 origin.1 in (
           applied n state.0 alternative.0,
@@ -181,7 +159,7 @@ shows_entry n states set entry within shows = record { from = from; to = to }
         (λ (none : Contains [] u). absurd (omega (arith, none.1)))
         (λ (made : Contains (flat_map (λ v. map (applied n v) entry) states) u).
         let parts = made_from n entry states u made in
-        any_of (λ lits. image lits set values) entry parts.1 parts.3
+        list_any-from (λ lits. image lits set values) entry parts.1 parts.3
         ((one parts.1 parts.3).to (value_of parts.0) values (shows.to parts.0 (value_of parts.0) parts.2 (λ g inside. refl))
         (λ g inside. agree g inside ∙ ap (λ w. value_of w g) (sym parts.4) ∙ value_computed (applied_value parts.1 (value_of parts.0)) n g inside)))
         (all_from [] (flat_map (λ v. map (applied n v) entry) states) u among)

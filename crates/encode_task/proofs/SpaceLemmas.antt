@@ -2,6 +2,7 @@
 use Rattle.std.proofs.Common.{◌≡◌, Bool, true, false, cond, ◌&&◌, ◌||◌, List, [], ◌∷◌, refl, sym, ap, ◌∙◌, arith}
 use Rattle.std.specs.List.{filter, list_any}
 use Rattle.std.proofs.lemmas.Bool.{false≢true}
+use Rattle.list_laws.proofs.Booleans.{and_false}
 use Rattle.dd_nodes.specs.NodeList.{Values}
 use Rattle.dd_nodes.specs.Subfunctions.{DependsOnly}
 use Rattle.dd_ops.specs.Operations.{and_of}
@@ -24,11 +25,7 @@ in_space_first task values =
 
 -- a vector is among those that pass a test where it passes and is among all
 among_filtered : (p : Vector → Bool) (w : Vector) (vs : List Vector) → list_any (same_vector w) (filter p vs) ≡ (p w && list_any (same_vector w) vs)
-among_filtered p w [] = sym (and_none (p w))
-  where
-    and_none : (a : Bool) → (a && false) ≡ false
-    and_none true = refl
-    and_none false = refl
+among_filtered p w [] = sym (and_false (p w))
 among_filtered p w (v ∷ vs) =
     elim (p v) as (λ b. p v ≡ b → list_any (same_vector w) (cond b (v ∷ filter p vs) (filter p vs)) ≡ (p w && (same_vector w v || list_any (same_vector w) vs))) [
       | true ↦ λ is. ap (λ r. same_vector w v || r) (among_filtered p w vs) ∙ kept (p w) (same_vector w v) (list_any (same_vector w) vs) (λ same. ap p (same_vector_equal w v same) ∙ is)

@@ -1,6 +1,7 @@
 -- The set of one state, value by value.
-use Rattle.std.proofs.Common.{◌≡◌, ℕ, zero, suc, ◌+◌, ◌-◌, ◌≤◌, Bool, true, false, ◌&&◌, ◌||◌, [], ◌∷◌, map, refl, sym, ap, ◌∙◌, arith}
+use Rattle.std.proofs.Common.{◌≡◌, ℕ, zero, suc, ◌+◌, ◌-◌, ◌≤◌, Bool, true, false, ◌&&◌, [], ◌∷◌, map, refl, sym, ap, ◌∙◌, arith}
 use Rattle.std.specs.List.{list_all, range_with_len}
+use Rattle.list_laws.proofs.Booleans.{or_false}
 use Rattle.dd_nodes.specs.NodeList.{Values}
 use Rattle.dd_nodes.specs.Subfunctions.{Function}
 use Rattle.dd_ops.specs.Operations.{and_of}
@@ -39,9 +40,5 @@ same_maps : (p q : ℕ → Bool) (first n : ℕ) → same_vector (map p (range_w
 same_maps p q first zero = refl
 same_maps p q first (suc n) = ap (λ b. same_value (p first) (q first) && b) (same_maps p q (first + 1) n)
 
-or_none : (a : Bool) → (a || false) ≡ a
-or_none true = refl
-or_none false = refl
-
 pub whole_state : (state : State) (n : ℕ) → same_from state 0 n ≡ set_of_states n (vector n state ∷ [])
-whole_state state n = λ i values. sym (or_none (same_vector (map values (range_with_len 0 n)) (vector n state)) ∙ same_maps values (truth state) 0 n) i
+whole_state state n = λ i values. sym (or_false (same_vector (map values (range_with_len 0 n)) (vector n state)) ∙ same_maps values (truth state) 0 n) i

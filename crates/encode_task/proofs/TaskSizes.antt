@@ -1,8 +1,7 @@
 -- The sets that are kept for a task, and how many nodes they have.
-use Rattle.std.proofs.Common.{◌≡◌, ℕ, zero, suc, ◌^◌, ◌<◌, ◌≤◌, true, false, not, ⊎_elim, List, [], ◌∷◌, ◌++◌, Contains, Option, Some, None, is_some, refl, sym, subst, ◌∙◌, arith}
-use native.Mathlib.Nat.{pow-succ'}
+use Rattle.std.proofs.Common.{◌≡◌, ℕ, zero, suc, ◌<◌, ◌≤◌, true, false, not, ⊎_elim, List, [], ◌∷◌, ◌++◌, Contains, Option, Some, None, is_some, refl, sym, subst, ◌∙◌, arith}
 use Rattle.std.specs.List.{flat_map, list_any}
-use Rattle.std.proofs.lemmas.Bool.{both_ways, false≢true}
+use Rattle.std.proofs.lemmas.Bool.{both_ways, false≢true, or_cases}
 use Rattle.std.proofs.lemmas.List.Elements.{Contains-append_left, Contains-append_right}
 use Rattle.dd_nodes.specs.Subfunctions.{Function, nodes}
 use Rattle.dd_ops.specs.Operations.{variable}
@@ -24,7 +23,6 @@ use Rattle.encode_task.specs.Slots.{ActionSlots}
 use Rattle.encode_task.specs.Tables.{ActionMade, AllPaired, OutcomeMade}
 use Rattle.encode_task.specs.TaskSets.{initial_set, space_set}
 use Rattle.encode_task.proofs.KeptLemmas.{contains_flat_map, next_in, nexts_of_action}
-use Rattle.encode_task.proofs.OnlyLemmas.{either}
 
 -- the sets of a task
 actions_sets : Task → List Function
@@ -65,7 +63,7 @@ alone_outcome sets f (x ∷ slots) [] made left = absurd made
 alone_outcome sets f (x ∷ slots) (o ∷ outcomes) made left = ⊎_elim
     (λ (here : leaves f x ≡ true). (o, (zero, omega arith, refl), (λ i values. sym (made.0.unlisted f (unlisted x f here) values) i)))
     (λ (there : list_any (leaves f) slots ≡ true). let rest = alone_outcome sets f slots outcomes made.1 there in (rest.0, (suc rest.1.0, omega (arith, rest.1.1), rest.1.2), rest.2))
-    (either (leaves f x) (list_any (leaves f) slots) left)
+    (or_cases (leaves f x) (list_any (leaves f) slots) left)
 
 alone_action : (invariant : Cond) (sets : LiveSets) (f : ℕ) (slots : List ActionSlots) (actions : List GroundAction) → AllPaired (ActionMade invariant sets) slots actions → some_leaves slots f ≡ true
     → (action : GroundAction) × Contains actions action × (o : Outcome) × Contains action.outcomes.items o × (variable f ≡ (λ values. after_value o values f))
@@ -75,7 +73,7 @@ alone_action invariant sets f (x ∷ slots) [] made left = absurd made
 alone_action invariant sets f (x ∷ slots) (y ∷ actions) made left = ⊎_elim
     (λ (here : action_leaves f x ≡ true). let found = alone_outcome sets f x.outcomes y.outcomes.items made.0.outcomes here in (y, (zero, omega arith, refl), found.0, found.1, found.2))
     (λ (there : some_leaves slots f ≡ true). let rest = alone_action invariant sets f slots actions made.1 there in (rest.0, (suc rest.1.0, omega (arith, rest.1.1), rest.1.2), rest.2, rest.3, rest.4))
-    (either (action_leaves f x) (some_leaves slots f) left)
+    (or_cases (action_leaves f x) (some_leaves slots f) left)
 
 pub alone_kept : (task : Task) (sets : LiveSets) (slots : List ActionSlots) (n : ℕ) (set : Function) → n ≡ fluent_count task → AllPaired (ActionMade task.invariant sets) slots task.actions.items → IsLeftAlone n slots set → Contains (kept_sets task) set
 alone_kept task sets slots n set vars made alone =
@@ -97,8 +95,3 @@ all_kept task before after none adds slot live = ⊎_elim
     (λ (was : IsLive before slot). absurd (both_ways (is_live before slot) (none slot) was))
     (λ (is : Contains (kept_sets task) (set_of after slot)). is)
     (adds slot live)
-
--- there are fewer fluents than vectors
-pub few_fluents : (n : ℕ) → n < 2 ^ n
-few_fluents zero = omega arith
-few_fluents (suc n) = omega (arith, few_fluents n, pow-succ' 2 n)

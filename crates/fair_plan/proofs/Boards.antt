@@ -7,7 +7,7 @@ use Rattle.dd_sets.proofs.SizeLemmas.{every_small}
 use Rattle.dd_sets.specs.declared.errors.SetErr.{SetErr}
 use Rattle.dd_sets.specs.declared.slots.SetId.{SetId}
 use Rattle.encode_task.specs.Slots.{Encoded}
-use Rattle.slot_board.specs.Board.{At, ConditionFits, LeadFits, Left, Moved}
+use Rattle.slot_board.specs.Board.{At, ConditionFits, LeadFits, Left, Moved, Scene}
 use Rattle.slot_board.specs.declared.board.Outcomes.{Outcomes}
 use Rattle.slot_board.proofs.BoardSlots.{depends, left_with, made_at, went}
 use Rattle.board_steps.specs.Steps.{CanMake, CanMakeAll, Placed, Shows, after_step, after_steps}
@@ -15,7 +15,7 @@ use Rattle.board_steps.specs.declared.steps.Step.{Step}
 use Rattle.board_steps.specs.declared.steps.Step.TheVariants.{Whole, Fluent, Fix, Kept, Copy, Combine, Lead}
 use Rattle.task_core.specs.Tasks.{fluent_count}
 use Rattle.task_core.specs.declared.conditions.Cond.{Cond}
-use Rattle.fair_plan.specs.Boards.{AreStepsOf, IsAfter, IsStepOf, IsThere, Leaves, Puts, Scene, Origin, actions_of, set_in}
+use Rattle.fair_plan.specs.Boards.{AreStepsOf, IsAfter, IsStepOf, IsThere, Leaves, Puts, Origin, actions_of, set_in}
 use Rattle.fair_plan.specs.Places.{pairs_end}
 
 -- sizes play no part

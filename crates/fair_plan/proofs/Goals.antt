@@ -12,6 +12,7 @@ use Rattle.ctl_syntax.specs.declared.context_goals.UntilChain.{UntilChain}
 use Rattle.ctl_syntax.specs.declared.context_goals.UntilStage.{UntilStage}
 use Rattle.fair_theory.specs.FairSets.{IsChainWin, IsLargestFairSet, anywhere, at_end, at_stage, end_asks, patrol_asks, stage_asks}
 use Rattle.plan_theory.specs.UntilChains.{SetStage}
+use Rattle.slot_board.specs.Board.{Scene}
 use Rattle.slot_board.specs.declared.board.Operation.TheVariants.{Meet}
 use Rattle.board_steps.specs.Steps.{Placed, after_step}
 use Rattle.board_steps.specs.declared.steps.Step.{Step}
@@ -22,7 +23,7 @@ use Rattle.task_core.specs.Conditions.{IsConditionOver, holds}
 use Rattle.task_core.specs.Cubes.{SetOfVectors}
 use Rattle.task_core.specs.Vectors.{value_of}
 use Rattle.task_core.specs.declared.conditions.Cond.{Cond}
-use Rattle.fair_plan.specs.Boards.{AreStepsOf, IsAfter, IsThere, Puts, Scene, Origin, actions_of, set_in, states_in, sys_of}
+use Rattle.fair_plan.specs.Boards.{AreStepsOf, IsAfter, IsThere, Puts, Origin, actions_of, set_in, states_in, sys_of}
 use Rattle.fair_plan.specs.Goals.{IsChainOver}
 use Rattle.fair_plan.specs.Places.{met_place, pairs_end, win_place}
 use Rattle.fair_plan.specs.Rounds.{AimsAt, Begins, HasVisits}

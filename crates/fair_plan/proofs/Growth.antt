@@ -5,16 +5,21 @@ use Rattle.std.proofs.Math.Numerals.{add-one}
 use Rattle.std.proofs.lemmas.Bool.{and_from, and_parts, cases_eq, or_cases, or_left, or_right, true≢false}
 use Rattle.std.proofs.Math.Path.{fun_ext}
 use Rattle.dd_sets.specs.LiveSets.{nothing}
+use Rattle.dd_sets.proofs.SetLemmas.{inside_to}
 use Rattle.dd_nodes.specs.NodeList.{Values}
 use Rattle.dd_nodes.specs.Subfunctions.{Function}
 use Rattle.dd_ops.specs.Operations.{and_of, or_of, minus_of}
 use Rattle.fair_theory.specs.FairSets.{CanComeTo}
 use Rattle.fair_theory.specs.FairSets.CanComeTo.{here, by}
+use Rattle.list_laws.proofs.Booleans.{or_none}
 use Rattle.list_laws.proofs.Elements.{list_any-witness}
+use Rattle.encode_task.proofs.StateVectors.{same_functions}
 use Rattle.preimage.specs.Preimages.{strong_preimage, weak_preimage}
 use Rattle.preimage.specs.WorkingSets.{some_below}
 use Rattle.plan_theory.specs.Layers.{may_lead, must_lead}
+use Rattle.plan_theory.proofs.FewerStates.{fewer_outside}
 use Rattle.plan_theory.proofs.RoundSteps.{held}
+use Rattle.slot_board.specs.Board.{Scene}
 use Rattle.slot_board.specs.declared.board.Operation.TheVariants.{Join, Meet, Minus}
 use Rattle.slot_board.specs.declared.board.Outcomes.{Outcomes}
 use Rattle.board_steps.specs.Steps.{Placed, after_step}
@@ -26,10 +31,10 @@ use Rattle.task_core.specs.Tasks.{fluent_count}
 use Rattle.task_core.specs.Vectors.{Vector, all_vectors, value_of}
 use Rattle.task_core.specs.declared.literals.ActionId.{ActionId}
 use Rattle.task_core.proofs.TaskSystem.{is_system}
-use Rattle.fair_plan.specs.Boards.{AreStepsOf, IsAfter, IsThere, Scene, Origin, actions_of, set_in, states_in, sys_of}
+use Rattle.fair_plan.specs.Boards.{AreStepsOf, IsAfter, IsThere, Origin, actions_of, set_in, states_in, sys_of}
 use Rattle.fair_plan.specs.Rounds.{LooksForRest, AddsNear, Climbs, ClimbsOnce, Grows, HasNear, IsPart, Pairs, PairsOne, Passes, led_at}
 use Rattle.fair_plan.proofs.Boards.{low, only, pair_in}
-use Rattle.fair_plan.proofs.Leading.{fewer_outside, may_more, must_below, same_functions, weak_may}
+use Rattle.fair_plan.proofs.Leading.{may_more, must_below, weak_may}
 
 -- the steps of one action
 abbrev pub pair_steps : ActionId → ℕ → List Step
@@ -89,12 +94,6 @@ module _ (origin : Origin) (a : ActionId) (pairs : ℕ) (is : pairs ≡ 8 + a.0)
 abbrev pub rest_steps : ℕ → List Step
 rest_steps pairs = Combine 0 Minus pairs 2 ∷ []
 
-out_of : (f g : Bool) → (f && not g) ≡ false → f ≡ true → g ≡ true
-out_of true true h e = refl
-out_of true false h e = sym h
-out_of false true h e = refl
-out_of false false h e = e
-
 is_none : (empty : Bool) → not empty ≡ false → IsTrue empty
 is_none true h = refl
 is_none false h = absurd (true≢false h)
@@ -116,7 +115,7 @@ module _ (origin : Origin) (a : ActionId) (pairs : ℕ) (is : pairs ≡ 8 + a.0)
     none = λ no_rest values pair.
         let bare : set_in y 0 ≡ nothing = told.0 (is_none empty no_rest) in
         let here : set_in y 0 ≡ minus_of (set_in x pairs) (set_in x 2) = after 0 (low origin 0 (omega arith)) in
-        out_of (set_in x (8 + a.0) values) (set_in x 2 values)
+        inside_to (set_in x (8 + a.0) values) (set_in x 2 values)
         (ap (λ (k : ℕ). set_in x k values && not (set_in x 2 values)) (sym is) ∙ sym (ap (λ (f : Function). f values) here) ∙ ap (λ (f : Function). f values) bare) pair;
   }
 
@@ -156,10 +155,6 @@ climbs_after origin x y z a some rest climbs =
     }
 
 -- the states of the actions so far
-or_none : (b : Bool) → b ≡ (b || false)
-or_none true = refl
-or_none false = refl
-
 pub pairs_none : (origin : Origin) (x : Scene) → Pairs origin x x 0
 pairs_none origin x = record {
   low = λ k l n. refl;
@@ -280,7 +275,7 @@ pub grown_less : (origin : Origin) (y z : Scene) (n : ℕ) → n ≡ fluent_coun
     → held (λ v. not (states_in z 1 v)) (all_vectors n) < held (λ v. not (states_in y 1 v)) (all_vectors n)
 grown_less origin y z n count there differ part before =
     fewer_outside n (states_in y 1) (states_in z 1)
-    (λ v h. ap (λ (f : Function). f (value_of v)) before ∙ part (value_of v) h)
+    (λ v is h. ap (λ (f : Function). f (value_of v)) before ∙ part (value_of v) h)
     (λ same. differ (same_functions (fluent_count origin.start.task) (set_in y 1) (set_in y 2) (only origin y there 1) (only origin y there 2)
     (λ v is. sym (same v (is ∙ sym count)) ∙ ap (λ (f : Function). f (value_of v)) before)))
 

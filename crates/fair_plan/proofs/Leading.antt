@@ -1,54 +1,29 @@
 -- The sets on the board as states of the system: where an action leads into a set.
-use Rattle.std.proofs.Common.{◌≡◌, ℕ, zero, suc, ◌<◌, ◌≤◌, Bool, true, false, not, ◌&&◌, List, [], ◌∷◌, map, length, refl, sym, ap, subst, ◌∙◌, ⊎_elim, arith}
+use Rattle.std.proofs.Common.{◌≡◌, ℕ, zero, suc, ◌<◌, true, false, sym, subst, ◌∙◌, ⊎_elim, arith}
 use Rattle.std.specs.List.{list_all, list_any, range_with_len}
-use Rattle.std.proofs.Math.Path.{fun_ext}
-use Rattle.std.proofs.lemmas.Bool.{and_parts, cases_eq, false≢true, or_cases, or_left, or_right, true≢false}
-use Rattle.std.proofs.lemmas.List.FromFn.{get_or-map-range_with_len, length-map-range_with_len}
+use Rattle.std.proofs.lemmas.Bool.{and_parts, cases_eq, false≢true, or_cases, or_left, or_right}
 use Rattle.dd_nodes.specs.NodeList.{Values}
 use Rattle.dd_nodes.specs.Subfunctions.{DependsOnly, Function}
 use Rattle.preimage.specs.Preimages.{strong_preimage, weak_preimage}
 use Rattle.preimage.specs.WorkingSets.{some_below}
+use Rattle.preimage.proofs.Leads.{all_lead}
 use Rattle.preimage.proofs.OutcomeLemmas.{strong_leads, weak_leads}
 use Rattle.fair_theory.specs.FairSets.{CanComeTo}
 use Rattle.fair_theory.specs.FairSets.CanComeTo.{here, by}
-use Rattle.list_laws.proofs.Elements.{Contains-head, Contains-range_with_len, Contains-range_with_len-below, list_all-at, list_any-from, list_any-witness}
+use Rattle.list_laws.proofs.Elements.{Contains-range_with_len, Contains-range_with_len-below, list_any-from, list_any-witness}
 use Rattle.plan_theory.specs.Layers.{may_lead, must_lead}
 use Rattle.plan_theory.specs.Safe.{some_must_lead}
-use Rattle.plan_theory.proofs.RoundSteps.{held, holds_fewer}
 use Rattle.plan_theory.proofs.Weak.{HasOutcome-Exec}
-use Rattle.plan_theory.proofs.Cubes.{all_vectors-agree}
 use Rattle.task_core.specs.Cubes.{SetOfVectors}
 use Rattle.task_core.specs.Systems.{IsSystem, IsVector, System}
-use Rattle.task_core.specs.Tasks.{action_count, fluent_count, is_executable, next_states, system_of}
-use Rattle.task_core.specs.Vectors.{Vector, all_vectors, value_of}
+use Rattle.task_core.specs.Tasks.{action_count, fluent_count, next_states, system_of}
+use Rattle.task_core.specs.Vectors.{Vector, value_of}
 use Rattle.task_core.specs.declared.tasks.Task.{Task}
-use Rattle.task_core.proofs.TaskSystem.{exec_executable, executable_exec, is_system}
-
-both_lead : (e any all : Bool) → (all ≡ true → e ≡ true → any ≡ true) → (any ≡ true → e ≡ true) → (e && all) ≡ (any && all)
-both_lead true true all there back = refl
-both_lead true false true there back = absurd (false≢true (there refl refl))
-both_lead true false false there back = refl
-both_lead false true all there back = absurd (false≢true (back refl))
-both_lead false false all there back = refl
+use Rattle.task_core.proofs.TaskSystem.{is_system}
 
 -- every outcome of an action leads into a set where its preimage says so
 pub strong_must : (task : Task) (a : ℕ) (f : Function) (v : Vector) → DependsOnly 0 (fluent_count task) f → strong_preimage task a f (value_of v) ≡ must_lead (system_of task) (λ u. f (value_of u)) v a
-strong_must task a f v only =
-    strong_leads task a f v only
-    ∙ both_lead (is_executable task v a) (list_any (λ u. f (value_of u)) (next_states task v a)) (list_all (λ u. f (value_of u)) (next_states task v a)) some none
-  where
-    -- an action that can be executed has an outcome
-    pick : (xs : List Vector) → (xs ≡ [] → ⊥) → list_all (λ u. f (value_of u)) xs ≡ true → list_any (λ u. f (value_of u)) xs ≡ true
-    pick [] full h = absurd (full refl)
-    pick (x ∷ xs) full h = list_any-from (λ u. f (value_of u)) (x ∷ xs) x (Contains-head x xs) (list_all-at (λ u. f (value_of u)) (x ∷ xs) x h (Contains-head x xs))
-
-    some : list_all (λ u. f (value_of u)) (next_states task v a) ≡ true → is_executable task v a ≡ true → list_any (λ u. f (value_of u)) (next_states task v a) ≡ true
-    some h e = pick (next_states task v a) (executable_exec task v a e) h
-
-    none : list_any (λ u. f (value_of u)) (next_states task v a) ≡ true → is_executable task v a ≡ true
-    none h =
-        let w = list_any-witness (λ u. f (value_of u)) (next_states task v a) h in
-        exec_executable task v a (HasOutcome-Exec (system_of task) v a w.0 w.1)
+strong_must task a f v only = strong_leads task a f v only ∙ all_lead task (λ u. f (value_of u)) v a
 
 pub weak_may : (task : Task) (a : ℕ) (f : Function) (v : Vector) → DependsOnly 0 (fluent_count task) f → weak_preimage task a f (value_of v) ≡ may_lead (system_of task) (λ u. f (value_of u)) v a
 weak_may task a f v only = weak_leads task a f v only
@@ -94,28 +69,3 @@ some_to task f v only h =
 pub comes_as : (sys : System) → IsSystem sys → (set guard f g : SetOfVectors) → ((v : Vector) → IsVector sys v → f v ≡ true → g v ≡ true) → (v : Vector) → IsVector sys v → CanComeTo sys set guard f v → CanComeTo sys set guard g v
 comes_as sys ok set guard f g more v is (here _ h) = here v (more v is h)
 comes_as sys ok set guard f g more v is (by _ a t inside leads outcome later) = by v a t inside leads outcome (comes_as sys ok set guard f g more t (ok.next v a t outcome).vector later)
-
--- a set that depends on n fluents alone is known by the states over them
-pub same_functions : (n : ℕ) (f g : Function) → DependsOnly 0 n f → DependsOnly 0 n g → ((v : Vector) → length v ≡ n → f (value_of v) ≡ g (value_of v)) → f ≡ g
-same_functions n f g only_f only_g same = fun_ext (λ values.
-    let v : Vector = map values (range_with_len 0 n) in
-    let within : (u : ℕ) → 0 ≤ u → u < n → values u ≡ value_of v u = λ u first l. sym (get_or-map-range_with_len values 0 n u u false l (omega arith)) in
-    only_f values (value_of v) within ∙ same v (length-map-range_with_len values 0 n) ∙ sym (only_g values (value_of v) within))
-
--- fewer states lie in a part that isn't the whole
-pub fewer : (n : ℕ) (f g : SetOfVectors) → ((v : Vector) → g v ≡ true → f v ≡ true) → (((v : Vector) → length v ≡ n → g v ≡ f v) → ⊥) → held g (all_vectors n) < held f (all_vectors n)
-fewer n f g part differ = holds_fewer f g (all_vectors n) (λ v c h. part v h) (λ same. differ (λ v is. all_vectors-agree g f n same v is))
-
-not_same : (a b : Bool) → not a ≡ not b → a ≡ b
-not_same true true e = refl
-not_same true false e = absurd (false≢true e)
-not_same false true e = absurd (true≢false e)
-not_same false false e = refl
-
-out : (a b : Bool) → (a ≡ true → b ≡ true) → not b ≡ true → not a ≡ true
-out true b more h = absurd (false≢true (sym (ap not (more refl)) ∙ h))
-out false b more h = refl
-
--- and fewer lie outside a set that is larger
-pub fewer_outside : (n : ℕ) (f g : SetOfVectors) → ((v : Vector) → f v ≡ true → g v ≡ true) → (((v : Vector) → length v ≡ n → g v ≡ f v) → ⊥) → held (λ v. not (g v)) (all_vectors n) < held (λ v. not (f v)) (all_vectors n)
-fewer_outside n f g more differ = fewer n (λ v. not (f v)) (λ v. not (g v)) (λ v. out (f v) (g v) (more v)) (λ same. differ (λ v is. not_same (g v) (f v) (same v is)))

@@ -1,20 +1,19 @@
 -- What a search answers.
-use Rattle.std.proofs.Common.{◌≡◌, ℕ, zero, suc, ◌+◌, ◌^◌, ◌≤◌, Bool, true, false, List, [], IfOk, IsErrOf, Result, Ok, Err, refl, sym, subst, ◌∙◌, arith}
+use Rattle.std.proofs.Common.{◌≡◌, ℕ, ◌+◌, ◌^◌, ◌≤◌, Bool, true, false, [], IfOk, Result, Ok, Err, refl, sym, subst, ◌∙◌, arith}
 use Rattle.std.specs.List.{list_all}
+use Rattle.list_laws.proofs.Numbers.{below_power}
 use Rattle.dd_sets.specs.declared.errors.SetErr.{SetErr}
-use Rattle.dd_sets.specs.declared.errors.SetErr.TheVariants.{Full}
-use Rattle.dd_sets.specs.declared.slots.SetId.{SetId}
 use Rattle.encode_task.specs.Made.{MadeOf}
 use Rattle.encode_task.specs.Slots.{Encoded}
 use Rattle.fair_theory.specs.FairSets.{IsFairWin, SetGoal, covers_initial}
 use Rattle.fair_theory.proofs.NoFairPlan.{none_without_cover}
-use Rattle.slot_board.specs.Board.{At, Ends, HasNoRoom, Left, Stayed, Start, TestFits}
+use Rattle.slot_board.specs.Board.{Ends, Left, Stayed, TestFits, Scene}
 use Rattle.task_core.specs.Cubes.{SetOfVectors}
 use Rattle.task_core.specs.Tasks.{action_count, fluent_count, initial_states}
 use Rattle.task_core.specs.Vectors.{value_of}
 use Rattle.task_core.specs.declared.tasks.Task.{Task}
 use Rattle.task_core.proofs.TaskSystem.{is_system}
-use Rattle.fair_plan.specs.Boards.{IsThere, Origin, Scene, set_in, states_in, sys_of}
+use Rattle.fair_plan.specs.Boards.{IsThere, Origin, set_in, states_in, sys_of}
 use Rattle.fair_plan.specs.Found.{CanBeHad, IsFairPlannersAnswer}
 use Rattle.ctl_syntax.specs.declared.context_goals.ContextGoal.{ContextGoal}
 use Rattle.ctl_syntax.specs.declared.context_goals.ContextGoal.TheVariants.{Until, Patrol}
@@ -24,13 +23,9 @@ use Rattle.fair_plan.specs.Places.{place_count}
 use Rattle.fair_plan.specs.declared.found.FairFound.TheVariants.{NoPlan}
 use Rattle.fair_plan.proofs.Boards.{small}
 
-powers : (n : ℕ) → n + 1 ≤ 2 ^ n
-powers zero = omega arith
-powers (suc n) = let h : n + 1 ≤ 2 ^ n = powers n in omega arith
-
 -- by this width every set is small
 pub wide_enough : (task : Task) → fluent_count task + 2 ≤ 2 ^ fluent_count task + 1
-wide_enough task = let p = powers (fluent_count task) in omega arith
+wide_enough task = let p = below_power (fluent_count task) in omega arith
 
 -- the initial states are looked up
 pub test_fits : (origin : Origin) (x : Scene) (place : ℕ) → TestFits origin.start (set_in x place)
@@ -53,19 +48,6 @@ none_answer origin y goal won w lost = none_without_cover (sys_of origin) goal w
 
 pub can_be_had : (origin : Origin) (y : Scene) (goal : SetGoal) (won : Bool) → Won origin y goal won → won ≡ true → CanBeHad (sys_of origin) goal
 can_be_had origin y goal won w found = (w.1, w.2, sym w.3 ∙ found)
-
--- handed on by an answer of another kind
-pub ends_at : {T : Type 0} (start : Start) (now : Encoded) (slots : List SetId) (P : T → Type 0) (result : Result T SetErr) → ((x : T) → P x → At start now slots) → Ends start now slots P result → At start now slots
-ends_at start now slots P (Ok x) f ends = f x ends
-ends_at start now slots P (Err e) f ends = ends.0
-
-pub ends_ok : {T : Type 0} (start : Start) (now : Encoded) (slots : List SetId) (P Q : T → Type 0) (result : Result T SetErr) → ((x : T) → P x → Q x) → Ends start now slots P result → IfOk result Q
-ends_ok start now slots P Q (Ok x) f ends = f x ends
-ends_ok start now slots P Q (Err e) f ends = tt
-
-pub ends_full : {T : Type 0} (start : Start) (now : Encoded) (slots : List SetId) (P : T → Type 0) (result : Result T SetErr) → Ends start now slots P result → IsErrOf result Full → HasNoRoom start now
-ends_full start now slots P (Ok x) ends full = absurd (let h : Ok x ≡ Err Full = full in cc)
-ends_full start now slots P (Err e) ends full = ends.1 (let h : Err e ≡ Err Full = full in cc)
 
 -- where a search begins
 abbrev pub origin_of : (task : Task) (enc : Encoded) → MadeOf task enc → (places count : ℕ) → places ≡ place_count (action_count task) count → Origin

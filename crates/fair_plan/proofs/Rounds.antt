@@ -1,16 +1,20 @@
 -- The rounds of a search for a largest set.
-use Rattle.std.proofs.Common.{◌≡◌, ℕ, ◌+◌, ◌<◌, ◌≤◌, Bool, true, false, not, ◌&&◌, ◌||◌, [], ◌∷◌, length, get_or, refl, sym, ap, subst, ◌∙◌, ⊎_elim, arith}
+use Rattle.std.proofs.Common.{◌≡◌, ℕ, ◌+◌, ◌<◌, ◌≤◌, Bool, true, false, ◌&&◌, ◌||◌, [], ◌∷◌, length, get_or, refl, sym, ap, subst, ◌∙◌, ⊎_elim, arith}
 use Rattle.std.proofs.lemmas.Bool.{and_from, and_parts, cases_eq}
 use Rattle.std.proofs.lemmas.List.Elements.{Contains-get_or, at_from_Contains}
+use Rattle.list_laws.proofs.Booleans.{and_not}
 use Rattle.dd_nodes.specs.NodeList.{Values}
 use Rattle.dd_nodes.specs.Subfunctions.{Function}
 use Rattle.dd_ops.specs.Operations.{and_of}
 use Rattle.fair_theory.specs.FairSets.{Asked, CanComeTo, HasAllComing, IsFairBound, IsLargestFairSet, all_coming, all_inside, all_staying, anywhere}
+use Rattle.encode_task.proofs.StateVectors.{same_functions}
 use Rattle.preimage.specs.Preimages.{strong_preimage}
 use Rattle.preimage.specs.WorkingSets.{some_below}
 use Rattle.plan_theory.specs.Layers.{must_lead}
 use Rattle.plan_theory.specs.Safe.{some_must_lead}
+use Rattle.plan_theory.proofs.FewerStates.{fewer}
 use Rattle.plan_theory.proofs.RoundSteps.{held}
+use Rattle.slot_board.specs.Board.{Scene}
 use Rattle.slot_board.specs.declared.board.Operation.TheVariants.{Meet, Minus}
 use Rattle.board_steps.specs.Steps.{Placed, after_step}
 use Rattle.board_steps.specs.declared.steps.Step.TheVariants.{Combine, Copy}
@@ -20,11 +24,11 @@ use Rattle.task_core.specs.Systems.{IsVector}
 use Rattle.task_core.specs.Tasks.{fluent_count}
 use Rattle.task_core.specs.Vectors.{Vector, all_vectors, value_of}
 use Rattle.task_core.proofs.TaskSystem.{is_system}
-use Rattle.fair_plan.specs.Boards.{IsAfter, IsThere, Scene, Origin, actions_of, set_in, states_in, sys_of}
+use Rattle.fair_plan.specs.Boards.{IsAfter, IsThere, Origin, actions_of, set_in, states_in, sys_of}
 use Rattle.fair_plan.specs.Places.{pairs_end}
 use Rattle.fair_plan.specs.Rounds.{Begins, BeginsRound, ComesNear, ComesTo, ComesToAll, GoesOn, HasAims, HasNear, HasPairs, HasRound, HasTargets, IsPart, KeepsStaying, Pairs, kept_of, led_at}
 use Rattle.fair_plan.proofs.Boards.{low, only, pair_in}
-use Rattle.fair_plan.proofs.Leading.{comes_as, fewer, same_functions, some_from, some_to, strong_must}
+use Rattle.fair_plan.proofs.Leading.{comes_as, some_from, some_to, strong_must}
 
 -- a target's states
 pub aimed : (origin : Origin) (x m n y : Scene) (target : ℕ) → target < origin.start.places → IsAfter origin x m (Copy 2 target ∷ []) → HasNear origin m n → IsAfter origin n y (Combine 5 Meet 5 2 ∷ []) → ComesTo origin x y target
@@ -97,10 +101,6 @@ pub stays_not : (origin : Origin) (x : Scene) (stays : Bool) → stays ≡ false
 stays_not origin x stays off = subst (KeepsStaying origin x x) (sym off) (record { keeps = λ k l high d. refl; left = refl })
 
 -- a round begins
-and_not : (b : Bool) → (b && not b) ≡ false
-and_not true = refl
-and_not false = refl
-
 pub round_begun : (origin : Origin) (x m y : Scene) → IsAfter origin x m (Copy 4 5 ∷ Combine 3 Minus 4 4 ∷ []) → Pairs origin m y (actions_of origin) → BeginsRound origin x y
 round_begun origin x m y after pairs =
     let task = origin.start.task in
@@ -229,6 +229,6 @@ is_largest origin asked first x h same = record {
 pub rounds_less : (origin : Origin) (y z : Scene) (n : ℕ) → n ≡ fluent_count origin.start.task → IsThere origin y → (set_in y 5 ≡ set_in y 4 → ⊥) → IsPart (set_in y 5) (set_in y 4) → set_in z 4 ≡ set_in y 5 → held (states_in z 4) (all_vectors n) < held (states_in y 4) (all_vectors n)
 rounds_less origin y z n count there differ part next =
     fewer n (states_in y 4) (states_in z 4)
-    (λ v h. part (value_of v) (sym (ap (λ (f : Function). f (value_of v)) next) ∙ h))
+    (λ v is h. part (value_of v) (sym (ap (λ (f : Function). f (value_of v)) next) ∙ h))
     (λ same. differ (same_functions (fluent_count origin.start.task) (set_in y 5) (set_in y 4) (only origin y there 5) (only origin y there 4)
     (λ v is. sym (ap (λ (f : Function). f (value_of v)) next) ∙ same v (is ∙ sym count))))

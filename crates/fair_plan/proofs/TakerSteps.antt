@@ -3,6 +3,7 @@ use Rattle.std.proofs.Common.{◌≡◌, ℕ, ◌+◌, ◌*◌, ◌-◌, ◌<◌
 use Rattle.std.proofs.lemmas.Bool.{or_left}
 use Rattle.dd_nodes.specs.Subfunctions.{Function}
 use Rattle.dd_ops.specs.Operations.{or_of}
+use Rattle.slot_board.specs.Board.{Scene}
 use Rattle.slot_board.specs.declared.board.Operation.TheVariants.{Join, Meet, Minus}
 use Rattle.slot_board.specs.declared.board.Outcomes.{Outcomes}
 use Rattle.board_steps.specs.Steps.{Placed, after_step}
@@ -10,7 +11,7 @@ use Rattle.board_steps.specs.declared.steps.Step.{Step}
 use Rattle.board_steps.specs.declared.steps.Step.TheVariants.{Combine, Lead}
 use Rattle.board_steps.proofs.StepLemmas.{with_here, with_other}
 use Rattle.task_core.specs.declared.literals.ActionId.{ActionId}
-use Rattle.fair_plan.specs.Boards.{AreStepsOf, IsAfter, IsThere, Scene, Origin, actions_of, set_in}
+use Rattle.fair_plan.specs.Boards.{AreStepsOf, IsAfter, IsThere, Origin, actions_of, set_in}
 use Rattle.fair_plan.specs.Places.{takers_place}
 use Rattle.fair_plan.specs.Rounds.{Climbs}
 use Rattle.fair_plan.proofs.Boards.{actions_are, low, pair_in}

@@ -4,9 +4,8 @@ use Rattle.std.specs.Prelude.{◌≡◌, ℕ, ◌+◌, ◌^◌, ◌<◌, ◌≤�
 use Rattle.dd_nodes.specs.Subfunctions.{Function}
 use Rattle.dd_sets.specs.LiveSets.{IsLive, IsSets}
 use Rattle.dd_sets.specs.declared.errors.SetErr.{SetErr}
-use Rattle.dd_sets.specs.declared.slots.SetId.{SetId}
-use Rattle.encode_task.specs.Slots.{Encoded}
 use Rattle.slot_board.specs.Board as board
+use Rattle.slot_board.specs.Board.{Scene}
 use Rattle.board_steps.specs.Steps.{after_steps}
 use Rattle.board_steps.specs.declared.steps.Step.{Step}
 use Rattle.board_steps.specs.declared.steps.Step.TheVariants.{Whole, Fluent, Fix, Kept, Copy, Combine, Lead}
@@ -30,10 +29,6 @@ sys_of origin = system_of origin.start.task
 -- how many actions there are
 abbrev pub actions_of : Origin → ℕ
 actions_of origin = action_count origin.start.task
-
--- the task's sets, and the slots of the board
-abbrev pub Scene : Type 0
-Scene = Encoded × List SetId
 
 -- the set at a place, and its states
 abbrev pub set_in : Scene → ℕ → Function

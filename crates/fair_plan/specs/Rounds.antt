@@ -13,16 +13,17 @@ use Rattle.preimage.specs.Preimages.{strong_preimage, weak_preimage}
 use Rattle.preimage.specs.WorkingSets.{some_below}
 use Rattle.plan_theory.specs.Layers.{may_lead, must_lead}
 use Rattle.plan_theory.specs.Safe.{some_must_lead}
-use Rattle.task_core.specs.Cubes.{Cube, SetOfVectors, cubes_of}
+use Rattle.task_core.specs.Cubes.{SetOfVectors}
 use Rattle.task_core.specs.Systems.{IsVector}
 use Rattle.plan_theory.specs.UntilChains.{SetStage}
 use Rattle.plan_rules.specs.Plans.{IsContextRuleOf}
-use Rattle.plan_rules.specs.Rules.{ContextRule, always, context_rule_of}
+use Rattle.plan_rules.specs.Rules.{context_rule_of}
 use Rattle.plan_rules.specs.declared.rules.AutoRule.{AutoRule}
 use Rattle.task_core.specs.Tasks.{fluent_count}
 use Rattle.task_core.specs.Vectors.{Vector, value_of}
 use Rattle.task_core.specs.declared.conditions.Cond.{Cond}
-use Rattle.fair_plan.specs.Boards.{IsThere, Scene, Origin, actions_of, set_in, states_in, sys_of}
+use Rattle.slot_board.specs.Board.{Scene}
+use Rattle.fair_plan.specs.Boards.{IsThere, Origin, actions_of, set_in, states_in, sys_of}
 use Rattle.fair_plan.specs.Places.{pairs_end}
 
 -- places from one on, but for one, have their sets
@@ -218,14 +219,6 @@ pub record Climbs (x y : Scene) : Type 0 where
 pub record ClimbsOnce (x y : Scene) : Type 0 where
   pub before : set_in y 1 ≡ set_in x 2
   pub more : IsPart (set_in x 2) (set_in y 2)
-
--- the rule for a cube, and those for all cubes of some states
-abbrev pub rule_for : ℕ → ℕ → ℕ → Cube → ContextRule
-rule_for context next a cube =
-    record { context = context; cube = cube; action = a; next = always next }
-
-abbrev pub rules_for : ℕ → ℕ → ℕ → ℕ → SetOfVectors → List ContextRule
-rules_for fluents context next a set = map (rule_for context next a) (cubes_of fluents set)
 
 -- rules are those of a plan for the task with so many contexts
 abbrev pub AreRules : Origin → ℕ → List AutoRule → Type 0

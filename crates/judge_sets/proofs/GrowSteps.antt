@@ -8,6 +8,7 @@ use Rattle.dd_ops.specs.Operations.{and_of, minus_of, or_of}
 use Rattle.dd_sets.specs.LiveSets.{nothing}
 use Rattle.dd_sets.specs.declared.slots.SetId.{SetId}
 use Rattle.encode_task.specs.Slots.{Encoded}
+use Rattle.encode_task.proofs.StateVectors.{some_there}
 use Rattle.preimage.specs.WorkingSets.{PreimageFits}
 use Rattle.slot_board.specs.Board.{LeadFits, first_of, led, set_at}
 use Rattle.slot_board.specs.declared.board.Operation.{Operation}
@@ -17,6 +18,7 @@ use Rattle.task_core.specs.Vectors.{all_vectors, value_of}
 use Rattle.task_core.specs.declared.literals.ActionId.{ActionId}
 use Rattle.task_core.proofs.Vectors.{all_vectors_has}
 use Rattle.plan_theory.proofs.RoundSteps.{held, holds_fewer}
+use Rattle.list_laws.proofs.Booleans.{and_false, not_false, not_true}
 use Rattle.list_laws.proofs.Elements.{map-agree}
 use Rattle.board_steps.specs.Steps.{CanMakeAll, Shows, after_steps}
 use Rattle.board_steps.specs.declared.steps.Step.{Step}
@@ -31,12 +33,7 @@ use Rattle.judge_sets.specs.WorkingSets.IsMadeBack.{led as led_part}
 use Rattle.judge_sets.specs.WorkingSets.IsRoundSet.{grows}
 use Rattle.judge_sets.specs.WorkingSets.IsTaskSet.{exec, lands}
 use Rattle.judge_sets.specs.WorkingSets.IsWorkingSet.{by_round, by_task, round}
-use Rattle.judge_sets.proofs.ReadSteps.{some_there}
 use Rattle.judge_sets.proofs.StepFacts.{Spares, fits, only_fluents, op_same, place_in, taken_in, untouched}
-
-not_true : (b : Bool) → not b ≡ true → b ≡ false
-not_true true h = absurd (false≢true h)
-not_true false h = refl
 
 -- the preimages of a set that is gone back from are small
 pub round_fits : (scene : Scene) (outcomes : Outcomes) (set : Function) → IsRoundSet scene.start.task scene.rules outcomes set → (a : ℕ) → a < action_count scene.start.task
@@ -59,10 +56,6 @@ steps_kept scene enc now old new steps has shows one five taken = record {
   followed = shows.sets 5 (place_in scene 5 (omega arith)) ∙ untouched scene.start (set_at enc.sets old) steps 5 five ∙ has.followed;
   steps = λ a low. shows.sets (7 + a) (taken_in scene a low) ∙ untouched scene.start (set_at enc.sets old) steps (7 + a) (taken a) ∙ has.steps a low;
 }
-
-pub no_empty : (b : Bool) → not b ≡ false → b ≡ true
-no_empty true e = refl
-no_empty false e = absurd (true≢false e)
 
 pub yes_empty : (b : Bool) → not b ≡ true → (b ≡ true → ⊥)
 yes_empty b h e = false≢true (sym (ap not e) ∙ h)
@@ -99,7 +92,7 @@ module _ (scene : Scene) (outcomes : Outcomes) (set : Function) (a t : ℕ) (enc
     rest_told empty told = record {
       has = rest_grown;
       rest = shows.sets 2 (place_in scene 2 (omega arith)) ∙ rest_is;
-      none = λ no. sym (shows.sets 2 (place_in scene 2 (omega arith)) ∙ rest_is) ∙ told.0 (no_empty empty no);
+      none = λ no. sym (shows.sets 2 (place_in scene 2 (omega arith)) ∙ rest_is) ∙ told.0 (not_false empty no);
     }
 
 module _ (scene : Scene) (outcomes : Outcomes) (set : Function) (a : ActionId) (enc : Encoded) (old : List SetId) (by : HasRest scene outcomes enc old set a.0 true)
@@ -128,18 +121,14 @@ module _ (scene : Scene) (outcomes : Outcomes) (set : Function) (a : ActionId) (
     hits_told empty told = record {
       has = hits_grown;
       hits = hits_here;
-      none = λ no. sym hits_here ∙ told.0 (no_empty empty no);
+      none = λ no. sym hits_here ∙ told.0 (not_false empty no);
       any = λ yes is. yes_empty empty yes (told.1 (hits_here ∙ is));
     }
 
 -- no rest, no hits
 pub hits_none : (scene : Scene) (outcomes : Outcomes) (set : Function) (a : ℕ) → rest_of scene.start.task scene.rules set a ≡ nothing → hits_of outcomes scene.start.task scene.rules set a ≡ nothing
 hits_none scene outcomes set a none = fun_ext (λ values.
-    ap (λ (f : Function). led outcomes scene.start.task a set values && f values) none ∙ and_no (led outcomes scene.start.task a set values))
-  where
-    and_no : (b : Bool) → (b && false) ≡ false
-    and_no true = refl
-    and_no false = refl
+    ap (λ (f : Function). led outcomes scene.start.task a set values && f values) none ∙ and_false (led outcomes scene.start.task a set values))
 
 pub gains_no : (scene : Scene) (outcomes : Outcomes) (now : Encoded) (slots : List SetId) (set : Function) (a : ℕ) → HasGrown scene outcomes now slots set → hits_of outcomes scene.start.task scene.rules set a ≡ nothing → IsGainBy scene outcomes now slots set a false
 gains_no scene outcomes now slots set a has none = record { set = set; has = has; more = λ e. absurd (false≢true e); same = λ e. (refl, none) }

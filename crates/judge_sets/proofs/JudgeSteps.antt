@@ -1,6 +1,6 @@
 -- What a verdict reads off its sets.
-use Rattle.std.proofs.Common.{◌≡◌, ◌↔◌, IsTrue, ℕ, zero, suc, ◌+◌, ◌<◌, ◌≤◌, ◌^◌, Bool, true, false, List, [], ◌∷◌, length, Option, Some, None, Result, Ok, Err, refl, sym, ap, subst, ◌∙◌, arith}
-use Rattle.std.specs.Prelude.{All, IfOk, IsErrOf, IsSome}
+use Rattle.std.proofs.Common.{◌≡◌, ◌↔◌, IsTrue, ℕ, ◌+◌, ◌<◌, ◌≤◌, ◌^◌, Bool, true, false, List, [], ◌∷◌, length, Some, Result, Ok, Err, refl, sym, ap, subst, ◌∙◌, arith}
+use Rattle.std.specs.Prelude.{All, IfOk, IsSome}
 use Rattle.std.specs.List.{Contains, list_all}
 use Rattle.std.proofs.lemmas.Bool.{false≢true, true≢false}
 use Rattle.dd_nodes.specs.Subfunctions.{DependsOnly, Function}
@@ -8,24 +8,23 @@ use Rattle.dd_ops.specs.Operations.{minus_of}
 use Rattle.dd_sets.specs.LiveSets.{LiveSets, everything}
 use Rattle.dd_sets.specs.Rooms.{NoRoom}
 use Rattle.dd_sets.specs.declared.errors.SetErr.{SetErr}
-use Rattle.dd_sets.specs.declared.errors.SetErr.TheVariants.{Full}
 use Rattle.dd_sets.specs.declared.slots.SetId.{SetId}
 use Rattle.dd_sets.proofs.RoomSteps.{room_wider}
 use Rattle.dd_sets.proofs.SizeLemmas.{every_small}
-use Rattle.encode_task.specs.Made.{HoldsGoal, MadeOf}
+use Rattle.encode_task.specs.Made.{MadeOf}
 use Rattle.encode_task.specs.Slots.{Encoded}
-use Rattle.slot_board.specs.Board.{At, Ends, HasNoRoom, HasNothing, IsSmall, Left, Moved, Start, Stayed, TestFits, set_at}
+use Rattle.slot_board.specs.Board.{At, Ends, HasNothing, IsSmall, Left, Moved, Start, Stayed, TestFits, set_at}
 use Rattle.slot_board.specs.declared.board.Operation.{Operation}
 use Rattle.slot_board.specs.declared.board.Outcomes.{Outcomes}
 use Rattle.task_core.specs.Tasks.{action_count, fluent_count, initial_states, system_of}
 use Rattle.task_core.specs.Vectors.{Vector, value_of}
 use Rattle.task_core.specs.declared.classes.Class.{Class}
 use Rattle.task_core.specs.declared.classes.Class.TheVariants.{Weak, Strong, Cyclic}
-use Rattle.task_core.specs.declared.conditions.Cond.{Cond}
 use Rattle.task_core.specs.declared.tasks.Task.{Task}
 use Rattle.plan_rules.specs.Plans.{IsRuleOf}
 use Rattle.plan_rules.specs.Rules.{PlanRule}
 use Rattle.list_laws.proofs.Elements.{list_all-at, list_all-from}
+use Rattle.list_laws.proofs.Numbers.{below_power_two}
 use Rattle.board_steps.specs.Steps.{CanMakeAll, Shows, after_steps}
 use Rattle.board_steps.specs.declared.steps.Step.{Step}
 use Rattle.board_steps.specs.declared.steps.Step.TheVariants.{Combine, Copy, Whole}
@@ -223,37 +222,8 @@ scene_of task enc made width rules wide places are in_task goal =
     record { start = start_of task enc made width wide.wide places; rules = rules; wide = wide; places = are; in_task = in_task; goal = goal }
 
 -- for a large width each set is small
-large_wide : (n : ℕ) → n + 2 ≤ 2 ^ n + 1
-large_wide zero = omega arith
-large_wide (suc n) = let e : n + 2 ≤ 2 ^ n + 1 = large_wide n in let one : 1 ≤ 2 ^ n = power_some n in omega arith
-  where
-    power_some : (n : ℕ) → 1 ≤ 2 ^ n
-    power_some zero = omega arith
-    power_some (suc n) = let e : 1 ≤ 2 ^ n = power_some n in omega arith
-
 pub all_bounded : (task : Task) (rules : List PlanRule) → BoundsTableSets (2 ^ fluent_count task + 1) task rules
-all_bounded task rules = record { wide = large_wide (fluent_count task); each = λ set working. every_small (fluent_count task) set }
-
-goal_in : (task : Task) (sets : LiveSets) (slot : Option SetId) (goal : Option Cond) → HoldsGoal task sets slot goal → IsSome goal → IsSome slot
-goal_in task sets None (Some goal) holds some = absurd holds
-goal_in task sets (Some slot) goal holds some = refl
-goal_in task sets None None holds some = absurd (false≢true some)
-
-pub goal_there : (task : Task) (enc : Encoded) → MadeOf task enc → IsSome task.goal → IsSome enc.goal
-goal_there task enc made some = goal_in task enc.sets enc.goal task.goal made.goal some
-
--- what an answer says
-pub at_end : {T : Type 0} (start : Start) (now : Encoded) (slots : List SetId) (P : T → Type 0) (result : Result T SetErr) → ((x : T) → P x → At start now slots) → Ends start now slots P result → At start now slots
-at_end start now slots P (Ok x) f ends = f x ends
-at_end start now slots P (Err e) f ends = ends.0
-
-pub full_at : {T : Type 0} (start : Start) (now : Encoded) (slots : List SetId) (P : T → Type 0) (result : Result T SetErr) → Ends start now slots P result → IsErrOf result Full → HasNoRoom start now
-full_at start now slots P (Ok x) ends full = absurd (let h : Ok x ≡ Err Full = full in cc)
-full_at start now slots P (Err e) ends full = ends.1 (let h : Err e ≡ Err Full = full in cc)
-
-pub ok_with : {T : Type 0} (start : Start) (now : Encoded) (slots : List SetId) (P Q : T → Type 0) (result : Result T SetErr) → ((x : T) → P x → Q x) → Ends start now slots P result → IfOk result Q
-ok_with start now slots P Q (Ok x) f ends = f x ends
-ok_with start now slots P Q (Err e) f ends = tt
+all_bounded task rules = record { wide = below_power_two (fluent_count task); each = λ set working. every_small (fluent_count task) set }
 
 pub room_of : (task : Task) (before after : LiveSets) (width places : ℕ) → places ≡ 7 + action_count task → NoRoom width (places + 0 + 8) (0 + 4) before after → NoRoom width (action_count task + 15) 4 before after
 room_of task before after width places are none = room_wider before (places + 0 + 8) (action_count task + 15) 4 4 (omega arith) (omega arith) none

@@ -2,40 +2,37 @@
 use Rattle.std.proofs.Common.{◌≡◌, ◌≢◌, ◌↔◌, ◌⊎◌, IsTrue, ℕ, zero, suc, ◌+◌, ◌<◌, Bool, true, false, not, ◌&&◌, List, [], ◌∷◌, ◌++◌, length, get_or, take, take-suc, refl, sym, ap, subst, ◌∙◌, inl, ⊎_elim, arith}
 use Rattle.std.specs.Prelude.{All}
 use Rattle.std.proofs.lemmas.Bool.{and_from, and_parts, cases_eq, false≢true, true≢false}
-use Rattle.std.proofs.Math.Path.{fun_ext}
-use Rattle.std.specs.List.{Contains, list_any, range_with_len}
-use Rattle.std.proofs.lemmas.List.{length-map}
-use Rattle.std.proofs.lemmas.List.FromFn.{length-range_with_len}
-use Rattle.dd_nodes.specs.NodeList.{Values}
-use Rattle.dd_nodes.specs.Subfunctions.{DependsOnly, Function}
+use Rattle.std.specs.List.{Contains}
+use Rattle.dd_nodes.specs.Subfunctions.{Function}
 use Rattle.dd_ops.specs.Operations.{and_of, minus_of, or_of, variable}
 use Rattle.dd_sets.specs.LiveSets.{IsLive, nothing, set_of}
 use Rattle.dd_sets.specs.declared.slots.SetId.{SetId}
 use Rattle.encode_task.specs.Slots.{Encoded}
-use Rattle.encode_task.specs.TaskSets.{first_values, space_set}
-use Rattle.encode_task.proofs.ShownLemmas.{value_computed}
-use Rattle.slot_board.specs.Board.{IsSmall, combined, set_at}
+use Rattle.encode_task.specs.TaskSets.{cube_set, space_set}
+use Rattle.encode_task.proofs.StateVectors.{some_there}
+use Rattle.slot_board.specs.Board.{IsSmall, combined, set_at, sign_of}
 use Rattle.slot_board.specs.declared.board.Operation.{Operation}
+use Rattle.slot_board.proofs.Literals.{literal_is}
 use Rattle.task_core.specs.Cubes.{Cube, matches}
 use Rattle.task_core.specs.Tasks.{action_count, fluent_count, in_space, system_of}
-use Rattle.task_core.specs.Vectors.{Vector, all_vectors, value_of}
+use Rattle.task_core.specs.Vectors.{value_of}
 use Rattle.task_core.specs.declared.literals.Lit.{Lit}
-use Rattle.task_core.proofs.Vectors.{all_vectors_has, all_vectors_length}
 use Rattle.plan_rules.specs.Rules.{PlanRule}
-use Rattle.list_laws.proofs.Elements.{Contains-cons, Contains-head, find-None, list_any-false, list_any-witness}
+use Rattle.list_laws.proofs.Booleans.{not_true}
+use Rattle.list_laws.proofs.Elements.{Contains-cons, Contains-head, find-None}
 use Rattle.board_steps.specs.Steps.{CanMakeAll, Placed, Shows, after_steps, with_set}
 use Rattle.board_steps.specs.declared.steps.Step.{Step}
 use Rattle.board_steps.specs.declared.steps.Step.TheVariants.{Combine, Fluent, Kept, Whole}
 use Rattle.board_steps.proofs.StepLemmas.{with_here, with_other}
 use Rattle.first_match.specs.FirstMatch.{CountsBehind}
-use Rattle.judge_sets.specs.Places.{HasCube, HasJoined, HasRead, HasTold, IsNextRule, Scene, sign_of}
-use Rattle.judge_sets.specs.TableSets.{cube_set, differ_set, matched_set, taken_set}
+use Rattle.judge_sets.specs.Places.{HasCube, HasJoined, HasRead, HasTold, IsNextRule, Scene}
+use Rattle.judge_sets.specs.TableSets.{differ_set, matched_set, taken_set}
 use Rattle.judge_sets.specs.WorkingSets.IsRuleSet.{counts, counts_in_states, differs, first_literals, other_counts}
 use Rattle.judge_sets.specs.WorkingSets.IsTableSet.{differ, matched, taken}
 use Rattle.judge_sets.specs.WorkingSets.IsTaskSet.{fluent, states}
 use Rattle.judge_sets.specs.WorkingSets.IsWorkingSet.{by_rule, by_table, by_task}
 use Rattle.judge_sets.proofs.SetTheory.{all_at}
-use Rattle.judge_sets.proofs.SetSteps.{any_none, differ_is, literal_is, matched_is, others_take, taken_is}
+use Rattle.judge_sets.proofs.SetSteps.{any_none, differ_is, matched_is, others_take, taken_is}
 use Rattle.judge_sets.proofs.StepFacts.{fits, next_of, next_take, only_fluents, op_same, place_in, small, taken_in, untouched}
 
 -- a literal
@@ -217,26 +214,6 @@ module _ (scene : Scene) (before : List PlanRule) (rule : PlanRule) (a t : ℕ) 
 -- whether it counts in some state
 abbrev pub states_steps : SetId → List Step
 states_steps slot = Kept 2 slot ∷ Combine 3 Operation.Meet 3 2 ∷ []
-
-length_first : (n : ℕ) (values : Values) → length (first_values n values) ≡ n
-length_first n values = omega (arith, length-map (range_with_len 0 n) values, length-range_with_len 0 n)
-
--- a set that is empty on vectors is
-pub none_there : (n : ℕ) (set : Function) → DependsOnly 0 n set → list_any (λ v. set (value_of v)) (all_vectors n) ≡ false → set ≡ nothing
-none_there n set only none = fun_ext (λ values.
-    sym (only (value_of (first_values n values)) values (λ u low l. value_computed values n u l))
-    ∙ list_any-false (λ v. set (value_of v)) (all_vectors n) (first_values n values) none (all_vectors_has n (first_values n values) (length_first n values)))
-
-pub some_there : (n : ℕ) (set : Function) → DependsOnly 0 n set → (set ≡ nothing → ⊥) → (v : Vector) × (length v ≡ n) × (set (value_of v) ≡ true)
-some_there n set only some = by_test (list_any (λ v. set (value_of v)) (all_vectors n)) refl
-  where
-    by_test : (b : Bool) → list_any (λ v. set (value_of v)) (all_vectors n) ≡ b → (v : Vector) × (length v ≡ n) × (set (value_of v) ≡ true)
-    by_test true e = let w = list_any-witness (λ v. set (value_of v)) (all_vectors n) e in (w.0, all_vectors_length n w.0 w.1, w.2)
-    by_test false e = absurd (some (none_there n set only e))
-
-not_true : (b : Bool) → not b ≡ true → b ≡ false
-not_true true h = absurd (false≢true h)
-not_true false h = refl
 
 module _ (scene : Scene) (before : List PlanRule) (rule : PlanRule) (next : IsNextRule scene before rule) (slot : SetId) (enc : Encoded) (slots : List SetId)
     (has : HasJoined scene enc slots before rule) (is : slot ≡ enc.space) where

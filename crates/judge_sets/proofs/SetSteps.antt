@@ -1,39 +1,17 @@
--- What one rule more makes of the sets of a table, and what one literal more makes of a cube.
+-- What one rule more makes of the sets of a table.
 use Rattle.std.proofs.Common.{◌≡◌, ◌≢◌, ℕ, Bool, true, false, not, ◌&&◌, ◌||◌, ◌==◌, List, [], ◌∷◌, ◌++◌, Option, Some, None, find, cond, refl, sym, ap, ◌∙◌}
 use Rattle.std.specs.List.{list_any}
 use Rattle.std.specs.Option.{option_map_or}
 use Rattle.std.proofs.Math.Path.{fun_ext}
 use Rattle.std.proofs.lemmas.Bool.{eq-eqb, ne_eqb}
-use Rattle.std.proofs.lemmas.List.Folds.{list_all-append, list_any-append}
+use Rattle.std.proofs.lemmas.List.Folds.{list_any-append}
 use Rattle.dd_nodes.specs.NodeList.{Values}
-use Rattle.dd_nodes.specs.Subfunctions.{Function}
-use Rattle.dd_ops.specs.Operations.{and_of, minus_of, or_of, variable}
-use Rattle.task_core.specs.Cubes.{Cube}
-use Rattle.task_core.specs.Vectors.{same_value}
-use Rattle.task_core.specs.declared.literals.Lit.{Lit}
+use Rattle.dd_ops.specs.Operations.{and_of, minus_of, or_of}
 use Rattle.plan_rules.specs.Rules.{PlanRule}
+use Rattle.list_laws.proofs.Booleans.{or_none}
 use Rattle.list_laws.proofs.Elements.{find-Some, find-found, list_any-false, list_any-from, list_any-none}
-use Rattle.slot_board.specs.Board.{combined}
-use Rattle.judge_sets.specs.Places.{sign_of}
-use Rattle.judge_sets.specs.TableSets.{cube_set, differ_set, matched_set, rule_at, taken_set}
-
--- one literal more
-same_true : (x : Bool) → x ≡ (same_value x true && true)
-same_true true = refl
-same_true false = refl
-
-same_false : (x : Bool) → not x ≡ (same_value x false && true)
-same_false true = refl
-same_false false = refl
-
-literal_at : (b : Bool) (g : Function) (f : ℕ) (values : Values) → combined (sign_of b) g (variable f) values ≡ (g values && (same_value (values f) b && true))
-literal_at true g f values = ap (λ t. g values && t) (same_true (values f))
-literal_at false g f values = ap (λ t. g values && t) (same_false (values f))
-
-pub literal_is : (done : Cube) (lit : Lit) → combined (sign_of lit.positive) (cube_set done) (variable lit.fluent.0) ≡ cube_set (done ++ lit ∷ [])
-literal_is done lit = fun_ext (λ values.
-    literal_at lit.positive (cube_set done) lit.fluent.0 values
-    ∙ sym (list_all-append (λ (l : Lit). same_value (values l.fluent.0) l.positive) done (lit ∷ [])))
+use Rattle.encode_task.specs.TaskSets.{cube_set}
+use Rattle.judge_sets.specs.TableSets.{differ_set, matched_set, rule_at, taken_set}
 
 -- the first of a list that passes, with more behind
 module _ {X : Type 0} (p : X → Bool) where
@@ -69,10 +47,6 @@ module _ (before : List PlanRule) (rule : PlanRule) where
 
   pub matched_is : or_of (matched_set before) (cube_set rule.cube) ≡ matched_set (before ++ rule ∷ [])
   matched_is = fun_ext (λ values. ap (λ b. matched_set before values || b) (or_none (cube_set rule.cube values)) ∙ sym (list_any-append (passes values) before (rule ∷ [])))
-    where
-      or_none : (b : Bool) → b ≡ (b || false)
-      or_none true = refl
-      or_none false = refl
 
   -- what an action takes
   abbrev tells : ℕ → Option PlanRule → Bool

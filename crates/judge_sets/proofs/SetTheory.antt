@@ -1,64 +1,41 @@
 -- The sets of a verdict in the system of the task: what their states may do, and that the last ones
 -- have all states that may.
-use Rattle.std.proofs.Common.{◌≡◌, ℕ, zero, suc, ◌<◌, ◌≤◌, Bool, true, false, not, ◌&&◌, ◌||◌, ◌==◌, List, [], ◌∷◌, Option, Some, None, refl, sym, ap, ◌∙◌, subst, ⊎_elim, arith, option_map, unwrap_or}
+use Rattle.std.proofs.Common.{◌≡◌, ℕ, zero, suc, ◌<◌, ◌≤◌, Bool, true, false, not, ◌&&◌, ◌==◌, List, [], ◌∷◌, Option, Some, None, refl, sym, ap, ◌∙◌, subst, ⊎_elim, arith, option_map, unwrap_or}
 use Rattle.std.specs.Prelude.{All}
 use Rattle.std.specs.List.{Contains, list_all, list_any}
 use Rattle.std.specs.Option.{option_map_or}
-use Rattle.std.proofs.lemmas.Bool.{and_from, and_parts, cases_lt, eq-eqb, eqb-true, false≢true, true≢false, or_cases, or_left}
+use Rattle.std.proofs.lemmas.Bool.{and_from, and_parts, cases_lt, eq-eqb, eqb-true, false≢true, true≢false, or_cases, or_left, not_from_false, false_from_ne_true}
 use Rattle.std.proofs.lemmas.List.Elements.{All-head, All-tail}
 use Rattle.dd_nodes.specs.NodeList.{Values}
 use Rattle.dd_nodes.specs.Subfunctions.{DependsOnly, Function}
 use Rattle.dd_ops.specs.Operations.{minus_of}
 use Rattle.dd_sets.specs.LiveSets.{everything, nothing}
-use Rattle.encode_task.specs.TaskSets.{exec_set, goal_set, space_set}
+use Rattle.encode_task.specs.TaskSets.{exec_set, goal_set, goal_states_set}
 use Rattle.preimage.specs.Preimages.{strong_preimage, weak_preimage}
+use Rattle.preimage.proofs.Leads.{exec_at}
 use Rattle.preimage.proofs.OutcomeLemmas.{strong_leads, weak_leads}
 use Rattle.slot_board.specs.declared.board.Outcomes.{Outcomes}
-use Rattle.task_core.specs.Actions.{after_value}
 use Rattle.task_core.specs.Conditions.{holds}
 use Rattle.task_core.specs.Cubes.{matches}
 use Rattle.task_core.specs.Solutions.{IsReached}
 use Rattle.task_core.specs.Systems.{System, Exec, IsSystem, IsVector, goal_states}
-use Rattle.task_core.specs.Tasks.{action_count, fluent_count, in_space, initial_states, is_executable, next_states, outcomes_at, states_where, system_of}
+use Rattle.task_core.specs.Tasks.{action_count, fluent_count, in_space, initial_states, is_executable, next_states, states_where, system_of}
 use Rattle.task_core.specs.Vectors.{Vector, value_of}
-use Rattle.task_core.specs.declared.actions.Outcome.{Outcome}
 use Rattle.task_core.specs.declared.classes.Class.TheVariants.{Weak, Strong, Cyclic}
 use Rattle.task_core.specs.declared.conditions.Cond.{Cond}
 use Rattle.task_core.specs.declared.tasks.Task.{Task}
 use Rattle.task_core.proofs.TaskSystem.{exec_executable, executable_exec, is_system, states_where_has, states_where_holds}
 use Rattle.plan_rules.specs.Plans.{IsRuleOf}
 use Rattle.plan_rules.specs.Rules.{PlanRule}
-use Rattle.list_laws.proofs.Elements.{Contains-cases, Contains-nil, find-None, find-Some, find-found, list_all-agree, list_all-at, list_all-from, list_any-false, list_any-from, list_any-none, list_any-witness}
+use Rattle.list_laws.proofs.Booleans.{not_false, not_true}
+use Rattle.list_laws.proofs.Elements.{Contains-cases, Contains-nil, find-None, find-Some, find-found, list_all-at, list_all-from, list_any-false, list_any-from, list_any-none, list_any-witness}
 use Rattle.first_match.specs.FirstMatch.{CanFollowFirst, RulesAgree, SolvesAsRun, first_rule, run_table}
 use Rattle.judge_sets.specs.Fixpoints.{IsGrown, IsShrunk, hits_of, lost_of, rest_of}
 use Rattle.judge_sets.specs.Fixpoints.IsGrown.{begun, grown}
 use Rattle.judge_sets.specs.Fixpoints.IsShrunk.{whole, shrunk}
-use Rattle.judge_sets.specs.TableSets.{differ_set, end_set, followed_by, goal_states_set, matched_set, step_set, taken_set}
+use Rattle.judge_sets.specs.TableSets.{differ_set, end_set, followed_by, matched_set, step_set, taken_set}
 use Rattle.first_match.proofs.RunPairs.{advised_from, advised_parts, pair_in, pair_of, reached_first, reached_keeps, reached_more, reached_vector}
 use Rattle.judge_sets.proofs.RunTheory.{AllInto, IsClosed, MayStop, SomeInto, SureToStop, cyclic_from, cyclic_to, goes, stop_here, stop_in, stop_later, stops, strong_from, sure_in, weak_from, weak_to}
-
-not_true : (b : Bool) → not b ≡ true → b ≡ false
-not_true true h = absurd (false≢true h)
-not_true false h = refl
-
-not_false : (b : Bool) → b ≡ false → not b ≡ true
-not_false b h = ap not h
-
-false_from : (b : Bool) → (b ≡ true → ⊥) → b ≡ false
-false_from true h = absurd (h refl)
-false_from false h = refl
-
-and_yes : (b c : Bool) → c ≡ true → (b && c) ≡ b
-and_yes true c e = e
-and_yes false c e = refl
-
-or_true : (b : Bool) → (b || true) ≡ true
-or_true true = refl
-or_true false = refl
-
-all_true : {X : Type 0} (xs : List X) → list_all (λ x. true) xs ≡ true
-all_true [] = refl
-all_true (x ∷ xs) = all_true xs
 
 pub all_at : {X : Type 0} (P : X → Type 0) (xs : List X) (x : X) → All P xs → Contains xs x → P x
 all_at P [] x all has = absurd (Contains-nil x has)
@@ -76,20 +53,11 @@ module _ (task : Task) (rules : List PlanRule) where
   Reached s = IsReached (system_of task) (run_table (system_of task) rules) s
 
   -- where an action can be executed
-  exec_at : (v : Vector) (a : ℕ) → exec_set task a (value_of v) ≡ is_executable task v a
-  exec_at v a =
-      sym (and_yes (exec_set task a (value_of v)) (list_all stays (outcomes_at task a)) (list_all-agree stays (λ (o : Outcome). true) (outcomes_at task a) (λ o has. or_true (not (space_set task (after_value o (value_of v))))) ∙ all_true (outcomes_at task a)))
-      ∙ strong_leads task a everything v (λ s t same. refl)
-      ∙ and_yes (is_executable task v a) (list_all (λ (t : Vector). true) (next_states task v a)) (all_true (next_states task v a))
-    where
-      stays : Outcome → Bool
-      stays o = not (space_set task (after_value o (value_of v))) || everything (after_value o (value_of v))
-
   exec_of : (v : Vector) (a : ℕ) → exec_set task a (value_of v) ≡ true → Exec (system_of task) v a
-  exec_of v a h = executable_exec task v a (sym (exec_at v a) ∙ h)
+  exec_of v a h = executable_exec task v a (sym (exec_at task v a) ∙ h)
 
   exec_to : (v : Vector) (a : ℕ) → Exec (system_of task) v a → exec_set task a (value_of v) ≡ true
-  exec_to v a h = exec_at v a ∙ exec_executable task v a h
+  exec_to v a h = exec_at task v a ∙ exec_executable task v a h
 
   -- the steps are the pairs of the table
   step_pair : (v : Vector) (a : ℕ) → IsVector (system_of task) v → step_set task rules a (value_of v) ≡ true → Contains (run_table (system_of task) rules) (v, a)
@@ -136,7 +104,7 @@ module _ (task : Task) (rules : List PlanRule) where
   end_to : (v : Vector) → first_rule rules v ≡ None → Contains (goal_states (system_of task)) v → end_set task rules (value_of v) ≡ true
   end_to v free goal =
       and_from (goal_states_set task (value_of v)) (not (matched_set rules (value_of v))) (goal_to v goal)
-      (not_false (matched_set rules (value_of v)) (false_from (matched_set rules (value_of v)) (λ some.
+      (not_from_false (matched_set rules (value_of v)) (false_from_ne_true (matched_set rules (value_of v)) (λ some.
       let w = find-Some (λ (rule : PlanRule). matches rule.cube v) rules some in
       let e : None ≡ Some w.0 = sym free ∙ w.1 in absurd (cc))))
 
@@ -259,7 +227,7 @@ module _ (task : Task) (rules : List PlanRule) where
   to_followed zero values all = refl
   to_followed (suc n) values all =
       and_from (followed_by task rules n values) (not (taken_set rules n values && not (exec_set task n values))) (to_followed n values all)
-      (not_false (taken_set rules n values && not (exec_set task n values)) (false_from (taken_set rules n values && not (exec_set task n values)) (λ bad.
+      (not_from_false (taken_set rules n values && not (exec_set task n values)) (false_from_ne_true (taken_set rules n values && not (exec_set task n values)) (λ bad.
       let parts = and_parts (taken_set rules n values) (not (exec_set task n values)) bad in
       true≢false (sym (all n parts.0) ∙ not_true (exec_set task n values) parts.1))))
 
@@ -281,11 +249,7 @@ module _ (task : Task) (rules : List PlanRule) where
       ap (λ (o : Option PlanRule). option_map_or (λ (first : PlanRule). list_any (λ (other : PlanRule). matches other.cube s && not (first.action == other.action)) rules) o false) is
 
   same_action : (matched : Bool) (a b : ℕ) → matched ≡ true → (matched && not (a == b)) ≡ false → a ≡ b
-  same_action true a b m none = eqb-true a b (true_of (a == b) none)
-    where
-      true_of : (x : Bool) → not x ≡ false → x ≡ true
-      true_of true e = refl
-      true_of false e = absurd (true≢false e)
+  same_action true a b m none = eqb-true a b (not_false (a == b) none)
   same_action false a b m none = absurd (false≢true m)
 
   no_difference : (matched : Bool) (a b : ℕ) → (matched ≡ true → a ≡ b) → (matched && not (a == b)) ≡ false
@@ -304,7 +268,7 @@ module _ (task : Task) (rules : List PlanRule) where
       go : (o : Option PlanRule) → first_rule rules s ≡ o → not (differ_set rules (value_of s)) ≡ true
       go None e = ap (λ (o : Option PlanRule). not (option_map_or (λ (first : PlanRule). list_any (λ (other : PlanRule). matches other.cube s && not (first.action == other.action)) rules) o false)) e
       go (Some rule) e =
-          not_false (differ_set rules (value_of s)) (differ_at s rule e
+          not_from_false (differ_set rules (value_of s)) (differ_at s rule e
           ∙ list_any-none (λ (r : PlanRule). matches r.cube s && not (rule.action == r.action)) rules
           (λ other has. no_difference (matches other.cube s) rule.action other.action (λ matched. sym (agree s rule other reached e has matched))))
 

@@ -8,7 +8,7 @@ use Rattle.dd_sets.specs.LiveSets.{LiveSets, IsLive, nothing, set_of}
 use Rattle.dd_sets.specs.declared.slots.SetId.{SetId}
 use Rattle.encode_task.specs.Made.{HoldsGoal}
 use Rattle.encode_task.specs.Slots.{Encoded, exec_slot}
-use Rattle.encode_task.specs.TaskSets.{exec_set, goal_set}
+use Rattle.encode_task.specs.TaskSets.{exec_set, goal_set, goal_states_set}
 use Rattle.slot_board.specs.Board.{Fits, set_at}
 use Rattle.slot_board.specs.declared.board.Operation.{Operation}
 use Rattle.task_core.specs.Tasks.{action_count}
@@ -19,7 +19,7 @@ use Rattle.board_steps.specs.declared.steps.Step.{Step}
 use Rattle.board_steps.specs.declared.steps.Step.TheVariants.{Combine, Kept, Whole}
 use Rattle.board_steps.proofs.StepLemmas.{with_here, with_other}
 use Rattle.judge_sets.specs.Places.{HasPart, HasRead, HasSteps, Scene}
-use Rattle.judge_sets.specs.TableSets.{end_set, followed_by, goal_states_set, step_set, taken_set}
+use Rattle.judge_sets.specs.TableSets.{end_set, followed_by, step_set, taken_set}
 use Rattle.judge_sets.specs.WorkingSets.IsTableSet.{ends, fails, followed, steps}
 use Rattle.judge_sets.specs.WorkingSets.IsTaskSet.{exec, goal}
 use Rattle.judge_sets.specs.WorkingSets.IsWorkingSet.{by_table, by_task}

@@ -2,11 +2,13 @@
 use Rattle.std.proofs.Common.{◌≡◌, ◌≢◌, ◌↔◌, IsTrue, ℕ, ◌+◌, ◌<◌, Bool, true, false, not, ◌&&◌, ◌||◌, cond, List, [], ◌∷◌, refl, sym, ap, subst, ◌∙◌, ⊎_elim, arith}
 use Rattle.std.proofs.Math.Path.{fun_ext}
 use Rattle.std.proofs.lemmas.Bool.{and_parts, cases_eq, false≢true, true≢false}
+use Rattle.list_laws.proofs.Booleans.{and_false, not_false}
 use Rattle.dd_nodes.specs.Subfunctions.{Function}
 use Rattle.dd_ops.specs.Operations.{and_of, minus_of}
 use Rattle.dd_sets.specs.LiveSets.{nothing}
 use Rattle.dd_sets.specs.declared.slots.SetId.{SetId}
 use Rattle.encode_task.specs.Slots.{Encoded}
+use Rattle.encode_task.proofs.StateVectors.{some_there}
 use Rattle.slot_board.specs.Board.{LeadFits, led, set_at}
 use Rattle.slot_board.specs.declared.board.Operation.{Operation}
 use Rattle.slot_board.specs.declared.board.Outcomes.{Outcomes}
@@ -24,8 +26,7 @@ use Rattle.judge_sets.specs.TableSets.{step_set}
 use Rattle.judge_sets.specs.WorkingSets.IsMadeBack.{here as here_back, lost as lost_back}
 use Rattle.judge_sets.specs.WorkingSets.IsRoundSet.{shrinks}
 use Rattle.judge_sets.specs.WorkingSets.IsWorkingSet.{by_round, round}
-use Rattle.judge_sets.proofs.GrowSteps.{fewer_held, more_more, no_empty, round_fits, steps_kept, yes_empty}
-use Rattle.judge_sets.proofs.ReadSteps.{some_there}
+use Rattle.judge_sets.proofs.GrowSteps.{fewer_held, more_more, round_fits, steps_kept, yes_empty}
 use Rattle.judge_sets.proofs.StepFacts.{fits, only_fluents, op_same, place_in, taken_in}
 
 abbrev pub here_steps : ℕ → List Step
@@ -61,7 +62,7 @@ module _ (scene : Scene) (from set : Function) (a t : ℕ) (enc : Encoded) (old 
     here_told empty told = record {
       has = here_shrunk;
       here = shows.sets 2 (place_in scene 2 (omega arith)) ∙ here_is;
-      none = λ no. sym (shows.sets 2 (place_in scene 2 (omega arith)) ∙ here_is) ∙ told.0 (no_empty empty no);
+      none = λ no. sym (shows.sets 2 (place_in scene 2 (omega arith)) ∙ here_is) ∙ told.0 (not_false empty no);
     }
 
 module _ (scene : Scene) (from set : Function) (a : ActionId) (enc : Encoded) (old : List SetId) (by : HasHere scene enc old from set a.0 true)
@@ -91,7 +92,7 @@ module _ (scene : Scene) (from set : Function) (a : ActionId) (enc : Encoded) (o
     lost_told empty told = record {
       has = lost_shrunk;
       out = lost_here;
-      none = λ no. sym lost_here ∙ told.0 (no_empty empty no);
+      none = λ no. sym lost_here ∙ told.0 (not_false empty no);
       any = λ some is. yes_empty empty some (told.1 (lost_here ∙ is));
     }
 
@@ -124,12 +125,8 @@ module _ (scene : Scene) (from set : Function) (a : ℕ) (enc : Encoded) (old : 
         vector = w.0;
         long = w.1;
         has = inside.1;
-        lacks = ap (λ b. set v && not b) w.2 ∙ and_no (set v);
+        lacks = ap (λ b. set v && not b) w.2 ∙ and_false (set v);
       }
-    where
-      and_no : (b : Bool) → (b && false) ≡ false
-      and_no true = refl
-      and_no false = refl
 
   pub drop_made : (now : Encoded) (new : List SetId) → Shows scene.start now new (after_steps scene.start (set_at enc.sets old) drop_steps) → IsLossBy scene now new from set a true
   drop_made now new shows = record {

@@ -10,9 +10,8 @@ use Rattle.dd_ops.specs.Operations.{minus_of}
 use Rattle.dd_sets.specs.LiveSets.{IsSets, nothing}
 use Rattle.dd_sets.specs.declared.slots.SetId.{SetId}
 use Rattle.encode_task.specs.Slots.{Encoded}
+use Rattle.encode_task.specs.TaskSets.{cube_set}
 use Rattle.slot_board.specs.Board.{At, Start, set_at}
-use Rattle.slot_board.specs.declared.board.Operation.{Operation}
-use Rattle.slot_board.specs.declared.board.Operation.TheVariants.{Meet, Minus}
 use Rattle.slot_board.specs.declared.board.Outcomes.{Outcomes}
 use Rattle.task_core.specs.Cubes.{Cube}
 use Rattle.task_core.specs.Solutions.{IsReached}
@@ -26,7 +25,7 @@ use Rattle.judge_sets.specs.Fixpoints.{IsBegin, IsGrown, IsShrunk}
 use Rattle.judge_sets.specs.Fixpoints.{here_of, hits_of, lost_of, rest_of}
 use Rattle.first_match.specs.FirstMatch.{EachRuleCounts, RulesAgree, SolvesAsRun, run_table}
 use Rattle.judge_sets.specs.declared.verdict.TableVerdict.{TableVerdict}
-use Rattle.judge_sets.specs.TableSets.{cube_set, differ_set, end_set, followed_by, matched_set, step_set, taken_set}
+use Rattle.judge_sets.specs.TableSets.{differ_set, end_set, followed_by, matched_set, step_set, taken_set}
 use Rattle.judge_sets.specs.WorkingSets.{BoundsTableSets}
 
 -- the places
@@ -141,11 +140,6 @@ pub record HasLost (scene : Scene) (now : Encoded) (slots : List SetId) (from be
   pub has : HasShrunk scene now slots from set
   pub fewer : lost ≡ true → HasMore (fluent_count scene.start.task) set before
   pub same : lost ≡ false → (set ≡ before) × LosesNone scene set n
-
--- how a literal is met with a set
-abbrev pub sign_of : Bool → Operation
-sign_of true = Meet
-sign_of false = Minus
 
 -- a rule stands behind others in the rules of a verdict
 abbrev pub IsNextRule : Scene → List PlanRule → PlanRule → Type 0

@@ -1,20 +1,14 @@
 -- The table of first matching rules as sets of lists of truth values, one an action.
 use Rattle.std.specs.Prelude.{ℕ, zero, suc, false, not, ◌&&◌, ◌==◌, List, Option, find}
-use Rattle.std.specs.List.{list_all, list_any}
+use Rattle.std.specs.List.{list_any}
 use Rattle.std.specs.Option.{option_map_or}
 use Rattle.dd_nodes.specs.NodeList.{Values}
 use Rattle.dd_nodes.specs.Subfunctions.{Function}
 use Rattle.dd_ops.specs.Operations.{and_of, minus_of}
-use Rattle.dd_sets.specs.LiveSets.{everything, nothing}
-use Rattle.encode_task.specs.TaskSets.{exec_set, goal_set}
-use Rattle.task_core.specs.Cubes.{Cube}
-use Rattle.task_core.specs.Vectors.{same_value}
+use Rattle.dd_sets.specs.LiveSets.{everything}
+use Rattle.encode_task.specs.TaskSets.{cube_set, exec_set, goal_states_set}
 use Rattle.task_core.specs.declared.tasks.Task.{Task}
 use Rattle.plan_rules.specs.Rules.{PlanRule}
-
--- where a cube matches
-abbrev pub cube_set : Cube → Function
-cube_set cube values = list_all (λ lit. same_value (values lit.fluent.0) lit.positive) cube
 
 -- the rule that counts: the first that matches
 abbrev pub rule_at : List PlanRule → Values → Option PlanRule
@@ -35,10 +29,6 @@ differ_set rules values =
     option_map_or (λ (first : PlanRule). list_any (λ (rule : PlanRule).
     cube_set rule.cube values && not (first.action == rule.action)) rules) (rule_at rules values)
     false
-
--- the goal states of a task
-abbrev pub goal_states_set : Task → Function
-goal_states_set task = option_map_or (goal_set task) task.goal nothing
 
 -- where the goal holds and no rule matches: there the rules are at their end
 abbrev pub end_set : Task → List PlanRule → Function

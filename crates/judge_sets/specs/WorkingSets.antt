@@ -4,14 +4,14 @@ use Rattle.dd_nodes.specs.Subfunctions.{Function, IsSubfunction}
 use Rattle.dd_ops.specs.Operations.{and_of, minus_of, variable}
 use Rattle.dd_sets.specs.LiveSets.{everything}
 use Rattle.dd_sets.specs.Rooms.{Small}
-use Rattle.encode_task.specs.TaskSets.{exec_set, initial_set, lands_set, led_into, space_set}
+use Rattle.encode_task.specs.TaskSets.{cube_set, exec_set, goal_states_set, initial_set, lands_set, led_into, space_set}
 use Rattle.slot_board.specs.Board.{first_of}
 use Rattle.slot_board.specs.declared.board.Outcomes.{Outcomes}
 use Rattle.task_core.specs.Tasks.{action_count, fluent_count, outcomes_at}
 use Rattle.task_core.specs.declared.tasks.Task.{Task}
 use Rattle.plan_rules.specs.Rules.{PlanRule}
 use Rattle.judge_sets.specs.Fixpoints.{IsBegin, IsGrown, IsShrunk, here_of, hits_of, lost_of, rest_of}
-use Rattle.judge_sets.specs.TableSets.{cube_set, differ_set, end_set, followed_by, goal_states_set, matched_set, step_set, taken_set}
+use Rattle.judge_sets.specs.TableSets.{differ_set, end_set, followed_by, matched_set, step_set, taken_set}
 
 -- the sets that are made of the task
 pub data IsTaskSet (task : Task) : Function → Type 0 where

@@ -1,16 +1,16 @@
 //! Reads rules: where each action is taken, the first rule that matches counting.
 
+ghost use Rattle.encode_task.specs.TaskSets.{cube_set};
 ghost use Rattle.std.specs.Prelude.{◌≡◌, ◌↔◌, ◌++◌, ◌<◌, ◌&&◌, [], ◌∷◌, IsTrue, List, length, map};
 ghost use Rattle.dd_sets.specs.LiveSets.{nothing};
 ghost use Rattle.dd_ops.specs.Operations.{minus_of};
-ghost use Rattle.slot_board.specs.Board.{At, Ends, Fits, HasNothing, IsSmall, IsWorking, Left, Moved};
+ghost use Rattle.slot_board.specs.Board.{At, Ends, Fits, HasNothing, IsSmall, IsWorking, Left, Moved, sign_of};
 ghost use Rattle.slot_board.specs.Board.{Start, set_at};
 ghost use Rattle.task_core.specs.Cubes.{Cube};
 ghost use Rattle.task_core.specs.Tasks.{fluent_count, system_of};
 ghost use Rattle.plan_rules.specs.Rules.{PlanRule, rule_of};
 ghost use Rattle.first_match.specs.FirstMatch.{CountsBehind, EachRuleCounts};
-ghost use Rattle.judge_sets.specs.Places.{HasCube, HasJoined, HasRead, HasTold, IsNextRule, Scene, sign_of};
-ghost use Rattle.judge_sets.specs.TableSets.{cube_set};
+ghost use Rattle.judge_sets.specs.Places.{HasCube, HasJoined, HasRead, HasTold, IsNextRule, Scene};
 
 use crate::places::{CUBE, DIFFER, MATCHED, PART, taken_at};
 use board_steps::{Step, make_all};

@@ -10,12 +10,14 @@ use Rattle.encode_task.specs.TaskSets.{initial_set, space_set}
 use Rattle.preimage.specs.WorkingSets.{IsMadeByRound, first_every}
 use Rattle.preimage.specs.WorkingSets.IsMadeByRound.{itself}
 use Rattle.slot_board.specs.Board as board
-use Rattle.slot_board.specs.Board.{set_at}
+use Rattle.slot_board.specs.Board.{Scene, set_at}
+use Rattle.plan_theory.specs.SetWords.{anywhere}
 use Rattle.plan_theory.specs.UntilChains.{SetStage, UntilSets, guarded_from, until_met_count, until_win}
 use Rattle.plan_theory.specs.LayerPlans.{is_action}
 use Rattle.plan_theory.specs.Safe.{safe_action, safe_round, safe_set}
 use Rattle.plan_theory.specs.StageSets.{near, stage_action}
 use Rattle.list_laws.proofs.Booleans.{same_truth}
+use Rattle.list_laws.proofs.Numbers.{below_power}
 use Rattle.task_core.specs.Cubes.{SetOfVectors}
 use Rattle.task_core.specs.Systems.{System}
 use Rattle.task_core.specs.Tasks.{action_count, fluent_count}
@@ -26,9 +28,8 @@ use Rattle.ctl_syntax.specs.GoalValues.{stage_sets}
 use Rattle.ctl_syntax.specs.declared.context_goals.UntilChain.{UntilChain}
 use Rattle.ctl_syntax.specs.declared.context_goals.UntilStage.{UntilStage}
 use Rattle.patrol_plan.specs.Chains.{until_sets}
-use Rattle.patrol_plan.specs.Guards.{anywhere}
 use Rattle.patrol_plan.specs.Rounds.{first_lead, from_stage, turning_at}
-use Rattle.patrol_plan.specs.Scenes.{IsReady, SameStates, Scene, Start, board_of, guarded, met_place, states_at, sys_in, sys_of, takers_place, win_place}
+use Rattle.patrol_plan.specs.Scenes.{IsReady, SameStates, Start, board_of, guarded, met_place, states_at, sys_in, sys_of, takers_place, win_place}
 use Rattle.patrol_plan.specs.Sizes.{ClimbsFit, ConditionsFit, EndFits, IsSmall, RoundFits, SearchFits, ShareFits, StageFits, TurnsFit, UntilFits}
 use Rattle.patrol_plan.specs.Steps.{HasTakers, HasWins}
 use Rattle.patrol_plan.specs.WorkingSets.{IsRoundSet, BoundsUntilSets, function_of, guard_first, guard_in, hits_inside, kept_states, met_first, met_in, near_in, taken_at_end, taken_within, turning_from, turning_to}
@@ -37,7 +38,7 @@ use Rattle.patrol_plan.specs.WorkingSets.IsWorkingSet.{of_guard, of_keep, of_rou
 use Rattle.patrol_plan.specs.declared.rounds.Way.TheVariants.{Growing, Shrinking}
 use Rattle.patrol_plan.proofs.Guards.{near_inside}
 use Rattle.patrol_plan.proofs.GuardSteps.{action_as, first_anywhere, near_as, safe_anywhere, safe_set_anywhere}
-use Rattle.patrol_plan.proofs.KeptSteps.{powers, safe_kept}
+use Rattle.patrol_plan.proofs.KeptSteps.{safe_kept}
 use Rattle.patrol_plan.proofs.PlanSteps.{stage_count}
 use Rattle.patrol_plan.proofs.SetFits.{rounds_fit}
 use Rattle.patrol_plan.proofs.SizeSteps.{placed_small, rough_left, round_fits_same, small_same}
@@ -251,6 +252,6 @@ test_fits start x place chain is ready fits =
 -- by a large width every set is small
 pub widest : (task : Task) (chain : UntilChain) → BoundsUntilSets (2 ^ fluent_count task + 1) task chain
 widest task chain = record {
-  fluents = let p = powers (fluent_count task) in omega arith;
+  fluents = let p = below_power (fluent_count task) in omega arith;
   small = λ set is. every_small (fluent_count task) set;
 }

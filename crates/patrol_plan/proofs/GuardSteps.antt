@@ -5,11 +5,12 @@ use Rattle.std.proofs.Math.Path.{fun_ext}
 use Rattle.plan_theory.specs.GuardedSets.{guarded_action, guarded_near, guarded_set}
 use Rattle.plan_theory.specs.Layers.{action_numbers, must_lead}
 use Rattle.plan_theory.specs.Safe.{safe_round, safe_set, some_must_lead}
+use Rattle.plan_theory.specs.SetWords.{anywhere}
 use Rattle.plan_theory.specs.StageSets.{near, stage_action, stage_set}
 use Rattle.task_core.specs.Cubes.{SetOfVectors}
 use Rattle.task_core.specs.Systems.{IsVector, System}
 use Rattle.task_core.specs.Vectors.{Vector}
-use Rattle.patrol_plan.specs.Guards.{anywhere, guarded_system}
+use Rattle.patrol_plan.specs.Guards.{guarded_system}
 use Rattle.patrol_plan.specs.Scenes.{SameStates, Start, guarded, sys_in, sys_of}
 use Rattle.patrol_plan.proofs.Guards.{action_inside, must_inside, near_inside, set_inside, some_inside}
 use Rattle.patrol_plan.proofs.StageLemmas.{near_same, stage_action_same, stage_set_same}

@@ -8,6 +8,7 @@ use Rattle.ctl_syntax.specs.Conditions.{states_of}
 use Rattle.ctl_syntax.specs.GoalValues.{stage_sets}
 use Rattle.ctl_syntax.specs.declared.context_goals.UntilChain.{UntilChain}
 use Rattle.ctl_syntax.specs.declared.context_goals.UntilStage.{UntilStage}
+use Rattle.slot_board.specs.Board.{Scene}
 use Rattle.slot_board.specs.declared.steps.Step.{Step}
 use Rattle.slot_board.specs.declared.steps.Step.TheVariants.{Advance, Grow}
 use Rattle.plan_theory.specs.Layers.{must_lead}
@@ -18,7 +19,7 @@ use Rattle.task_core.specs.Systems.{IsVector}
 use Rattle.task_core.specs.Vectors.{Vector}
 use Rattle.patrol_plan.specs.Chains.{until_sets}
 use Rattle.patrol_plan.specs.Noted.{AddsNothing, AreStepsFrom, NotedStages, near_at, next_at, steps_at}
-use Rattle.patrol_plan.specs.Scenes.{SameStates, Scene, Start, guarded, met_place, states_at, sys_in, sys_of, win_place}
+use Rattle.patrol_plan.specs.Scenes.{SameStates, Start, guarded, met_place, states_at, sys_in, sys_of, win_place}
 use Rattle.patrol_plan.specs.Steps.{HasTakers, HasWins, met_by}
 use Rattle.patrol_plan.specs.WorkingSets.{guard_first, guard_in, met_first, met_in}
 use Rattle.patrol_plan.proofs.Guards.{must_inside, some_inside}

@@ -1,25 +1,19 @@
 -- Where a condition can be kept for ever: the same among all lists of truth values and among the
 -- states.
-use Rattle.std.proofs.Common.{◌≡◌, ℕ, zero, suc, ◌+◌, ◌≤◌, ◌^◌, Bool, true, false, ◌&&◌, refl, ap, ◌∙◌, arith}
+use Rattle.std.proofs.Common.{◌≡◌, ℕ, zero, suc, ◌^◌, Bool, true, false, ◌&&◌, refl, ap, ◌∙◌, arith}
 use Rattle.std.specs.List.{list_all, list_any}
 use Rattle.std.proofs.lemmas.Bool.{and_parts}
 use Rattle.plan_theory.specs.Layers.{action_numbers, may_lead, must_lead}
 use Rattle.plan_theory.specs.Safe.{safe_round, safe_set, some_must_lead}
 use Rattle.plan_theory.proofs.SafeSets.{rounds_shrink}
 use Rattle.plan_theory.proofs.Weak.{HasOutcome-Exec}
+use Rattle.list_laws.proofs.Booleans.{and_assoc}
 use Rattle.list_laws.proofs.Elements.{list_all-agree, list_any-agree, list_any-witness}
+use Rattle.list_laws.proofs.Numbers.{below_power}
 use Rattle.task_core.specs.Cubes.{SetOfVectors}
 use Rattle.task_core.specs.Systems.{HasOutcome, IsSystem, System}
 use Rattle.task_core.specs.Vectors.{Vector}
 use Rattle.patrol_plan.specs.WorkingSets.{kept_states}
-
-pub powers : (n : ℕ) → n + 1 ≤ 2 ^ n
-powers zero = omega arith
-powers (suc n) = let h : n + 1 ≤ 2 ^ n = powers n in omega arith
-
-and_assoc : (a b c : Bool) → ((a && b) && c) ≡ (a && (b && c))
-and_assoc true b c = refl
-and_assoc false b c = refl
 
 in_true : (a b : Bool) → a ≡ true → (a && b) ≡ b
 in_true true b e = refl
@@ -50,7 +44,7 @@ module _ (sys : System) (ok : IsSystem sys) (keep : SetOfVectors) where
 
   safe_inside : (v : Vector) → safe_set sys keep v ≡ true → sys.in_space v ≡ true
   safe_inside v h =
-      let one : safe_round sys keep 1 v ≡ true = rounds_shrink sys keep v 1 (2 ^ sys.fluents) (let p = powers sys.fluents in omega arith) h in
+      let one : safe_round sys keep 1 v ≡ true = rounds_shrink sys keep v 1 (2 ^ sys.fluents) (let p = below_power sys.fluents in omega arith) h in
       let some : some_must_lead sys keep v ≡ true = (and_parts (keep v) (some_must_lead sys keep v) one).1 in
       let w = list_any-witness (must_lead sys keep v) (action_numbers sys) some in
       let may : may_lead sys keep v w.0 ≡ true = (and_parts (may_lead sys keep v w.0) (list_all keep (sys.next v w.0)) w.2).0 in

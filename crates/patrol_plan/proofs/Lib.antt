@@ -1,4 +1,3 @@
-pub mod SetSteps
 pub mod Guards
 pub mod SceneSteps
 pub mod RoundSteps

@@ -7,7 +7,7 @@ use Rattle.dd_nodes.specs.Subfunctions.{Function}
 use Rattle.dd_ops.specs.Operations.{or_of}
 use Rattle.dd_sets.specs.declared.errors.SetErr.{SetErr}
 use Rattle.dd_sets.specs.declared.errors.SetErr.TheVariants.{Full, Memory}
-use Rattle.slot_board.specs.Board.{Ends, set_at}
+use Rattle.slot_board.specs.Board.{Ends, Scene, set_at}
 use Rattle.plan_theory.specs.Layers.{must_lead}
 use Rattle.task_core.specs.Systems.{IsVector}
 use Rattle.task_core.specs.Vectors.{Vector, value_of}
@@ -24,7 +24,7 @@ use Rattle.task_core.specs.declared.literals.ActionId.{ActionId}
 use Rattle.slot_board.specs.declared.steps.Step.{Step}
 use Rattle.slot_board.specs.declared.steps.Step.TheVariants.{Advance, Grow}
 use Rattle.patrol_plan.specs.Noted.{AddsNothing, AreAll, AreNoted, AreStepsFrom, HasLed, IsNoted, LedBy, NotesRound, Widened, near_at}
-use Rattle.patrol_plan.specs.Scenes.{IsAt, IsGuarded, Left, Moved, SameStates, Scene, Start, board_of, led_inside, states_at, sys_in}
+use Rattle.patrol_plan.specs.Scenes.{IsAt, IsGuarded, Left, Moved, SameStates, Start, board_of, led_inside, states_at, sys_in}
 
 module _ (start : Start) (set : SetOfVectors) (k : ℕ) where
   -- what follows after an action that adds nothing, follows before it

@@ -6,8 +6,9 @@ use Rattle.ctl_syntax.specs.declared.context_goals.UntilChain.{UntilChain}
 use Rattle.ctl_syntax.specs.declared.context_goals.UntilStage.{UntilStage}
 use Rattle.task_core.specs.Conditions.{IsConditionOver, ids_below, is_shallow}
 use Rattle.task_core.specs.declared.conditions.Cond.{Cond}
+use Rattle.slot_board.specs.Board.{Scene}
 use Rattle.patrol_plan.specs.Chains.{IsPatrolOver, IsUntilOver}
-use Rattle.patrol_plan.specs.Scenes.{IsAt, Scene, Start}
+use Rattle.patrol_plan.specs.Scenes.{IsAt, Start}
 
 -- a call keeps how many there are
 pub over_still : (start : Start) (x y : Scene) (chain : UntilChain) → IsAt start x → IsAt start y → IsUntilOver x.0.sets.vars chain → IsUntilOver y.0.sets.vars chain

@@ -1,12 +1,14 @@
 -- By a width of the working sets of a patrol goal, all that a search makes is small.
 use Rattle.std.proofs.Common.{ℕ, ◌+◌, ◌^◌, List, sym, arith}
 use Rattle.std.proofs.lemmas.List.{length-map}
+use Rattle.list_laws.proofs.Numbers.{below_power}
 use Rattle.dd_nodes.specs.Subfunctions.{Function}
 use Rattle.dd_sets.specs.Rooms.{Small}
 use Rattle.dd_sets.proofs.SizeLemmas.{every_small}
 use Rattle.encode_task.specs.TaskSets.{initial_set, space_set}
 use Rattle.preimage.specs.WorkingSets.{IsMadeByRound, first_every}
 use Rattle.preimage.specs.WorkingSets.IsMadeByRound.{itself}
+use Rattle.plan_theory.specs.SetWords.{anywhere}
 use Rattle.plan_theory.specs.StageSets.{near}
 use Rattle.task_core.specs.Cubes.{SetOfVectors}
 use Rattle.task_core.specs.Systems.{System}
@@ -15,7 +17,6 @@ use Rattle.task_core.specs.declared.conditions.Cond.{Cond}
 use Rattle.task_core.specs.declared.tasks.Task.{Task}
 use Rattle.ctl_syntax.specs.Conditions.{states_of}
 use Rattle.patrol_plan.specs.Chains.{visit_sets}
-use Rattle.patrol_plan.specs.Guards.{anywhere}
 use Rattle.patrol_plan.specs.PatrolSizes.{PatrolFits, made_in, round_of, within_round}
 use Rattle.patrol_plan.specs.PatrolWorkingSets.{IsRoundSet, BoundsPatrolSets, near_visit_in}
 use Rattle.patrol_plan.specs.PatrolWorkingSets.IsRoundSet.{all_states, initial_states, left, near_visit}
@@ -24,7 +25,6 @@ use Rattle.patrol_plan.specs.Scenes.{Start, guarded, sys_in, sys_of}
 use Rattle.patrol_plan.specs.Sizes.{RoundFits}
 use Rattle.patrol_plan.specs.WorkingSets.{function_of, hits_inside}
 use Rattle.patrol_plan.proofs.Guards.{near_inside}
-use Rattle.patrol_plan.proofs.KeptSteps.{powers}
 use Rattle.patrol_plan.proofs.SetFits.{rounds_fit}
 use Rattle.patrol_plan.proofs.SizeSteps.{round_fits_same}
 
@@ -64,6 +64,6 @@ module _ (start : Start) (conds : List Cond) (wide : BoundsPatrolSets start.widt
 -- by a large width every set is small
 pub widest_patrol : (task : Task) (conds : List Cond) → BoundsPatrolSets (2 ^ fluent_count task + 1) task conds
 widest_patrol task conds = record {
-  fluents = let p = powers (fluent_count task) in omega arith;
+  fluents = let p = below_power (fluent_count task) in omega arith;
   small = λ set is. every_small (fluent_count task) set;
 }

@@ -8,7 +8,7 @@ use Rattle.dd_sets.specs.declared.errors.SetErr.TheVariants.{Full}
 use Rattle.dd_sets.specs.declared.slots.SetId.{SetId}
 use Rattle.encode_task.specs.Slots.{Encoded}
 use Rattle.slot_board.specs.Board as board
-use Rattle.slot_board.specs.Board.{HasNoRoom, set_at}
+use Rattle.slot_board.specs.Board.{HasNoRoom, Scene, set_at}
 use Rattle.ctl_syntax.specs.Conditions.{states_of}
 use Rattle.plan_theory.proofs.PatrolRules.{acts_as_patrol, patrol_rules_within}
 use Rattle.plan_theory.proofs.PatrolSound.{plan_solves}
@@ -30,7 +30,7 @@ use Rattle.patrol_plan.specs.Chains.{visit_sets}
 use Rattle.patrol_plan.specs.Found.{IfNoPlan, IfPlan}
 use Rattle.patrol_plan.specs.PatrolAnswers.{IsPatrolAnswer, IsPatrolPlanOf, PatrolEnds}
 use Rattle.patrol_plan.specs.PatrolSteps.{HasPatrol, HasPatrolTable, visit_place}
-use Rattle.patrol_plan.specs.Scenes.{IsAt, Left, Scene, Start, board_of, states_at, sys_of, takers_place}
+use Rattle.patrol_plan.specs.Scenes.{IsAt, Left, Start, board_of, states_at, sys_of, takers_place}
 use Rattle.patrol_plan.specs.declared.found.FoundAuto.{FoundAuto}
 use Rattle.patrol_plan.specs.declared.found.FoundAuto.TheVariants.{NoPlan, Plan}
 use Rattle.patrol_plan.proofs.SizeSteps.{placed_small}

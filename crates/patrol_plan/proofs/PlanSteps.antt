@@ -11,7 +11,7 @@ use Rattle.dd_sets.specs.declared.slots.SetId.{SetId}
 use Rattle.encode_task.specs.Made.{MadeOf}
 use Rattle.encode_task.specs.Slots.{Encoded}
 use Rattle.slot_board.specs.Board as board
-use Rattle.slot_board.specs.Board.{HasNoRoom}
+use Rattle.slot_board.specs.Board.{HasNoRoom, Scene}
 use Rattle.plan_theory.specs.UntilChains.{UntilSets, covers_until, until_contexts, until_win, until_win_at}
 use Rattle.plan_theory.specs.UntilPlans.{HasNoUntilPlan, IsUntilPlan}
 use Rattle.plan_theory.specs.UntilPrinted.{until_rules}
@@ -32,7 +32,7 @@ use Rattle.task_core.proofs.TaskSystem.{is_system}
 use Rattle.patrol_plan.specs.Answers.{Ends, IsAnswer, IsPlanOf}
 use Rattle.patrol_plan.specs.Chains.{until_sets}
 use Rattle.patrol_plan.specs.Found.{IfNoPlan, IfPlan}
-use Rattle.patrol_plan.specs.Scenes.{HasNothing, IsAt, Left, SameStates, Scene, Start, Worked, board_of, place_count, rough_places, states_at, sys_of, win_place}
+use Rattle.patrol_plan.specs.Scenes.{HasNothing, IsAt, Left, SameStates, Start, Worked, board_of, place_count, rough_places, states_at, sys_of, win_place}
 use Rattle.patrol_plan.specs.Steps.{HasTakers, Won}
 use Rattle.patrol_plan.specs.Tables.{HasTable, start_of}
 use Rattle.patrol_plan.specs.declared.found.FoundAuto.{FoundAuto}

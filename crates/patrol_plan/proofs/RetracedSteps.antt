@@ -1,16 +1,17 @@
 -- The second pass: an action that is left out adds nothing, and what follows gives each state the
 -- action of its rank.
-use Rattle.std.proofs.Common.{◌≡◌, ◌≢◌, ℕ, zero, suc, ◌+◌, ◌<◌, ◌≤◌, Bool, true, false, not, ◌&&◌, ◌||◌, List, [], ◌∷◌, length, refl, sym, ap, subst, ◌∙◌, ⊎_elim, arith}
+use Rattle.std.proofs.Common.{◌≡◌, ◌≢◌, ℕ, zero, suc, ◌+◌, ◌<◌, ◌≤◌, true, not, ◌&&◌, ◌||◌, List, [], ◌∷◌, length, refl, sym, ap, subst, ◌∙◌, ⊎_elim, arith}
 use Rattle.std.specs.List.{find, list_any, range_with_len}
 use Rattle.std.proofs.lemmas.Bool.{cases_eq, cases_lt}
-use Rattle.list_laws.proofs.Booleans.{or_same}
+use Rattle.list_laws.proofs.Booleans.{or_never, or_none, or_same}
 use Rattle.slot_board.specs.Board as board
-use Rattle.slot_board.specs.Board.{set_at}
+use Rattle.slot_board.specs.Board.{Scene, set_at}
 use Rattle.slot_board.specs.declared.steps.Step.{Step}
 use Rattle.slot_board.specs.declared.steps.Step.TheVariants.{Advance, Grow}
 use Rattle.plan_theory.specs.StageSets.{near, stage_action}
 use Rattle.plan_theory.specs.Layers.{action_numbers, must_lead}
 use Rattle.plan_theory.specs.LayerPlans.{is_action}
+use Rattle.plan_theory.proofs.FirstActions.{first_is}
 use Rattle.task_core.specs.Cubes.{SetOfVectors}
 use Rattle.task_core.specs.Systems.{IsVector}
 use Rattle.task_core.specs.Tasks.{action_count}
@@ -18,7 +19,7 @@ use Rattle.task_core.specs.Vectors.{Vector}
 use Rattle.task_core.specs.declared.literals.ActionId.{ActionId}
 use Rattle.patrol_plan.specs.Noted.{AddsNothing, AreStepsFrom, HasRetraced, RetracedOn, near_at}
 use Rattle.patrol_plan.specs.Rounds.{first_lead, turn_by}
-use Rattle.patrol_plan.specs.Scenes.{IsGuarded, Moved, SameStates, Scene, Start, board_of, states_at, sys_in}
+use Rattle.patrol_plan.specs.Scenes.{IsGuarded, Moved, SameStates, Start, board_of, states_at, sys_in}
 use Rattle.patrol_plan.specs.Sizes.{ClimbFits, ClimbsFit}
 use Rattle.patrol_plan.specs.Steps.{Climbed, Climbs}
 use Rattle.patrol_plan.specs.declared.rounds.Way.TheVariants.{Growing}
@@ -26,24 +27,9 @@ use Rattle.patrol_plan.proofs.Guards.{in_system}
 use Rattle.patrol_plan.proofs.NotedSteps.{turned_same}
 use Rattle.patrol_plan.proofs.RoundSteps.{turn_same, turned_more}
 use Rattle.patrol_plan.proofs.SceneSteps.{changed_chain_in, copied_states, leads_same, moved_in, moved_low, moved_other, moved_worked_in, same_length, worked_changed_in, worked_same_in}
-use Rattle.patrol_plan.proofs.SetSteps.{first_is}
 use Rattle.patrol_plan.proofs.SizeSteps.{at_small, small_same, turns_fit_at}
 use Rattle.patrol_plan.proofs.StageLemmas.{first_same, more_taken, none_taken}
-use Rattle.patrol_plan.proofs.TakerSteps.{climbs_none}
-
-never_new : (n s t : Bool) → (t ≡ true → (n || s) ≡ true) → false ≡ (not n && (t && not s))
-never_new true s t up = refl
-never_new false s false up = refl
-never_new false true true up = refl
-never_new false false true up = up refl
-
-or_never : (x y : Bool) → false ≡ y → x ≡ (x || y)
-or_never true y e = refl
-or_never false y e = e
-
-or_none : (b : Bool) → b ≡ (b || false)
-or_none true = refl
-or_none false = refl
+use Rattle.patrol_plan.proofs.TakerSteps.{climbs_none, never_new}
 
 -- an action that adds nothing to a round
 module _ (start : Start) (x y : Scene) (takers : ℕ) where

@@ -1,41 +1,31 @@
 -- The rounds on sets of states: from one to the next, and the last one.
-use Rattle.std.proofs.Common.{◌≡◌, ℕ, suc, ◌+◌, ◌<◌, Bool, true, false, not, ◌&&◌, ◌||◌, [], ◌∷◌, refl, sym, ap, subst, ◌∙◌, arith}
-use Rattle.std.specs.List.{Contains, list_any, range_with_len}
-use Rattle.std.proofs.lemmas.Bool.{and_parts, false≢true, or_left, true≢false}
+use Rattle.std.proofs.Common.{◌≡◌, ℕ, suc, ◌+◌, ◌<◌, Bool, not, ◌&&◌, ◌||◌, [], ◌∷◌, refl, sym, ap, subst, ◌∙◌, arith}
+use Rattle.std.specs.List.{list_any, range_with_len}
+use Rattle.std.proofs.Math.Bool.{and-or_distrib_left}
+use Rattle.std.proofs.lemmas.Bool.{and_parts, or_left}
 use Rattle.std.proofs.lemmas.List.Folds.{list_any-append}
 use Rattle.dd_ops.specs.Operations.{and_of, minus_of}
-use Rattle.slot_board.specs.Board.{set_at}
-use Rattle.patrol_plan.proofs.SetSteps.{same_functions}
-use Rattle.plan_theory.proofs.RoundSteps.{held, holds_fewer}
+use Rattle.encode_task.proofs.StateVectors.{same_functions}
+use Rattle.slot_board.specs.Board.{Scene, set_at}
+use Rattle.plan_theory.proofs.FewerStates.{fewer, fewer_outside}
+use Rattle.plan_theory.proofs.RoundSteps.{held}
 use Rattle.plan_theory.specs.Safe.{some_must_lead}
 use Rattle.plan_theory.proofs.SafeSets.{last_round}
 use Rattle.plan_theory.proofs.StageSets.{last_near}
 use Rattle.plan_theory.specs.Layers.{must_lead}
-use Rattle.plan_theory.proofs.Cubes.{all_vectors-agree, all_vectors-length}
+use Rattle.list_laws.proofs.Booleans.{and_false, and_not, or_assoc, or_none}
 use Rattle.list_laws.proofs.Ranges.{range-more}
 use Rattle.task_core.specs.Cubes.{SetOfVectors}
 use Rattle.task_core.specs.Systems.{IsVector, System}
 use Rattle.task_core.specs.Tasks.{action_count, fluent_count}
 use Rattle.task_core.specs.Vectors.{Vector, all_vectors, value_of}
 use Rattle.patrol_plan.proofs.Guards.{in_system}
-use Rattle.patrol_plan.specs.Scenes.{IsGuarded, Moved, SameStates, Scene, Start, led_inside, states_at, sys_in}
+use Rattle.patrol_plan.specs.Scenes.{IsGuarded, Moved, SameStates, Start, led_inside, states_at, sys_in}
 use Rattle.patrol_plan.specs.Rounds.{hits_by, last_turn, turn, turn_by, turns}
 use Rattle.patrol_plan.specs.Steps.{AddsHits, HasLast, HasTurned, KeepsHits, Leads, TurnedFrom}
 use Rattle.patrol_plan.specs.declared.rounds.Way.{Way}
 use Rattle.patrol_plan.specs.declared.rounds.Way.TheVariants.{Growing, Shrinking}
 use Rattle.patrol_plan.proofs.SceneSteps.{copied_states, depends_at, led_states, met_states, moved_low, moved_worked_in, rest_states, some_leads_same, unguarded, worked_chain_in, worked_same_in}
-
-and_not : (b : Bool) → (b && not b) ≡ false
-and_not true = refl
-and_not false = refl
-
-or_none : (b : Bool) → b ≡ (b || false)
-or_none true = refl
-or_none false = refl
-
-and_none : (b : Bool) → (b && false) ≡ false
-and_none true = refl
-and_none false = refl
 
 -- what one action adds to a round
 pub keeps_some : (start : Start) (x y : Scene) → IsGuarded start x → Moved start x y 2 (and_of (set_at x.0.sets x.1 0) (set_at x.0.sets x.1 2)) → KeepsHits Shrinking start x y
@@ -68,7 +58,7 @@ pub leads_none : (start : Start) (x y : Scene) → IsGuarded start x → Moved s
 leads_none start x y ready m = record {
   worked = moved_worked_in start x y 1 _ ready m (omega arith);
   near = moved_low start x y 1 _ m 0 (omega arith) (λ e. absurd (omega arith));
-  next = λ v is. ap (λ (f : SetOfVectors). f v) (rest_states start x y 1 0 0 m) ∙ and_not (states_at x 0 v) ∙ sym (and_none (states_at x 0 v));
+  next = λ v is. ap (λ (f : SetOfVectors). f v) (rest_states start x y 1 0 0 m) ∙ and_not (states_at x 0 v) ∙ sym (and_false (states_at x 0 v));
 }
 
 pub leads_copied : (start : Start) (x y : Scene) → IsGuarded start x → Moved start x y 1 (set_at x.0.sets x.1 0) → Leads Growing start x y 0
@@ -85,16 +75,8 @@ any_more p n =
     ∙ ap (list_any p) (sym (range-more n))
 
 pub turned_more : (way : Way) (sys : System) (set : SetOfVectors) (n : ℕ) (v : Vector) → (turn_by way sys set n v || hits_by way set (λ u. must_lead sys set u n) v) ≡ turn_by way sys set (n + 1) v
-turned_more Shrinking sys set n v = both (set v) (list_any (must_lead sys set v) (range_with_len 0 n)) (must_lead sys set v n) ∙ ap (λ b. set v && b) (any_more (must_lead sys set v) n)
-  where
-    both : (s l p : Bool) → ((s && l) || (s && p)) ≡ (s && (l || p))
-    both true l p = refl
-    both false l p = refl
-turned_more Growing sys set n v = either (set v) (list_any (must_lead sys set v) (range_with_len 0 n)) (must_lead sys set v n) ∙ ap (λ b. set v || b) (any_more (must_lead sys set v) n)
-  where
-    either : (s l p : Bool) → ((s || l) || p) ≡ (s || (l || p))
-    either true l p = refl
-    either false l p = refl
+turned_more Shrinking sys set n v = sym (and-or_distrib_left (set v) (list_any (must_lead sys set v) (range_with_len 0 n)) (must_lead sys set v n)) ∙ ap (λ b. set v && b) (any_more (must_lead sys set v) n)
+turned_more Growing sys set n v = or_assoc (set v) (list_any (must_lead sys set v) (range_with_len 0 n)) (must_lead sys set v n) ∙ ap (λ b. set v || b) (any_more (must_lead sys set v) n)
 
 pub leads_more : (way : Way) (start : Start) (x y z : Scene) (n : ℕ) → Leads way start x y n → AddsHits way start y z n → Leads way start x z (n + 1)
 leads_more way start x y z n h more = record {
@@ -173,20 +155,7 @@ pub left_over : Way → SetOfVectors → ℕ → ℕ
 left_over Shrinking set n = held set (all_vectors n)
 left_over Growing set n = held (λ v. not (set v)) (all_vectors n)
 
-not_same : (a b : Bool) → not a ≡ not b → a ≡ b
-not_same true true e = refl
-not_same true false e = absurd (false≢true e)
-not_same false true e = absurd (true≢false e)
-not_same false false e = refl
-
-up : (a b : Bool) → (a ≡ true → b ≡ true) → not b ≡ true → not a ≡ true
-up true b more out = absurd (false≢true (sym (ap not (more refl)) ∙ out))
-up false b more out = refl
-
 module _ (start : Start) (y z : Scene) (n : ℕ) (is_n : n ≡ fluent_count start.task) (ready : IsGuarded start y) (differ : set_at y.0.sets y.1 1 ≡ set_at y.0.sets y.1 0 → ⊥) (next : SameStates start (states_at z 0) (states_at y 1)) where
-  state : (v : Vector) → Contains (all_vectors n) v → IsVector (sys_in start) v
-  state v c = all_vectors-length n v c ∙ is_n
-
   not_alike : ((v : Vector) → IsVector (sys_in start) v → states_at z 0 v ≡ states_at y 0 v) → ⊥
   not_alike same =
       differ (same_functions (fluent_count start.task) (set_at y.0.sets y.1 1) (set_at y.0.sets y.1 0) (depends_at start y (unguarded start y ready) 1) (depends_at start y (unguarded start y ready) 0)
@@ -195,18 +164,17 @@ module _ (start : Start) (y z : Scene) (n : ℕ) (is_n : n ≡ fluent_count star
   pub fewer_left : (way : Way) (set : SetOfVectors) (k : ℕ) → SameStates start (states_at y 0) (turns way (sys_in start) set k) → SameStates start (states_at y 1) (turns way (sys_in start) set (suc k)) → left_over way (states_at z 0) n < left_over way (states_at y 0) n
   unfolding left_over
   fewer_left Shrinking set k near more =
-      holds_fewer (states_at y 0) (states_at z 0) (all_vectors n)
-      (λ v c h.
-      let is = state v c in
+      fewer n (states_at y 0) (states_at z 0)
+      (λ v long h.
+      let is : IsVector (sys_in start) v = long ∙ is_n in
       near v is ∙ (and_parts (turns Shrinking (sys_in start) set k v) _ (sym (more v is) ∙ sym (next v is) ∙ h)).0)
-      (λ same. not_alike (λ v is. all_vectors-agree (states_at z 0) (states_at y 0) n same v (is ∙ sym is_n)))
+      (λ same. not_alike (λ v is. same v (is ∙ sym is_n)))
   fewer_left Growing set k near more =
-      holds_fewer (λ v. not (states_at y 0 v)) (λ v. not (states_at z 0 v)) (all_vectors n)
-      (λ v c h.
-      let is = state v c in
-      up (states_at y 0 v) (states_at z 0 v)
-      (λ inside. next v is ∙ more v is ∙ or_left (turns Growing (sys_in start) set k v) _ (sym (near v is) ∙ inside)) h)
-      (λ same. not_alike (λ v is. not_same (states_at z 0 v) (states_at y 0 v) (all_vectors-agree (λ u. not (states_at z 0 u)) (λ u. not (states_at y 0 u)) n same v (is ∙ sym is_n))))
+      fewer_outside n (states_at y 0) (states_at z 0)
+      (λ v long inside.
+      let is : IsVector (sys_in start) v = long ∙ is_n in
+      next v is ∙ more v is ∙ or_left (turns Growing (sys_in start) set k v) _ (sym (near v is) ∙ inside))
+      (λ same. not_alike (λ v is. same v (is ∙ sym is_n)))
 
 pub turned_less : (way : Way) (start : Start) (x y z : Scene) (set : SetOfVectors) (k n : ℕ) → HasTurned way start x y set k → (set_at y.0.sets y.1 1 ≡ set_at y.0.sets y.1 0 → ⊥) → n ≡ fluent_count start.task → TurnedFrom way start y z 1
     → left_over way (states_at z 0) n < left_over way (states_at y 0) n

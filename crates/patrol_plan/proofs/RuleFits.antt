@@ -2,11 +2,11 @@
 use Rattle.std.proofs.Common.{◌≡◌, ℕ, ◌+◌, ◌<◌, ◌≤◌, length, sym, subst, inr, arith}
 use Rattle.dd_ops.specs.Operations.{and_of, minus_of}
 use Rattle.slot_board.specs.Board as board
-use Rattle.slot_board.specs.Board.{set_at}
+use Rattle.slot_board.specs.Board.{Scene, set_at}
 use Rattle.plan_theory.specs.UntilChains.{UntilSets}
 use Rattle.task_core.specs.Tasks.{action_count}
 use Rattle.patrol_plan.specs.Rounds.{from_stage, turning_at}
-use Rattle.patrol_plan.specs.Scenes.{Scene, Start, board_of, met_place, states_at, sys_of, takers_place}
+use Rattle.patrol_plan.specs.Scenes.{Start, board_of, met_place, states_at, sys_of, takers_place}
 use Rattle.patrol_plan.specs.Steps.{HasRest}
 use Rattle.patrol_plan.specs.Tables.{HasTurning}
 use Rattle.patrol_plan.proofs.RuleSteps.{rest_met, turning_left}

@@ -2,12 +2,12 @@
 use Rattle.std.proofs.Common.{◌≡◌, ◌≢◌, ℕ, suc, ◌+◌, ◌<◌, ◌≤◌, ◌&&◌, length, refl, sym, ap, subst, ◌∙◌, inl, ⊎_elim, arith}
 use Rattle.std.proofs.lemmas.Bool.{cases_eq}
 use Rattle.dd_ops.specs.Operations.{and_of}
-use Rattle.slot_board.specs.Board.{set_at}
+use Rattle.slot_board.specs.Board.{Scene, set_at}
 use Rattle.plan_theory.specs.UntilChains.{UntilSets}
 use Rattle.task_core.specs.Cubes.{SetOfVectors}
 use Rattle.task_core.specs.Tasks.{action_count}
 use Rattle.task_core.specs.Vectors.{Vector}
-use Rattle.patrol_plan.specs.Scenes.{IsReady, Moved, Scene, Start, rules_place, states_at, takers_place}
+use Rattle.patrol_plan.specs.Scenes.{IsReady, Moved, Start, rules_place, states_at, takers_place}
 use Rattle.patrol_plan.specs.Steps.{Chooses}
 use Rattle.patrol_plan.specs.Tables.{HasRuleStates, HasTurning}
 use Rattle.patrol_plan.proofs.RuleSteps.{has_beside, rule_taken}

@@ -10,19 +10,20 @@ use Rattle.dd_nodes.specs.Subfunctions.{Function}
 use Rattle.dd_ops.specs.Operations.{and_of, minus_of}
 use Rattle.dd_sets.specs.declared.errors.SetErr.{SetErr}
 use Rattle.dd_sets.specs.declared.errors.SetErr.TheVariants.{Full, Memory}
-use Rattle.slot_board.specs.Board.{set_at}
-use Rattle.patrol_plan.proofs.SetSteps.{cubes_agree}
+use Rattle.encode_task.proofs.StateVectors.{cubes_agree}
+use Rattle.slot_board.specs.Board.{Scene, set_at}
 use Rattle.plan_theory.specs.ContextRules.{action_rules, next_rules, rules_in_context}
+use Rattle.plan_theory.specs.SetWords.{rule_for, rules_for}
 use Rattle.plan_theory.specs.UntilChains.{SetStage, UntilSets, covers_until, guarded_from, until_advance, until_met_count, until_win, until_win_at}
 use Rattle.plan_theory.specs.UntilPrinted.{until_nexts, until_rules, until_states, until_towards}
-use Rattle.list_laws.proofs.Booleans.{same_truth}
+use Rattle.list_laws.proofs.Booleans.{and_yes, same_truth}
 use Rattle.plan_rules.specs.Rules.{ContextRule}
 use Rattle.plan_theory.specs.LayerPlans.{is_action}
 use Rattle.task_core.specs.Cubes.{SetOfVectors}
 use Rattle.task_core.specs.Systems.{System}
 use Rattle.task_core.specs.Tasks.{action_count, fluent_count}
-use Rattle.patrol_plan.specs.Listing.{Lists, ListsStages, ListsTurning, rule_for, rules_for}
-use Rattle.patrol_plan.specs.Scenes.{Changed, IsAt, Left, Moved, SameStates, Scene, Start, Worked, met_place, rules_place, states_at, sys_of, takers_place, win_place}
+use Rattle.patrol_plan.specs.Listing.{Lists, ListsStages, ListsTurning}
+use Rattle.patrol_plan.specs.Scenes.{Changed, IsAt, Left, Moved, SameStates, Start, Worked, met_place, rules_place, states_at, sys_of, takers_place, win_place}
 use Rattle.patrol_plan.specs.Rounds.{from_stage, turning_at}
 use Rattle.patrol_plan.specs.Steps.{HasRest, HasTakers}
 use Rattle.patrol_plan.specs.WorkingSets.{met_first}
@@ -99,12 +100,8 @@ rest_none start x y chain c few h m =
       rest = λ v is.
           ap (λ (f : SetOfVectors). f v) (copied_states start x y 3 (win_place c) m)
           ∙ h.won.wins c (omega arith) few v is
-          ∙ all_from (until_win sys chain.keep (drop c chain.stages) v) (nat_le c (c + until_met_count sys chain.keep (drop c chain.stages) v)) (le-leb c (c + until_met_count sys chain.keep (drop c chain.stages) v) (omega arith));
+          ∙ sym (and_yes (until_win sys chain.keep (drop c chain.stages) v) (nat_le c (c + until_met_count sys chain.keep (drop c chain.stages) v)) (le-leb c (c + until_met_count sys chain.keep (drop c chain.stages) v) (omega arith)));
     }
-  where
-    all_from : (w l : Bool) → l ≡ true → w ≡ (w && l)
-    all_from true l e = sym e
-    all_from false l e = refl
 
 pub rest_met : (start : Start) (x : Scene) (chain : UntilSets) (c j : ℕ) → length chain.stages ≡ start.stages → c ≤ j → j ≤ start.stages → HasRest start x chain c j
     → SameStates start (λ v. states_at x 3 v && states_at x (met_place j) v) (from_stage (sys_of start) chain c (j + 1))

@@ -3,11 +3,11 @@ use Rattle.std.proofs.Common.{◌≡◌, ◌≢◌, ℕ, suc, ◌+◌, ◌*◌, 
 use Rattle.std.specs.List.{list_all, list_any}
 use Rattle.dd_nodes.specs.Subfunctions.{DependsOnly, Function}
 use Rattle.dd_ops.specs.Operations.{and_of, minus_of, or_of}
-use Rattle.slot_board.specs.Board.{led, set_at}
+use Rattle.slot_board.specs.Board.{Scene, led, set_at}
 use Rattle.slot_board.specs.declared.board.Outcomes.TheVariants as Outcomes
 use Rattle.slot_board.proofs.BoardSlots.{depends}
-use Rattle.patrol_plan.proofs.SetSteps.{strong_agrees}
 use Rattle.preimage.specs.Preimages.{strong_preimage}
+use Rattle.preimage.proofs.Leads.{strong_agrees}
 use Rattle.plan_theory.specs.Safe.{some_must_lead}
 use Rattle.plan_theory.specs.Layers.{action_numbers, must_lead}
 use Rattle.list_laws.proofs.Elements.{list_all-agree, list_any-agree}
@@ -15,7 +15,7 @@ use Rattle.task_core.specs.Cubes.{SetOfVectors}
 use Rattle.task_core.specs.Systems.{HasOutcome, IsVector}
 use Rattle.task_core.specs.Tasks.{action_count, fluent_count}
 use Rattle.task_core.specs.Vectors.{Vector, value_of}
-use Rattle.patrol_plan.specs.Scenes.{Changed, ChangedIn, IsAt, IsGuarded, IsReady, Moved, Outside, SameStates, Scene, Start, Worked, WorkedIn, board_of, guarded, led_inside, states_at, sys_in, sys_of}
+use Rattle.patrol_plan.specs.Scenes.{Changed, ChangedIn, IsAt, IsGuarded, IsReady, Moved, Outside, SameStates, Start, Worked, WorkedIn, board_of, guarded, led_inside, states_at, sys_in, sys_of}
 use Rattle.patrol_plan.proofs.Guards.{in_system, must_inside}
 
 -- the places of a board
@@ -190,7 +190,7 @@ pub led_states : (start : Start) (x y : Scene) (a : ℕ) → IsGuarded start x �
 led_states start x y a ready m v is =
     ap (λ (f : SetOfVectors). f v) (moved_here start x y 2 _ m)
     ∙ ap (λ b. b && strong_preimage start.task a (set_at x.0.sets x.1 0) (value_of v)) (ready.guard v is)
-    ∙ ap (λ b. start.guard v && b) (strong_agrees (board_of start) a (set_at x.0.sets x.1 0) (states_at x 0) (depends_at start x (unguarded start x ready) 0) (λ u at. refl) v is)
+    ∙ ap (λ b. start.guard v && b) (strong_agrees start.task a (set_at x.0.sets x.1 0) (states_at x 0) (depends_at start x (unguarded start x ready) 0) (λ u at. refl) v is)
     ∙ sym (must_inside (sys_of start) start.guard (states_at x 0) v a)
 
 -- where an action leads, and then the guard

@@ -6,17 +6,19 @@ use Rattle.dd_nodes.specs.Subfunctions.{DependsOnly, Function}
 use Rattle.dd_ops.specs.Operations.{and_of, or_of}
 use Rattle.dd_sets.specs.Rooms.{Small}
 use Rattle.encode_task.specs.TaskSets.{exec_set, space_set}
+use Rattle.encode_task.proofs.StateVectors.{own_values}
+use Rattle.preimage.proofs.Leads.{strong_agrees}
 use Rattle.preimage.proofs.SizeLemmas.{every_fits}
 use Rattle.preimage.specs.WorkingSets.{IsMadeByRound, first_every, hits_at, some_below}
 use Rattle.preimage.specs.WorkingSets.IsMadeByRound.{hit, itself, joined, part}
 use Rattle.plan_theory.specs.Layers.{must_lead}
+use Rattle.plan_theory.specs.SetWords.{anywhere}
 use Rattle.task_core.specs.Actions.{after_value}
 use Rattle.task_core.specs.Cubes.{SetOfVectors}
 use Rattle.task_core.specs.Systems.{IsVector, System}
 use Rattle.task_core.specs.Tasks.{action_count, fluent_count, outcomes_at}
 use Rattle.task_core.specs.Vectors.{Vector, value_of}
 use Rattle.task_core.specs.declared.actions.Outcome.{Outcome}
-use Rattle.patrol_plan.specs.Guards.{anywhere}
 use Rattle.patrol_plan.specs.Rounds.{turn_by}
 use Rattle.patrol_plan.specs.Scenes.{Start, board_of, guarded, sys_in, sys_of}
 use Rattle.patrol_plan.specs.Sizes.{IsSmall, RoundFits}
@@ -25,8 +27,7 @@ use Rattle.patrol_plan.specs.declared.rounds.Way.{Way}
 use Rattle.patrol_plan.specs.declared.rounds.Way.TheVariants.{Growing, Shrinking}
 use Rattle.patrol_plan.proofs.Guards.{must_inside}
 use Rattle.patrol_plan.proofs.RoundSteps.{any_more}
-use Rattle.patrol_plan.proofs.SetSteps.{strong_agrees}
-use Rattle.patrol_plan.proofs.SizeSteps.{own_values, small_states}
+use Rattle.patrol_plan.proofs.SizeSteps.{small_states}
 
 -- a set of states depends on the first values alone
 same_values : (p q : ℕ → Bool) (first n : ℕ) → ((u : ℕ) → first ≤ u → u < first + n → p u ≡ q u) → map p (range_with_len first n) ≡ map q (range_with_len first n)
@@ -62,7 +63,7 @@ module _ (start : Start) (guard set : SetOfVectors)
       ap (λ b. b && hits_at first_every start.task own a (value_of v)) (ap guard (own_values n v is))
       ∙ ap (λ (outcomes : List Outcome). guard v && (exec_set start.task a (value_of v) && list_all (λ o. not (space_set start.task (after_value o (value_of v))) || own (after_value o (value_of v))) outcomes))
       (take_all (length (outcomes_at start.task a)) (outcomes_at start.task a) (omega arith))
-      ∙ ap (λ b. guard v && b) (strong_agrees (board_of start) a own set (function_depends n set) (λ u at. ap set (own_values n u at)) v is)
+      ∙ ap (λ b. guard v && b) (strong_agrees start.task a own set (function_depends n set) (λ u at. ap set (own_values n u at)) v is)
       ∙ sym (must_inside (sys_of start) guard set v a)
 
   below_states : (j : ℕ) (v : Vector) → IsVector sub v → some_below hits j (value_of v) ≡ list_any (must_lead sub set v) (range_with_len 0 j)

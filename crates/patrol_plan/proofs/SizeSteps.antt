@@ -1,11 +1,9 @@
 -- Which sets of a search are small: those that have the states of sets that are, whatever else is
 -- known of them.
-use Rattle.std.proofs.Common.{◌≡◌, ℕ, zero, suc, ◌+◌, ◌<◌, ◌≤◌, ◌⊎◌, Bool, true, false, not, ◌&&◌, ◌||◌, [], ◌∷◌, Contains, length, map, refl, sym, ap, subst, ◌∙◌, inl, inr, ⊎_elim, arith}
+use Rattle.std.proofs.Common.{◌≡◌, ℕ, zero, suc, ◌+◌, ◌<◌, ◌≤◌, ◌⊎◌, Bool, true, false, not, ◌&&◌, ◌||◌, Contains, length, refl, sym, ap, subst, ◌∙◌, inl, inr, ⊎_elim, arith}
 use Rattle.std.specs.List.{list_any, range_with_len}
 use Rattle.std.proofs.Math.Path.{fun_ext}
-use Rattle.std.proofs.lemmas.List.FromFn.{get_or-map-range_with_len, length-map-range_with_len}
-use Rattle.dd_nodes.specs.NodeList.{Values}
-use Rattle.dd_nodes.specs.Subfunctions.{DependsOnly, Function}
+use Rattle.dd_nodes.specs.Subfunctions.{Function}
 use Rattle.dd_ops.specs.Operations.{and_of, minus_of}
 use Rattle.dd_sets.specs.LiveSets.{set_of}
 use Rattle.dd_sets.specs.Rooms.{Rough, Small}
@@ -13,10 +11,12 @@ use Rattle.dd_sets.specs.declared.slots.SetId.{SetId}
 use Rattle.dd_sets.proofs.OperationSizes.{agreeing_sized, difference_rough, meet_rough}
 use Rattle.encode_task.specs.Slots.{exec_slot}
 use Rattle.encode_task.specs.TaskSets.{first_values}
+use Rattle.encode_task.proofs.StateVectors.{at_state, length_first, own_values}
 use Rattle.preimage.proofs.FrameSteps.{exec_holds}
+use Rattle.preimage.proofs.SizeLemmas.{without_first}
 use Rattle.preimage.specs.WorkingSets.{PreimageFits, first_every}
 use Rattle.slot_board.specs.Board as board
-use Rattle.slot_board.specs.Board.{led, set_at}
+use Rattle.slot_board.specs.Board.{Scene, led, set_at}
 use Rattle.slot_board.proofs.BoardSizes.{led_small}
 use Rattle.slot_board.proofs.BoardSlots.{made_at}
 use Rattle.slot_board.specs.declared.board.Outcomes.TheVariants as Outcomes
@@ -30,7 +30,7 @@ use Rattle.task_core.specs.Tasks.{action_count, fluent_count}
 use Rattle.task_core.specs.Vectors.{Vector, value_of}
 use Rattle.patrol_plan.proofs.Guards.{in_system}
 use Rattle.patrol_plan.specs.Rounds.{first_lead, hits_by, turn_by, turns}
-use Rattle.patrol_plan.specs.Scenes.{IsAt, IsGuarded, Moved, SameStates, Scene, Start, board_of, led_inside, rough_places, states_at, sys_in}
+use Rattle.patrol_plan.specs.Scenes.{IsAt, IsGuarded, Moved, SameStates, Start, board_of, led_inside, rough_places, states_at, sys_in}
 use Rattle.patrol_plan.specs.Sizes.{ClimbFits, ClimbsFit, ExecFits, HitFits, IsRough, IsSmall, LeadFits, RoundFits, ShareFits, TurnsFit}
 use Rattle.patrol_plan.specs.Steps.{OnlyHits}
 use Rattle.patrol_plan.specs.WorkingSets.{function_of}
@@ -40,27 +40,8 @@ use Rattle.patrol_plan.proofs.RoundSteps.{turned_more, turns_none}
 use Rattle.patrol_plan.proofs.SceneSteps.{depends_at, leads_same, led_states, low, moved_in, unguarded}
 use Rattle.patrol_plan.proofs.StageLemmas.{more_taken, none_taken}
 
--- the values of a vector
-values_are : (p : ℕ → Bool) (first n : ℕ) (v : Vector) → length v ≡ n → ((g : ℕ) → g < n → p (first + g) ≡ value_of v g) → map p (range_with_len first n) ≡ v
-values_are p first zero [] long same = refl
-values_are p first zero (x ∷ v) long same = absurd (omega arith)
-values_are p first (suc n) [] long same = absurd (omega arith)
-values_are p first (suc n) (x ∷ v) long same =
-    let here : p first ≡ x = ap p (let e : first ≡ first + 0 = omega arith in e) ∙ same 0 (omega arith) in
-    let rest : map p (range_with_len (first + 1) n) ≡ v = values_are p (first + 1) n v (omega arith) (λ g within. ap p (let e : first + 1 + g ≡ first + suc g = omega arith in e) ∙ same (suc g) (omega arith)) in
-    cc
-
-pub own_values : (n : ℕ) (v : Vector) → length v ≡ n → first_values n (value_of v) ≡ v
-own_values n v long = values_are (value_of v) 0 n v long (λ g within. ap (value_of v) (let e : 0 + g ≡ g = omega arith in e))
-
-at_state : (n : ℕ) (f : Function) → DependsOnly 0 n f → (values : Values) → f values ≡ f (value_of (first_values n values))
-at_state n f depends values = depends values (value_of (first_values n values)) (λ u low high. sym (get_or-map-range_with_len values 0 n u u false high (let e : 0 + u ≡ u = omega arith in e)))
-
-state_of : (n : ℕ) (values : Values) → length (first_values n values) ≡ n
-state_of n values = length-map-range_with_len values 0 n
-
 pub function_same : (n : ℕ) (f g : SetOfVectors) → ((v : Vector) → length v ≡ n → f v ≡ g v) → function_of n f ≡ function_of n g
-function_same n f g same = fun_ext (λ values. same (first_values n values) (state_of n values))
+function_same n f g same = fun_ext (λ values. same (first_values n values) (length_first n values))
 
 pub function_at : (start : Start) (x : Scene) → IsGuarded start x → (place : ℕ) → set_at x.0.sets x.1 place ≡ function_of (fluent_count start.task) (states_at x place)
 function_at start x ready place = fun_ext (λ values. at_state (fluent_count start.task) (set_at x.0.sets x.1 place) (depends_at start x (unguarded start x ready) place) values)
@@ -193,16 +174,12 @@ pub turns_fit_at : (way : Way) (start : Start) (set near : SetOfVectors) (k : �
 turns_fit_at way start set near k same fits = round_fits_same start (turns way (sys_in start) set k) near (λ v is. sym (same v is)) (fits k)
 
 -- what is left of a set after the hits of the first actions
-without : (s l : Bool) → (s && not (s && l)) ≡ (s && not l)
-without true l = refl
-without false l = refl
-
 pub rough_left : (start : Start) (set : SetOfVectors) (n : ℕ) → n ≤ action_count start.task → RoundFits start set → IsRough start (λ v. set v && not (list_any (must_lead (sys_in start) set v) (range_with_len 0 n)))
 rough_left start set n few fits =
     let m = fluent_count start.task in
     let sys = sys_in start in
     rough_as m start.width (minus_of (function_of m set) (function_of m (turn_by Shrinking sys set n))) (function_of m (λ v. set v && not (list_any (must_lead sys set v) (range_with_len 0 n))))
-    (λ v is. without (set (first_values m (value_of v))) (list_any (must_lead sys set (first_values m (value_of v))) (range_with_len 0 n)))
+    (λ v is. without_first (set (first_values m (value_of v))) (list_any (must_lead sys set (first_values m (value_of v))) (range_with_len 0 n)))
     (difference_rough m start.width (function_of m set) (function_of m (turn_by Shrinking sys set n)) fits.itself (fits.turned Shrinking n few))
 
 -- rounds in which the new states take their actions

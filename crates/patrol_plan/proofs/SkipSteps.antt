@@ -6,14 +6,16 @@ use Rattle.dd_nodes.specs.Subfunctions.{Function}
 use Rattle.dd_ops.specs.Operations.{and_of, minus_of}
 use Rattle.dd_sets.specs.LiveSets.{nothing, set_of}
 use Rattle.dd_sets.specs.declared.slots.SetId.{SetId}
+use Rattle.dd_sets.proofs.SetLemmas.{inside_to}
 use Rattle.encode_task.specs.Slots.{exec_slot}
 use Rattle.encode_task.specs.TaskSets.{exec_set}
 use Rattle.preimage.proofs.FrameSteps.{exec_holds}
 use Rattle.preimage.specs.Preimages.{every_outcome_in, strong_preimage}
 use Rattle.slot_board.proofs.BoardSlots.{made_at}
-use Rattle.slot_board.specs.Board.{set_at}
-use Rattle.patrol_plan.proofs.SetSteps.{first_is}
+use Rattle.slot_board.specs.Board.{Scene, set_at}
+use Rattle.list_laws.proofs.Booleans.{or_never, or_same}
 use Rattle.list_laws.proofs.Elements.{list_any-witness}
+use Rattle.plan_theory.proofs.FirstActions.{first_is}
 use Rattle.plan_theory.proofs.Weak.{HasOutcome-Exec}
 use Rattle.preimage.proofs.OutcomeLemmas.{strong_leads}
 use Rattle.task_core.proofs.TaskSystem.{exec_executable}
@@ -22,7 +24,7 @@ use Rattle.task_core.specs.Cubes.{SetOfVectors}
 use Rattle.task_core.specs.Systems.{IsVector}
 use Rattle.task_core.specs.Tasks.{action_count, next_states}
 use Rattle.task_core.specs.Vectors.{Vector, value_of}
-use Rattle.patrol_plan.specs.Scenes.{IsGuarded, Moved, Scene, SameStates, Start, WorkedIn, board_of, led_inside, states_at, sys_in, sys_of}
+use Rattle.patrol_plan.specs.Scenes.{IsGuarded, Moved, SameStates, Start, WorkedIn, board_of, led_inside, states_at, sys_in, sys_of}
 use Rattle.patrol_plan.specs.Rounds.{first_lead, hits_by}
 use Rattle.patrol_plan.specs.Steps.{AddsHits, Climbs, HitsAmong, IsSpent, OnlyHits, Shared}
 use Rattle.patrol_plan.specs.declared.rounds.Way.{Way}
@@ -30,6 +32,7 @@ use Rattle.patrol_plan.specs.declared.rounds.Way.TheVariants.{Growing, Shrinking
 use Rattle.patrol_plan.proofs.RoundSteps.{any_more}
 use Rattle.patrol_plan.proofs.SceneSteps.{changed_chain_in, led_states, low, moved_low, moved_other, moved_in, same_length, worked_changed_in}
 use Rattle.patrol_plan.proofs.Guards.{must_inside}
+use Rattle.patrol_plan.proofs.TakerSteps.{never_new}
 
 -- one place was written, or none
 pub same_hits : (start : Start) (x : Scene) → IsGuarded start x → OnlyHits start x x
@@ -82,11 +85,6 @@ adds_among start x a same v is hit =
 pub leads_hits : (start : Start) (x : Scene) (a : ℕ) → IsSpent Growing start (states_at x 1) a → HitsAmong Growing start x a
 leads_hits start x a among v is hit = among (states_at x 0) v is hit
 
-or_same : (x y : Bool) → (y ≡ true → x ≡ true) → x ≡ (x || y)
-or_same true y up = refl
-or_same false true up = up refl
-or_same false false up = refl
-
 pub adds_same : (way : Way) (start : Start) (x y : Scene) (a : ℕ) → OnlyHits start x y → HitsAmong way start x a → AddsHits way start x y a
 adds_same way start x y a h among = record {
   worked = hits_worked start x y h;
@@ -134,23 +132,11 @@ module _ (start : Start) (x w y : Scene) (takers a : ℕ) (high : 8 ≤ takers) 
     later = λ b within from. place_kept (takers + b) (omega arith) (omega arith) ∙ climbs.later b within from;
   }
 
-  -- where the action leads from states that are joined already, it has none that are new
-  never : (r s t : Bool) → (t ≡ true → (r || s) ≡ true) → false ≡ (not r && (t && not s))
-  never true s t up = refl
-  never false true true up = refl
-  never false true false up = refl
-  never false false true up = up refl
-  never false false false up = refl
-
   joined : (r s t : Bool) → (t ≡ true → (r || s) ≡ true) → (r || s) ≡ (r || (s || t))
   joined true s t up = refl
   joined false true t up = refl
   joined false false true up = up refl
   joined false false false up = refl
-
-  or_never : (b c : Bool) → false ≡ c → b ≡ (b || c)
-  or_never true c e = refl
-  or_never false c e = e
 
   pub climbs_same : a < action_count start.task → ((v : Vector) → IsVector (sys_in start) v → must_lead (sys_in start) (states_at x 0) v a ≡ true → states_at w 1 v ≡ true) → Climbs start x y takers (a + 1)
   climbs_same below among =
@@ -159,7 +145,7 @@ module _ (start : Start) (x w y : Scene) (takers a : ℕ) (high : 8 ≤ takers) 
       λ v is leads. sym (climbs.next v is) ∙ among v is leads in
       let none : (v : Vector) → IsVector (sys_in start) v → false ≡ first_lead (sys_in start) (states_at x 0) (λ u. not (states_at x 0 u)) a v =
       λ v is.
-      never (states_at x 0 v) (list_any (p v) (range_with_len 0 a)) (p v a) (up v is)
+      never_new (states_at x 0 v) (list_any (p v) (range_with_len 0 a)) (p v a) (up v is)
       ∙ ap (λ b. not (states_at x 0 v) && b) (first_is (p v) (action_count start.task) a below) in
       record {
         changed = climbs_after.changed;
@@ -178,19 +164,13 @@ module _ (start : Start) (x w y : Scene) (takers a : ℕ) (high : 8 ≤ takers) 
         later = λ b within from. climbs_after.later b within (omega arith);
       }
 
-minus_none : (x y : Bool) → (x && not y) ≡ false → x ≡ true → y ≡ true
-minus_none true true e h = refl
-minus_none true false e h = sym e
-minus_none false true e h = refl
-minus_none false false e h = h
-
 -- where an action leads from no new states, none takes it
 pub climbs_none_new : (start : Start) (x w one two : Scene) (takers a : ℕ) → 8 ≤ takers → takers + action_count start.task ≤ length w.1 → a < action_count start.task → Climbs start x w takers a → Moved start w one 2 (led_inside start w a)
     → Moved start one two 4 (minus_of (set_at one.0.sets one.1 2) (set_at one.0.sets one.1 1)) → set_at two.0.sets two.1 4 ≡ nothing → Climbs start x two takers (a + 1)
 climbs_none_new start x w one two takers a high fits below h first second none =
     climbs_same start x w two takers a high fits h (moved_hits start w one two _ _ h.changed.ready first second) below
     (λ v is leads.
-    minus_none (states_at one 2 v) (states_at w 1 v)
+    inside_to (states_at one 2 v) (states_at w 1 v)
     (ap (λ (g : SetOfVectors). states_at one 2 v && not (g v)) (sym (moved_low start w one 2 _ first 1 (omega arith) (λ e. absurd (omega arith))))
     ∙ ap (λ (g : Function). g (value_of v)) (sym second.here ∙ none))
     (led_states start w one a h.changed.ready first v is ∙ ap (λ (f : SetOfVectors). must_lead (sys_in start) f v a) h.near ∙ leads))
@@ -211,10 +191,6 @@ module _ (start : Start) (x w : Scene) (takers a : ℕ) (below : a < action_coun
   no_first true false t e = absurd (true≢false e)
   no_first false s t e = refl
 
-  or_no : (b c : Bool) → false ≡ c → b ≡ (b || c)
-  or_no true c e = refl
-  or_no false c e = e
-
   pub shared_same : Shared start x w takers (a + 1)
   shared_same =
       let p = λ (v : Vector). must_lead (sys_in start) (states_at x 0) v in
@@ -232,7 +208,7 @@ module _ (start : Start) (x w : Scene) (takers a : ℕ) (below : a < action_coun
             subst (λ k. SameStates start (states_at w (takers + k)) (λ v. states_at x (takers + k) v || first_lead (sys_in start) (states_at x 0) (states_at x 3) k v)) (sym same)
             (λ v is.
             ap (λ (f : _). f v) (h.later a below (omega arith))
-            ∙ or_no (states_at x (takers + a) v) (first_lead (sys_in start) (states_at x 0) (states_at x 3) a v)
+            ∙ or_never (states_at x (takers + a) v) (first_lead (sys_in start) (states_at x 0) (states_at x 3) a v)
             (no_first (states_at x 3 v) (list_any (p v) (range_with_len 0 a)) (p v a) (rest_none v is)
             ∙ ap (λ b. states_at x 3 v && b) (first_is (p v) (action_count start.task) a below))))
             (λ (differs : b ≢ a). h.taken b within (omega (arith, differs)))

@@ -11,7 +11,8 @@ use Rattle.task_core.specs.Systems.{IsVector}
 use Rattle.task_core.specs.Tasks.{action_count}
 use Rattle.task_core.specs.Vectors.{Vector}
 use Rattle.plan_theory.specs.Layers.{must_lead}
-use Rattle.patrol_plan.specs.Scenes.{IsAt, Left, Scene, Start, states_at, sys_in}
+use Rattle.slot_board.specs.Board.{Scene}
+use Rattle.patrol_plan.specs.Scenes.{IsAt, Left, Start, states_at, sys_in}
 use Rattle.patrol_plan.specs.Steps.{AddsHits, AreSpent, IsSpent, Leads, OnlyHits}
 use Rattle.patrol_plan.specs.declared.rounds.Way.{Way}
 use Rattle.patrol_plan.specs.declared.rounds.Way.TheVariants.{Growing, Shrinking}

@@ -4,10 +4,11 @@ use Rattle.std.proofs.Common.{◌≡◌, ℕ, zero, suc, ◌+◌, ◌^◌, Bool,
 use Rattle.std.specs.List.{find, range_with_len}
 use Rattle.std.specs.Option.{option_and_then}
 use Rattle.std.proofs.Math.Path.{fun_ext}
-use Rattle.std.proofs.lemmas.Bool.{or_left, true≢false}
+use Rattle.std.proofs.lemmas.Bool.{or_left, or_parts, true≢false}
 use Rattle.plan_theory.specs.Safe.{some_must_lead}
 use Rattle.plan_theory.specs.StageSets.{action_at_rank, near, stage_action, stage_rank, stage_set}
 use Rattle.plan_theory.proofs.StageSets.{action-next, no_action-met}
+use Rattle.list_laws.proofs.Booleans.{and_false, or_false}
 use Rattle.list_laws.proofs.Elements.{find-None}
 use Rattle.plan_theory.specs.Layers.{action_numbers, must_lead}
 use Rattle.plan_theory.specs.LayerPlans.{is_action}
@@ -42,19 +43,11 @@ stage_action_same start f g same v is =
     ∙ ap (λ (p : ℕ → Bool). option_and_then (action_at_rank (sys_in start) g v) (find p (range_with_len 0 (2 ^ (sys_in start).fluents + 1)))) (fun_ext (λ k. near_same start f g same k v is))
 
 -- what is taken up to k steps, and by one more
-and_none : (b : Bool) → (b && false) ≡ false
-and_none true = refl
-and_none false = refl
-
-or_none : (b : Bool) → (b || false) ≡ b
-or_none true = refl
-or_none false = refl
-
 pub none_taken : (sys : System) (met : SetOfVectors) (v : Vector) (a : ℕ) (b : Bool) → b ≡ (b || (near sys met 0 v && is_action a (stage_action sys met v)))
-none_taken sys met v a b = sym (ap (λ c. b || c) (go (met v) refl) ∙ or_none b)
+none_taken sys met v a b = sym (ap (λ c. b || c) (go (met v) refl) ∙ or_false b)
   where
     go : (m : Bool) → met v ≡ m → (met v && is_action a (stage_action sys met v)) ≡ false
-    go true e = ap (λ o. met v && is_action a o) (no_action-met sys met v e) ∙ and_none (met v)
+    go true e = ap (λ o. met v && is_action a o) (no_action-met sys met v e) ∙ and_false (met v)
     go false e = ap (λ c. c && is_action a (stage_action sys met v)) e
 
 -- no action leads into a set where none is the first
@@ -75,16 +68,12 @@ more_taken sys met v a k b ok is = go (near sys met k v) (near sys met (suc k) v
     put : (n m : Bool) → near sys met k v ≡ n → near sys met (suc k) v ≡ m → ((b || (n && i)) || (not n && j)) ≡ (b || (m && i)) → ((b || (near sys met k v && i)) || (not (near sys met k v) && j)) ≡ (b || (near sys met (suc k) v && i))
     put n m e f h = ap (λ x. (b || (x && i)) || (not x && j)) e ∙ h ∙ ap (λ x. b || (x && i)) (sym f)
 
-    or_false : (x y : Bool) → (x || y) ≡ false → y ≡ false
-    or_false true y e = absurd (true≢false e)
-    or_false false y e = e
-
     go : (n m : Bool) → near sys met k v ≡ n → near sys met (suc k) v ≡ m → ((b || (near sys met k v && i)) || (not (near sys met k v) && j)) ≡ (b || (near sys met (suc k) v && i))
-    go true true e f = put true true e f (or_none (b || i))
+    go true true e f = put true true e f (or_false (b || i))
     go true false e f = absurd (true≢false (sym (or_left (near sys met k v) _ e) ∙ f))
     go false false e f =
         put false false e f
-        (ap (λ x. (b || false) || x) (no_first sys (near sys met k) v a (or_false (near sys met k v) _ f)) ∙ or_none (b || false))
+        (ap (λ x. (b || false) || x) (no_first sys (near sys met k) v a (or_parts (near sys met k v) _ f).1) ∙ or_false (b || false))
     go false true e f =
         put false true e f
-        (ap (λ x. x || j) (or_none b) ∙ ap (λ o. b || is_action a o) (sym (action-next sys met ok k v is f e)))
+        (ap (λ x. x || j) (or_false b) ∙ ap (λ o. b || is_action a o) (sym (action-next sys met ok k v is f e)))

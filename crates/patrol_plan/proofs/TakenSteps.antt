@@ -2,6 +2,7 @@
 use Rattle.std.proofs.Common.{◌≡◌, ◌≢◌, ℕ, suc, ◌+◌, ◌*◌, ◌<◌, ◌≤◌, true, false, ◌&&◌, ◌||◌, List, [], ◌∷◌, drop, length, sym, ap, subst, ◌∙◌, inl, inr, ◌⊎◌, ⊎_elim, arith, mul-le-mul_right, slice_index_or}
 use Rattle.std.proofs.lemmas.Bool.{cases_eq, cases_lt}
 use Rattle.std.specs.List.{find}
+use Rattle.plan_theory.specs.SetWords.{anywhere}
 use Rattle.plan_theory.specs.UntilChains.{SetStage, UntilSets, covers_until, until_met, until_win}
 use Rattle.plan_theory.specs.Safe.{safe_set}
 use Rattle.plan_theory.specs.GuardedSets.{guarded_set}
@@ -10,9 +11,9 @@ use Rattle.plan_theory.specs.Layers.{action_numbers, must_lead}
 use Rattle.plan_theory.specs.LayerPlans.{is_action}
 use Rattle.task_core.specs.Cubes.{SetOfVectors}
 use Rattle.task_core.specs.Tasks.{action_count}
-use Rattle.patrol_plan.specs.Scenes.{Changed, ChangedIn, IsAt, Moved, SameStates, Scene, Start, guarded, met_place, states_at, sys_in, sys_of, takers_place, win_place}
+use Rattle.slot_board.specs.Board.{Scene}
+use Rattle.patrol_plan.specs.Scenes.{Changed, ChangedIn, IsAt, Moved, SameStates, Start, guarded, met_place, states_at, sys_in, sys_of, takers_place, win_place}
 use Rattle.patrol_plan.specs.Chains.{until_sets}
-use Rattle.patrol_plan.specs.Guards.{anywhere}
 use Rattle.ctl_syntax.specs.Conditions.{states_of}
 use Rattle.ctl_syntax.specs.GoalValues.{stage_sets}
 use Rattle.ctl_syntax.specs.declared.context_goals.UntilChain.{UntilChain}

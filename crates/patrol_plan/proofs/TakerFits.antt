@@ -3,13 +3,13 @@ use Rattle.std.proofs.Common.{◌≡◌, ℕ, ◌+◌, ◌<◌, ◌≤◌, not, 
 use Rattle.std.specs.List.{list_any, range_with_len}
 use Rattle.dd_ops.specs.Operations.{and_of, minus_of, or_of}
 use Rattle.slot_board.specs.Board as board
-use Rattle.slot_board.specs.Board.{set_at}
+use Rattle.slot_board.specs.Board.{Scene, set_at}
 use Rattle.slot_board.specs.declared.board.Outcomes.TheVariants as Outcomes
 use Rattle.slot_board.proofs.BoardSlots.{made_at}
 use Rattle.plan_theory.specs.Layers.{must_lead}
 use Rattle.task_core.specs.Tasks.{action_count}
 use Rattle.patrol_plan.specs.Rounds.{first_lead, turn_by}
-use Rattle.patrol_plan.specs.Scenes.{IsAt, IsGuarded, Moved, Scene, Start, board_of, led_inside, states_at, sys_in}
+use Rattle.patrol_plan.specs.Scenes.{IsAt, IsGuarded, Moved, Start, board_of, led_inside, states_at, sys_in}
 use Rattle.patrol_plan.specs.Sizes.{ClimbFits, ShareFits}
 use Rattle.patrol_plan.specs.Steps.{Climbs, Shared}
 use Rattle.patrol_plan.specs.declared.rounds.Way.TheVariants.{Growing}

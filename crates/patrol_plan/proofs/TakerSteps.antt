@@ -2,14 +2,15 @@
 use Rattle.std.proofs.Common.{◌≡◌, ◌≢◌, ℕ, ◌+◌, ◌<◌, ◌≤◌, Bool, true, false, not, ◌&&◌, ◌||◌, length, refl, sym, ap, subst, ◌∙◌, ⊎_elim, arith}
 use Rattle.std.specs.List.{list_any, range_with_len}
 use Rattle.std.proofs.lemmas.Bool.{cases_eq}
+use Rattle.list_laws.proofs.Booleans.{and_one, or_assoc, or_none}
 use Rattle.dd_ops.specs.Operations.{and_of, minus_of, or_of}
-use Rattle.slot_board.specs.Board.{set_at}
-use Rattle.patrol_plan.proofs.SetSteps.{first_is}
+use Rattle.slot_board.specs.Board.{Scene, set_at}
 use Rattle.plan_theory.specs.StageSets.{near}
 use Rattle.plan_theory.specs.Layers.{must_lead}
+use Rattle.plan_theory.proofs.FirstActions.{first_is}
 use Rattle.task_core.specs.Cubes.{SetOfVectors}
 use Rattle.task_core.specs.Tasks.{action_count}
-use Rattle.patrol_plan.specs.Scenes.{IsGuarded, Moved, SameStates, Scene, Start, led_inside, states_at, sys_in}
+use Rattle.patrol_plan.specs.Scenes.{IsGuarded, Moved, SameStates, Start, led_inside, states_at, sys_in}
 use Rattle.patrol_plan.specs.Rounds.{first_lead, turn_by}
 use Rattle.patrol_plan.specs.Steps.{Climbs, FirstTaken, Shared}
 use Rattle.patrol_plan.specs.declared.rounds.Way.TheVariants.{Growing}
@@ -22,14 +23,10 @@ shared_none start x takers ready = record {
   changed = record { ready = ready; kept = λ k high within out. refl };
   near = refl;
   next = refl;
-  rest = λ v is. and_true (states_at x 3 v);
+  rest = λ v is. and_one (states_at x 3 v);
   taken = λ a within below. absurd (omega arith);
   later = λ a within from. refl;
 }
-  where
-    and_true : (b : Bool) → b ≡ (b && true)
-    and_true true = refl
-    and_true false = refl
 
 turned : (r s t : Bool) → ((r && not s) && t) ≡ (r && (t && not s))
 turned true true true = refl
@@ -171,19 +168,18 @@ climbs_none start x y takers high fits ready m =
       taken = λ a within below. absurd (omega arith);
       later = λ a within from. moved_other start x y 1 _ m (takers + a) (omega arith) (λ e. absurd (omega arith));
     }
-  where
-    or_none : (b : Bool) → b ≡ (b || false)
-    or_none true = refl
-    or_none false = refl
+
+-- where the action leads from states that are joined already, it has none that are new
+pub never_new : (n s t : Bool) → (t ≡ true → (n || s) ≡ true) → false ≡ (not n && (t && not s))
+never_new true s t up = refl
+never_new false s false up = refl
+never_new false true true up = refl
+never_new false false true up = up refl
 
 new_ones : (r s t : Bool) → (t && not (r || s)) ≡ (not r && (t && not s))
 new_ones true s true = refl
 new_ones true s false = refl
 new_ones false s t = refl
-
-joined : (r s t : Bool) → ((r || s) || t) ≡ (r || (s || t))
-joined true s t = refl
-joined false s t = refl
 
 -- one action more: the states that are found, step by step
 module _ (start : Start) (x w one : Scene) (takers a : ℕ) (high : 8 ≤ takers) (fits : takers + action_count start.task ≤ length w.1) (below : a < action_count start.task) (h : Climbs start x w takers a)
@@ -224,7 +220,7 @@ module _ (start : Start) (x w one : Scene) (takers a : ℕ) (high : 8 ≤ takers
           ∙ moved_low start one two 4 _ second 2 (omega arith) (λ e. absurd (omega arith)))
           ∙ ap (λ b. states_at w 1 v || b) (climb_hit v is)
           ∙ ap (λ b. b || must_lead (sys_in start) (states_at x 0) v a) (h.next v is)
-          ∙ joined (states_at x 0 v) (list_any (must_lead (sys_in start) (states_at x 0) v) (range_with_len 0 a)) (must_lead (sys_in start) (states_at x 0) v a)
+          ∙ or_assoc (states_at x 0 v) (list_any (must_lead (sys_in start) (states_at x 0) v) (range_with_len 0 a)) (must_lead (sys_in start) (states_at x 0) v a)
           ∙ ap (λ b. states_at x 0 v || b) (any_more (must_lead (sys_in start) (states_at x 0) v) a)
 
 -- and then

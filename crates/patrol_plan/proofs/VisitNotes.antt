@@ -4,7 +4,7 @@ use Rattle.std.specs.Prelude.{false}
 use Rattle.std.specs.declared.alloc.Global.{Global}
 use Rattle.std.proofs.lemmas.Bool.{cases_eq}
 use Rattle.dd_sets.specs.declared.errors.SetErr.{SetErr}
-use Rattle.slot_board.specs.Board.{Ends, set_at}
+use Rattle.slot_board.specs.Board.{Ends, Scene, set_at}
 use Rattle.slot_board.specs.declared.steps.Step.{Step}
 use Rattle.plan_theory.specs.Patrols.{covers_patrol, patrol_set}
 use Rattle.task_core.specs.declared.conditions.Cond.{Cond}
@@ -13,7 +13,7 @@ use Rattle.patrol_plan.specs.Noted.{AreStepsFrom, FoundNotes, NotedLast, NotedVi
 use Rattle.patrol_plan.specs.PatrolSizes.{made_in, round_of, within_round}
 use Rattle.patrol_plan.specs.PatrolSteps.{HasPatrol, HasVisits, made_at_last, visit_place}
 use Rattle.patrol_plan.specs.PatrolWorkingSets.{visit_at}
-use Rattle.patrol_plan.specs.Scenes.{IsAt, SameStates, Scene, Start, board_of, guarded, states_at, sys_of}
+use Rattle.patrol_plan.specs.Scenes.{IsAt, SameStates, Start, board_of, guarded, states_at, sys_of}
 use Rattle.patrol_plan.proofs.HandedSteps.{steps_also, steps_before, steps_last}
 use Rattle.patrol_plan.proofs.VisitSteps.{round_stays, visited_same}
 

@@ -3,15 +3,18 @@ use Rattle.std.proofs.Common.{◌≡◌, ◌≢◌, ℕ, suc, ◌+◌, ◌-◌, 
 use Rattle.std.specs.List.{flat_map, range_with_len}
 use Rattle.std.proofs.lemmas.Bool.{cond-false, cond-true, eq-eqb, ne_eqb}
 use Rattle.std.proofs.lemmas.List.{append-nil, append_assoc, length-map}
+use Rattle.list_laws.proofs.Booleans.{and_one}
 use Rattle.dd_nodes.specs.Subfunctions.{Function}
 use Rattle.dd_ops.specs.Operations.{and_of, minus_of}
+use Rattle.encode_task.proofs.StateVectors.{cubes_agree}
 use Rattle.slot_board.specs.Board as board
-use Rattle.slot_board.specs.Board.{set_at}
+use Rattle.slot_board.specs.Board.{Scene, set_at}
 use Rattle.plan_theory.proofs.PatrolSets.{made_where_held}
 use Rattle.plan_theory.specs.ContextRules.{action_rules, rules_in_context}
 use Rattle.plan_theory.specs.LayerPlans.{is_action}
 use Rattle.plan_theory.specs.Patrols.{patrol_set}
 use Rattle.plan_theory.specs.PatrolPrinted.{context_after, patrol_action, patrol_next, patrol_nexts, patrol_rules, patrol_states, visit_in}
+use Rattle.plan_theory.specs.SetWords.{rule_for, rules_for}
 use Rattle.plan_rules.specs.Rules.{ContextRule}
 use Rattle.task_core.specs.Cubes.{SetOfVectors}
 use Rattle.task_core.specs.Tasks.{action_count, fluent_count}
@@ -20,18 +23,16 @@ use Rattle.task_core.specs.declared.conditions.Cond.{Cond}
 use Rattle.task_core.proofs.TaskSystem.{is_system}
 use Rattle.ctl_syntax.specs.Conditions.{states_of}
 use Rattle.patrol_plan.specs.Chains.{visit_sets}
-use Rattle.patrol_plan.specs.Listing.{rule_for, rules_for}
 use Rattle.patrol_plan.specs.PatrolSteps.{GoesOn, HasPatrolTable, ListsPatrol, PutsPart, is_in, visit_place, visit_takers}
 use Rattle.patrol_plan.specs.PatrolWorkingSets.{visit_at}
-use Rattle.patrol_plan.specs.Scenes.{Moved, SameStates, Scene, Start, board_of, guarded, states_at, sys_of, takers_place}
+use Rattle.patrol_plan.specs.Scenes.{Moved, SameStates, Start, board_of, guarded, states_at, sys_of, takers_place}
 use Rattle.patrol_plan.specs.declared.patrol_rules.Part.{Part}
 use Rattle.patrol_plan.specs.declared.patrol_rules.Part.TheVariants.{Made, Others, Whole}
 use Rattle.patrol_plan.proofs.RuleSteps.{flat_more}
 use Rattle.patrol_plan.proofs.SceneSteps.{copied_states, met_states, moved_in, moved_other, rest_states, same_length}
-use Rattle.patrol_plan.proofs.SetSteps.{cubes_agree}
 use Rattle.patrol_plan.proofs.SizeSteps.{fits_meet, fits_minus, may_two, placed_small}
 use Rattle.patrol_plan.proofs.TakenSteps.{takers_within}
-use Rattle.patrol_plan.proofs.VisitSteps.{visit_low}
+use Rattle.patrol_plan.proofs.VisitSteps.{and_last, visit_low}
 
 -- what stands beside the hits stays
 pub table_still : (start : Start) (conds : List Cond) (x y : Scene) (g : Function) → HasPatrolTable start conds x → Moved start x y 2 g → HasPatrolTable start conds y
@@ -100,10 +101,6 @@ module _ (start : Start) (conds : List Cond) (x : Scene) (i a : ℕ) (less : i <
       ∙ made_where_held (sys_of start) (is_system start.task) visits (let e = length-map conds states_of in let c = h.patrol.count in let s = h.patrol.some in omega arith) (visit_at visits i) v is
       ∙ ap (λ k. patrol_set (sys_of start) visits v && get_or visits k (λ u. false) v) (let e : i ≡ suc i - 1 = omega arith in e)
 
-  and_true : (b : Bool) → b ≡ (b && true)
-  and_true true = refl
-  and_true false = refl
-
   both : (p q r : Bool) → ((p && q) && (p && r)) ≡ ((p && q) && r)
   both true q r = refl
   both false q r = refl
@@ -115,7 +112,7 @@ module _ (start : Start) (conds : List Cond) (x : Scene) (i a : ℕ) (less : i <
   pub puts_whole : (y : Scene) → Moved start x y 2 (set_at x.0.sets x.1 (t + a)) → PutsPart Whole start conds y i a
   puts_whole y m = record {
     table = table_still start conds x y _ h m;
-    states = λ v is. ap (λ (f : SetOfVectors). f v) (copied_states start x y 2 (t + a) m) ∙ takers_are v is ∙ and_true (visit_takers start conds i a v);
+    states = λ v is. ap (λ (f : SetOfVectors). f v) (copied_states start x y 2 (t + a) m) ∙ takers_are v is ∙ and_one (visit_takers start conds i a v);
   }
 
   pub puts_made : (y : Scene) → Moved start x y 2 (and_of (set_at x.0.sets x.1 (t + a)) (set_at x.0.sets x.1 (visit_place i))) → PutsPart Made start conds y i a
@@ -153,16 +150,9 @@ taken_listed start conds y part before after i a context next is_context goes h 
           (cubes_agree (fluent_count start.task) 0 (states_at y 2) (patrol_states sys visits (suc i) next a)
           (λ v is.
           h.states v is
-          ∙ turned (patrol_set sys visits v) (is_action a (patrol_action sys visits (suc i) v)) (is_in part (visit_in visits (suc i) v))
+          ∙ and_last (patrol_set sys visits v) (is_action a (patrol_action sys visits (suc i) v)) (is_in part (visit_in visits (suc i) v))
           ∙ ap (λ b. patrol_set sys visits v && (b && is_action a (patrol_action sys visits (suc i) v))) (sym (goes v))));
     }
-  where
-    turned : (p q r : Bool) → ((p && q) && r) ≡ (p && (r && q))
-    turned true true true = refl
-    turned true true false = refl
-    turned true false true = refl
-    turned true false false = refl
-    turned false q r = refl
 
 -- one more rule list, and another
 pub lists_none : (start : Start) (conds : List Cond) (x : Scene) (rules : List ContextRule) (f : ℕ → List ContextRule) (k : ℕ) → HasPatrolTable start conds x → ListsPatrol start conds x rules rules (flat_map f (range_with_len k 0))

@@ -2,6 +2,7 @@
 -- them, and the last round.
 use Rattle.std.proofs.Common.{inr, ◌≡◌, ◌≢◌, ℕ, zero, suc, ◌+◌, ◌<◌, ◌≤◌, Bool, true, false, ◌&&◌, List, [], ◌∷◌, get_or, length, map, take, refl, sym, ap, subst, ◌∙◌, ⊎_elim, arith}
 use Rattle.std.specs.List.{list_all}
+use Rattle.std.proofs.Math.Bool.{and_self_left}
 use Rattle.std.proofs.lemmas.Bool.{and_parts, cases_Bool, cases_eq, true≢false}
 use Rattle.std.proofs.lemmas.List.{length-map, take_all}
 use Rattle.dd_nodes.specs.Subfunctions.{Function}
@@ -9,15 +10,18 @@ use Rattle.dd_ops.specs.Operations.{and_of}
 use Rattle.dd_sets.specs.LiveSets.{set_of}
 use Rattle.dd_sets.specs.declared.slots.SetId.{SetId}
 use Rattle.encode_task.specs.Slots.{Encoded}
+use Rattle.encode_task.proofs.StateVectors.{same_functions}
 use Rattle.slot_board.proofs.BoardSlots.{made_at}
 use Rattle.slot_board.specs.Board as board
-use Rattle.slot_board.specs.Board.{set_at}
-use Rattle.plan_theory.proofs.Cubes.{all_vectors-agree, all_vectors-length}
+use Rattle.slot_board.specs.Board.{Scene, set_at}
+use Rattle.plan_theory.proofs.FewerStates.{fewer}
 use Rattle.plan_theory.proofs.PatrolSets.{last_round, patrol_set-largest, within_rounds}
+use Rattle.list_laws.proofs.Booleans.{and_assoc, and_one}
 use Rattle.list_laws.proofs.Elements.{list_all-at, list_all-from}
-use Rattle.plan_theory.proofs.RoundSteps.{held, holds_fewer}
+use Rattle.plan_theory.proofs.RoundSteps.{held}
 use Rattle.plan_theory.specs.Patrols.{covers_patrol, patrol_set, visit_set, visited}
 use Rattle.plan_theory.specs.Safe.{some_must_lead}
+use Rattle.plan_theory.specs.SetWords.{anywhere}
 use Rattle.plan_theory.specs.StageSets.{near}
 use Rattle.task_core.specs.Conditions.{holds}
 use Rattle.task_core.specs.Cubes.{SetOfVectors}
@@ -28,11 +32,10 @@ use Rattle.task_core.specs.declared.conditions.Cond.{Cond}
 use Rattle.task_core.proofs.TaskSystem.{is_system}
 use Rattle.ctl_syntax.specs.Conditions.{states_of}
 use Rattle.patrol_plan.specs.Chains.{visit_sets}
-use Rattle.patrol_plan.specs.Guards.{anywhere}
 use Rattle.patrol_plan.specs.PatrolSizes.{PatrolFits, made_in, round_of, within_round}
 use Rattle.patrol_plan.specs.PatrolSteps.{HasMet, HasPatrol, HasStay, HasVisits, IsLeft, visit_place}
 use Rattle.patrol_plan.specs.PatrolWorkingSets.{first_visits_in, visit_at}
-use Rattle.patrol_plan.specs.Scenes.{HasNothing, IsAt, IsGuarded, Moved, SameStates, Scene, Start, board_of, guarded, states_at, sys_in, sys_of, takers_place}
+use Rattle.patrol_plan.specs.Scenes.{HasNothing, IsAt, IsGuarded, Moved, SameStates, Start, board_of, guarded, states_at, sys_in, sys_of, takers_place}
 use Rattle.patrol_plan.specs.Sizes.{RoundFits, TurnsFit}
 use Rattle.patrol_plan.specs.Steps.{HasLast, TurnedFrom}
 use Rattle.patrol_plan.specs.declared.rounds.Way.TheVariants.{Growing, Shrinking}
@@ -41,7 +44,6 @@ use Rattle.patrol_plan.proofs.GuardSteps.{set_as}
 use Rattle.patrol_plan.proofs.PlanSteps.{blank}
 use Rattle.patrol_plan.proofs.RoundSteps.{turn_same}
 use Rattle.patrol_plan.proofs.SceneSteps.{copied_states, depends_at, guard_put_as, long_enough, met_states, moved_here, moved_in, moved_other, moved_ready, same_back, same_length, some_leads_same, unguarded}
-use Rattle.patrol_plan.proofs.SetSteps.{same_functions}
 use Rattle.patrol_plan.proofs.SizeSteps.{placed_small, fits_small, round_fits_same, turns_fit_first}
 use Rattle.patrol_plan.proofs.StageLemmas.{near_same}
 use Rattle.patrol_plan.proofs.TakenSteps.{takers_within}
@@ -50,32 +52,16 @@ use Rattle.patrol_plan.proofs.WinSteps.{space_holds}
 -- the first of some lists
 pub all_more : {X : Type 0} (f : X → Bool) (xs : List X) (i : ℕ) (other : X) → i < length xs → (list_all f (take i xs) && f (get_or xs i other)) ≡ list_all f (take (suc i) xs)
 all_more f [] i other less = absurd (omega arith)
-all_more f (x ∷ xs) zero other less = and_true (f x)
-  where
-    and_true : (b : Bool) → (true && b) ≡ (b && true)
-    and_true true = refl
-    and_true false = refl
+all_more f (x ∷ xs) zero other less = and_one (f x)
 all_more f (x ∷ xs) (suc i) other less =
-    assoc (f x) (list_all f (take i xs)) (f (get_or xs i other)) ∙ ap (λ b. f x && b) (all_more f xs i other (omega arith))
-  where
-    assoc : (a b c : Bool) → ((a && b) && c) ≡ (a && (b && c))
-    assoc true b c = refl
-    assoc false b c = refl
+    and_assoc (f x) (list_all f (take i xs)) (f (get_or xs i other)) ∙ ap (λ b. f x && b) (all_more f xs i other (omega arith))
 
 pub get_map : {X Y : Type 0} (f : X → Y) (xs : List X) (i : ℕ) (other : X) (d : Y) → i < length xs → get_or (map f xs) i d ≡ f (get_or xs i other)
 get_map f [] i other d less = absurd (omega arith)
 get_map f (x ∷ xs) zero other d less = refl
 get_map f (x ∷ xs) (suc i) other d less = get_map f xs i other d (omega arith)
 
-and_true : (b : Bool) → b ≡ (b && true)
-and_true true = refl
-and_true false = refl
-
-and_twice : (a b : Bool) → (a && (a && b)) ≡ (a && b)
-and_twice true b = refl
-and_twice false b = refl
-
-and_last : (a b c : Bool) → ((a && b) && c) ≡ (a && (c && b))
+pub and_last : (a b c : Bool) → ((a && b) && c) ≡ (a && (c && b))
 and_last true true c = go c
   where
     go : (c : Bool) → c ≡ (c && true)
@@ -87,10 +73,6 @@ and_last true false c = go c
     go true = refl
     go false = refl
 and_last false b c = refl
-
-and_three : (a b c : Bool) → ((a && b) && c) ≡ (a && (b && c))
-and_three true b c = refl
-and_three false b c = refl
 
 -- from which states one can stay in a set, by its states
 pub some_same : (start : Start) (f g : SetOfVectors) → SameStates start f g → SameStates start (some_must_lead (sys_of start) f) (some_must_lead (sys_of start) g)
@@ -149,7 +131,7 @@ module _ (start : Start) (conds : List Cond) (x m : Scene) (r : ℕ) (h : IsLeft
             ∙ turned.next v is
             ∙ turn_same Shrinking inside (states_at m 8) set stay_left v is
             ∙ ap (λ b. set v && b) (some_inside sys set set v)
-            ∙ and_twice (set v) (some_must_lead sys set v);
+            ∙ and_self_left (set v) (some_must_lead sys set v);
       }
 
 -- the visit of a condition
@@ -232,7 +214,7 @@ module _ (start : Start) (conds : List Cond) (m t : Scene) (r i : ℕ) (less : i
       ap (λ (f : SetOfVectors). f v && states_at t 0 v) (keep_low 10 (omega arith) (omega arith))
       ∙ ap (λ b. b && states_at t 0 v) (h.visits.kept v is)
       ∙ ap (λ b. first_visits_in sys visits r i v && b) (last.near v is ∙ set_as start set (states_at m (visit_place i)) (made_in start conds r i) h.met v is)
-      ∙ and_three (set v) (list_all each (take i visits)) (each (visit_at visits i))
+      ∙ and_assoc (set v) (list_all each (take i visits)) (each (visit_at visits i))
       ∙ ap (λ b. set v && b) (all_more each visits i (λ v. false) (let e = length-map conds states_of in omega arith))
 
   pub kept_fits : board.Fits (board_of start) 10 (and_of (set_at t.0.sets t.1 10) (set_at t.0.sets t.1 0))
@@ -293,7 +275,7 @@ visits_none start conds x y r h m =
       kept = λ v is.
           ap (λ (f : SetOfVectors). f v) (copied_states start x y 10 8 m)
           ∙ h.left v is
-          ∙ and_true (round_of start conds r v);
+          ∙ and_one (round_of start conds r v);
       mets = λ j before. absurd (omega arith);
     }
 
@@ -338,15 +320,14 @@ pub visits_fewer : (start : Start) (conds : List Cond) (y z : Scene) (r n : ℕ)
 unfolding still_left
 visits_fewer start conds y z r n h more differ is_n =
     let set = round_of start conds r in
-    holds_fewer (states_at y 8) (states_at z 8) (all_vectors n)
-    (λ v c in_z.
-    let is : IsVector (sys_of start) v = all_vectors-length n v c ∙ is_n in
+    fewer n (states_at y 8) (states_at z 8)
+    (λ v long in_z.
+    let is : IsVector (sys_of start) v = long ∙ is_n in
     h.stay.left v is ∙ (and_parts (set v) _ (sym (more.stay.left v is) ∙ in_z)).0)
     (λ same.
-    let alike : (v : Vector) → IsVector (sys_of start) v → states_at z 8 v ≡ states_at y 8 v = λ v is. all_vectors-agree (states_at z 8) (states_at y 8) n same v (is ∙ sym is_n) in
     let ready = unguarded (within_round start conds r) y h.stay.ready in
     differ (same_functions (fluent_count start.task) (set_at y.0.sets y.1 10) (set_at y.0.sets y.1 8) (depends_at (within_round start conds r) y ready 10) (depends_at (within_round start conds r) y ready 8)
-    (λ v is. h.kept v is ∙ round_more start conds r v ∙ sym (more.stay.left v is) ∙ alike v is)))
+    (λ v is. h.kept v is ∙ round_more start conds r v ∙ sym (more.stay.left v is) ∙ same v (is ∙ sym is_n))))
 
 -- the last round
 pub round_stays : (start : Start) (conds : List Cond) (y : Scene) (r : ℕ) → HasVisits start conds y r (length conds) → set_at y.0.sets y.1 10 ≡ set_at y.0.sets y.1 8 → SameStates start (round_of start conds r) (patrol_set (sys_of start) (visit_sets conds))

@@ -6,6 +6,7 @@ use Rattle.std.proofs.lemmas.Bool.{and_parts, cases_eq, cases_lt, cond-false, co
 use Rattle.std.proofs.lemmas.List.{length-map}
 use Rattle.std.proofs.lemmas.List.Elements.{Contains-get_or}
 use Rattle.std.proofs.lemmas.List.FromFn.{length-map-range_with_len}
+use Rattle.list_laws.proofs.Booleans.{and_false, or_false}
 use Rattle.encode_task.specs.TaskSets.{first_values}
 use Rattle.dd_ops.specs.Operations.{minus_of}
 use Rattle.dd_sets.proofs.OperationSizes.{difference_rough}
@@ -25,12 +26,13 @@ use Rattle.task_core.specs.Vectors.{Vector, value_of}
 use Rattle.task_core.specs.declared.conditions.Cond.{Cond}
 use Rattle.task_core.proofs.TaskSystem.{is_system}
 use Rattle.ctl_syntax.specs.Conditions.{states_of}
+use Rattle.slot_board.specs.Board.{Scene}
 use Rattle.patrol_plan.specs.Chains.{visit_sets}
 use Rattle.patrol_plan.specs.Guards.{guarded_system}
 use Rattle.patrol_plan.specs.PatrolSteps.{HasPatrol, made_at_last, visit_place, visit_takers}
 use Rattle.patrol_plan.specs.PatrolWorkingSets.{visit_at, visit_taken_in}
 use Rattle.patrol_plan.specs.Rounds.{first_lead, turn_by}
-use Rattle.patrol_plan.specs.Scenes.{SameStates, Scene, Start, guarded, states_at, sys_in, sys_of, takers_place}
+use Rattle.patrol_plan.specs.Scenes.{SameStates, Start, guarded, states_at, sys_in, sys_of, takers_place}
 use Rattle.patrol_plan.specs.Sizes.{ClimbsFit, IsRough, IsSmall, RoundFits, ShareFits}
 use Rattle.patrol_plan.specs.Steps.{Climbed, FirstTaken}
 use Rattle.patrol_plan.specs.WorkingSets.{function_of}
@@ -42,14 +44,6 @@ use Rattle.patrol_plan.proofs.SizeSteps.{lead_same, rough_as, round_fits_same, s
 use Rattle.patrol_plan.proofs.StageLemmas.{first_same, near_same}
 use Rattle.patrol_plan.proofs.TakenSteps.{takers_apart, takers_within}
 use Rattle.patrol_plan.proofs.VisitSteps.{visit_low}
-
-and_none : (b : Bool) → (b && false) ≡ false
-and_none true = refl
-and_none false = refl
-
-or_none : (b : Bool) → (b || false) ≡ b
-or_none true = refl
-or_none false = refl
 
 -- the action in the context of a visit: of the states from which it is made within some steps
 module _ (sys : System) (ok : IsSystem sys) (visits : List SetOfVectors) (i a : ℕ) where
@@ -105,10 +99,10 @@ module _ (sys : System) (ok : IsSystem sys) (visits : List SetOfVectors) (i a : 
           let made : met v ≡ true = visited_from sys plan visit v here f (near_stays sys plan visit k v e) in
           put true true made e
           (ap (λ o. first || is_action a o) (no_action-met sys plan met v made)
-          ∙ or_none first
+          ∙ or_false first
           ∙ ap (is_action a) (stays_same v here ∙ sym (act_made v f)))
       go true false e f =
-          let none : met v ≡ false = ap (λ b. plan v && (b && some_must_lead sys plan v)) f ∙ and_none (plan v) in
+          let none : met v ≡ false = ap (λ b. plan v && (b && some_must_lead sys plan v)) f ∙ and_false (plan v) in
           put false true none e (ap (is_action a) (sym (act_towards v f)))
 
   -- every state of the plan makes the visit at last
@@ -162,12 +156,12 @@ module _ (start : Start) (conds : List Cond) (x : Scene) (i : ℕ) (less : i < s
 
   near_none : (a : ℕ) (v : Vector) → (made v && is_action a (find (must_lead (sys_in inside) all v) (action_numbers (sys_of start)))) ≡ visit_taken_in (sys_of start) (visit_sets conds) i 0 a v
   near_none a v =
-      sym (or_none _)
+      sym (or_false _)
       ∙ ap (λ b. (made v && is_action a (find (must_lead (sys_in inside) all v) (action_numbers (sys_of start)))) || b) (sym (none (made v) refl))
       ∙ taken_near (sys_of start) ok (visit_sets conds) i a 0 v
     where
       none : (m : Bool) → made v ≡ m → (made v && is_action a (guarded_action (sys_of start) all made v)) ≡ false
-      none true e = ap (λ o. made v && is_action a o) (no_action-met (sys_of start) all made v e) ∙ and_none (made v)
+      none true e = ap (λ o. made v && is_action a o) (no_action-met (sys_of start) all made v e) ∙ and_false (made v)
       none false e = ap (λ b. b && is_action a (guarded_action (sys_of start) all made v)) e
 
   first_small : covers_patrol (sys_of start) (visit_sets conds) ≡ true → (a : ℕ) → a < A → IsSmall start (first_lead (sys_in inside) (states_at x 8) (states_at x (visit_place i)) a)

@@ -1,5 +1,6 @@
 -- What is made to find the states of the contexts is small.
 use Rattle.std.proofs.Common.{◌≡◌, ℕ, ◌+◌, ◌<◌, ◌≤◌, length, sym, ap, subst, inl}
+use Rattle.plan_theory.specs.SetWords.{anywhere}
 use Rattle.dd_nodes.specs.Subfunctions.{Function}
 use Rattle.dd_ops.specs.Operations.{and_of}
 use Rattle.dd_sets.specs.LiveSets.{set_of}
@@ -7,13 +8,12 @@ use Rattle.dd_sets.specs.declared.slots.SetId.{SetId}
 use Rattle.encode_task.specs.TaskSets.{space_set}
 use Rattle.slot_board.proofs.BoardSlots.{made_at}
 use Rattle.slot_board.specs.Board as board
-use Rattle.slot_board.specs.Board.{set_at}
+use Rattle.slot_board.specs.Board.{Scene, set_at}
 use Rattle.task_core.specs.Conditions.{holds}
 use Rattle.task_core.specs.Cubes.{SetOfVectors}
 use Rattle.task_core.specs.declared.conditions.Cond.{Cond}
 use Rattle.ctl_syntax.specs.Conditions.{states_of}
-use Rattle.patrol_plan.specs.Scenes.{IsAt, IsReady, Moved, Scene, Start, board_of, guarded, sys_of}
-use Rattle.patrol_plan.specs.Guards.{anywhere}
+use Rattle.patrol_plan.specs.Scenes.{IsAt, IsReady, Moved, Start, board_of, guarded, sys_of}
 use Rattle.patrol_plan.specs.Sizes.{EndFits, IsSmall}
 use Rattle.patrol_plan.specs.Steps.{met_by}
 use Rattle.patrol_plan.specs.WorkingSets.{kept_states}

@@ -9,7 +9,8 @@ use Rattle.encode_task.specs.Made.{Holds, MadeOf}
 use Rattle.encode_task.specs.Slots.{Encoded}
 use Rattle.encode_task.specs.TaskSets.{space_set}
 use Rattle.slot_board.proofs.BoardSlots.{made_at}
-use Rattle.slot_board.specs.Board.{set_at}
+use Rattle.slot_board.specs.Board.{Scene, set_at}
+use Rattle.plan_theory.specs.SetWords.{anywhere}
 use Rattle.plan_theory.specs.UntilChains.{SetStage, UntilSets, until_met, until_win}
 use Rattle.plan_theory.specs.Safe.{safe_set}
 use Rattle.task_core.specs.Conditions.{IsConditionOver, holds, ids_below}
@@ -22,8 +23,7 @@ use Rattle.task_core.specs.declared.conditions.Cond.{Cond}
 use Rattle.ctl_syntax.specs.Conditions.{states_of}
 use Rattle.ctl_syntax.specs.GoalValues.{stage_sets}
 use Rattle.ctl_syntax.specs.declared.context_goals.UntilStage.{UntilStage}
-use Rattle.patrol_plan.specs.Scenes.{IsAt, IsReady, Moved, SameStates, Scene, Start, board_of, guarded, met_place, states_at, sys_of, win_place}
-use Rattle.patrol_plan.specs.Guards.{anywhere}
+use Rattle.patrol_plan.specs.Scenes.{IsAt, IsReady, Moved, SameStates, Start, board_of, guarded, met_place, states_at, sys_of, win_place}
 use Rattle.patrol_plan.specs.Steps.{EndWon, HasKept, HasLast, HasWins, StageMet, StageWon, met_by}
 use Rattle.patrol_plan.specs.WorkingSets.{kept_states, met_first}
 use Rattle.patrol_plan.specs.declared.rounds.Way.TheVariants.{Growing, Shrinking}

@@ -1,5 +1,5 @@
 -- A system in which actions are taken in some states alone.
-use Rattle.std.specs.Prelude.{true, [], if◌then◌else◌}
+use Rattle.std.specs.Prelude.{[], if◌then◌else◌}
 use Rattle.task_core.specs.Cubes.{SetOfVectors}
 use Rattle.task_core.specs.Systems.{System}
 
@@ -7,7 +7,3 @@ use Rattle.task_core.specs.Systems.{System}
 abbrev pub guarded_system : System → SetOfVectors → System
 guarded_system sys guard =
     record sys { next = λ v a. if guard v then sys.next v a else [] }
-
--- the guard that asks for nothing
-abbrev pub anywhere : SetOfVectors
-anywhere v = true

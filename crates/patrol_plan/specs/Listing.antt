@@ -1,22 +1,13 @@
 -- Private: which rules were listed.
-use Rattle.std.specs.Prelude.{◌≡◌, ℕ, suc, ◌-◌, List, ◌++◌, map}
+use Rattle.std.specs.Prelude.{◌≡◌, ℕ, suc, ◌-◌, List, ◌++◌}
 use Rattle.std.specs.List.{flat_map, range_with_len}
 use Rattle.plan_theory.specs.ContextRules.{next_rules}
 use Rattle.plan_theory.specs.UntilChains.{UntilSets}
 use Rattle.plan_theory.specs.UntilPrinted.{until_states}
-use Rattle.plan_rules.specs.Rules.{ContextRule, always}
-use Rattle.task_core.specs.Cubes.{Cube, SetOfVectors, cubes_of}
-use Rattle.patrol_plan.specs.Scenes.{Scene, Start, sys_of}
+use Rattle.plan_rules.specs.Rules.{ContextRule}
+use Rattle.slot_board.specs.Board.{Scene}
+use Rattle.patrol_plan.specs.Scenes.{Start, sys_of}
 use Rattle.patrol_plan.specs.Tables.{HasTable, HasTurning}
-
--- the rule for a cube
-abbrev pub rule_for : ℕ → ℕ → ℕ → Cube → ContextRule
-rule_for context next a cube =
-    record { context = context; cube = cube; action = a; next = always next }
-
--- the rules for all cubes of some states
-abbrev pub rules_for : ℕ → ℕ → ℕ → ℕ → SetOfVectors → List ContextRule
-rules_for fluents context next a set = map (rule_for context next a) (cubes_of fluents set)
 
 -- rules of a context and a next one, which are counted from 0, were added, and the states that turn to
 -- it stand at their place

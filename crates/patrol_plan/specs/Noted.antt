@@ -17,10 +17,11 @@ use Rattle.task_core.specs.Systems.{IsVector}
 use Rattle.task_core.specs.Tasks.{action_count}
 use Rattle.task_core.specs.Vectors.{Vector}
 use Rattle.task_core.specs.declared.literals.ActionId.{ActionId}
+use Rattle.slot_board.specs.Board.{Scene}
 use Rattle.slot_board.specs.declared.steps.Step.{Step}
 use Rattle.slot_board.specs.declared.steps.Step.TheVariants.{Advance, Grow}
 use Rattle.patrol_plan.specs.Rounds.{turn_by, turns}
-use Rattle.patrol_plan.specs.Scenes.{ChangedIn, IsAt, SameStates, Scene, Start, WorkedIn, guarded}
+use Rattle.patrol_plan.specs.Scenes.{ChangedIn, IsAt, SameStates, Start, WorkedIn, guarded}
 use Rattle.patrol_plan.specs.Scenes.{states_at, sys_in, sys_of}
 use Rattle.patrol_plan.specs.Steps.{Climbs, HitsAmong}
 use Rattle.patrol_plan.specs.declared.rounds.Way.{Way}

@@ -8,11 +8,11 @@ use Rattle.plan_rules.specs.Denoted.{denoted_contexts}
 use Rattle.plan_rules.specs.Plans.{IsAutomatonOf}
 use Rattle.plan_rules.specs.Rules.{context_rules_of}
 use Rattle.plan_rules.specs.declared.rules.AutoPlan.{AutoPlan}
-use Rattle.slot_board.specs.Board.{HasNoRoom}
+use Rattle.slot_board.specs.Board.{HasNoRoom, Scene}
 use Rattle.task_core.specs.Cubes.{SetOfVectors}
 use Rattle.task_core.specs.Tasks.{action_count, fluent_count, system_of}
 use Rattle.task_core.specs.declared.tasks.Task.{Task}
-use Rattle.patrol_plan.specs.Scenes.{IsAt, Scene, Start, board_of}
+use Rattle.patrol_plan.specs.Scenes.{IsAt, Start, board_of}
 use Rattle.patrol_plan.specs.declared.found.FoundAuto.{FoundAuto}
 use Rattle.patrol_plan.specs.declared.found.FoundAuto.TheVariants.{NoPlan, Plan}
 

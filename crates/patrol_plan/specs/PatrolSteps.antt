@@ -13,10 +13,11 @@ use Rattle.task_core.specs.Cubes.{SetOfVectors}
 use Rattle.task_core.specs.Tasks.{action_count}
 use Rattle.task_core.specs.Vectors.{Vector}
 use Rattle.task_core.specs.declared.conditions.Cond.{Cond}
+use Rattle.slot_board.specs.Board.{Scene}
 use Rattle.patrol_plan.specs.Chains.{visit_sets}
 use Rattle.patrol_plan.specs.PatrolSizes.{PatrolFits, made_in, round_of, within_round}
 use Rattle.patrol_plan.specs.PatrolWorkingSets.{first_visits_in, visit_at}
-use Rattle.patrol_plan.specs.Scenes.{IsGuarded, IsReady, SameStates, Scene, Start, guarded}
+use Rattle.patrol_plan.specs.Scenes.{IsGuarded, IsReady, SameStates, Start, guarded}
 use Rattle.patrol_plan.specs.Scenes.{states_at, sys_of, takers_place}
 use Rattle.patrol_plan.specs.declared.patrol_rules.Part.{Part}
 use Rattle.patrol_plan.specs.declared.patrol_rules.Part.TheVariants.{Made, Others, Whole}

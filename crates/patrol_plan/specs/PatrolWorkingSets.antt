@@ -7,6 +7,7 @@ use Rattle.std.specs.List.{list_all}
 use Rattle.plan_theory.specs.LayerPlans.{is_action}
 use Rattle.plan_theory.specs.Patrols.{covers_patrol, patrol_round, patrol_set, visit_near, visit_set}
 use Rattle.plan_theory.specs.PatrolPrinted.{patrol_action}
+use Rattle.plan_theory.specs.SetWords.{anywhere}
 use Rattle.dd_nodes.specs.Subfunctions.{Function}
 use Rattle.dd_sets.specs.Rooms.{Small}
 use Rattle.encode_task.specs.TaskSets.{initial_set, space_set}
@@ -17,7 +18,6 @@ use Rattle.task_core.specs.Tasks.{action_count, fluent_count, system_of}
 use Rattle.task_core.specs.declared.conditions.Cond.{Cond}
 use Rattle.task_core.specs.declared.tasks.Task.{Task}
 use Rattle.patrol_plan.specs.Chains.{visit_sets}
-use Rattle.patrol_plan.specs.Guards.{anywhere}
 use Rattle.patrol_plan.specs.WorkingSets.{IsMadeInside, function_of}
 
 -- visit i of some

@@ -10,10 +10,10 @@ use Rattle.dd_nodes.specs.Subfunctions.{Function}
 use Rattle.dd_ops.specs.Operations.{and_of}
 use Rattle.dd_sets.specs.LiveSets.{IsSets}
 use Rattle.dd_sets.specs.declared.errors.SetErr.{SetErr}
-use Rattle.dd_sets.specs.declared.slots.SetId.{SetId}
 use Rattle.encode_task.specs.Made.{MadeOf}
 use Rattle.encode_task.specs.Slots.{Encoded}
 use Rattle.slot_board.specs.Board as board
+use Rattle.slot_board.specs.Board.{Scene}
 use Rattle.slot_board.specs.declared.board.Outcomes.TheVariants as Outcomes
 use Rattle.task_core.specs.Cubes.{SetOfVectors}
 use Rattle.task_core.specs.Systems.{IsVector, System}
@@ -78,10 +78,6 @@ board_of start = record {
   wide = start.wide;
   rough = rough_places;
 }
-
--- the task's sets, and the slots of a board
-abbrev pub Scene : Type 0
-Scene = Encoded × List SetId
 
 -- the states of the set at a place
 abbrev pub states_at : Scene → ℕ → SetOfVectors

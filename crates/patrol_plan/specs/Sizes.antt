@@ -1,6 +1,7 @@
 -- Private: that what the parts of a search make is small, or rough, by the width of its start.
 use Rattle.std.specs.Prelude.{◌≡◌, ℕ, ◌<◌, ◌≤◌, ◌||◌, ◌&&◌, not, true, Contains}
 use Rattle.std.specs.List.{list_any, range_with_len}
+use Rattle.plan_theory.specs.SetWords.{anywhere}
 use Rattle.plan_theory.specs.UntilChains.{UntilSets, covers_until}
 use Rattle.plan_theory.specs.Layers.{must_lead}
 use Rattle.plan_theory.specs.LayerPlans.{is_action}
@@ -17,7 +18,6 @@ use Rattle.ctl_syntax.specs.Conditions.{states_of}
 use Rattle.ctl_syntax.specs.declared.context_goals.UntilChain.{UntilChain}
 use Rattle.ctl_syntax.specs.declared.context_goals.UntilStage.{UntilStage}
 use Rattle.patrol_plan.specs.Chains.{until_sets}
-use Rattle.patrol_plan.specs.Guards.{anywhere}
 use Rattle.patrol_plan.specs.Rounds.{first_lead, from_stage, hits_by, turn_by, turning_at, turns}
 use Rattle.patrol_plan.specs.Scenes.{Start, board_of, guarded, sys_in, sys_of}
 use Rattle.patrol_plan.specs.WorkingSets.{function_of, guard_in, kept_states, met_in}

@@ -19,9 +19,10 @@ use Rattle.task_core.specs.Vectors.{Vector}
 use Rattle.task_core.specs.declared.conditions.Cond.{Cond}
 use Rattle.ctl_syntax.specs.Conditions.{states_of}
 use Rattle.ctl_syntax.specs.declared.context_goals.UntilStage.{UntilStage}
+use Rattle.slot_board.specs.Board.{Scene}
 use Rattle.patrol_plan.specs.Rounds.{first_lead, from_stage, hits_by, last_turn, turn, turn_by}
 use Rattle.patrol_plan.specs.Rounds.{turns}
-use Rattle.patrol_plan.specs.Scenes.{Changed, ChangedIn, IsGuarded, IsReady, SameStates, Scene}
+use Rattle.patrol_plan.specs.Scenes.{Changed, ChangedIn, IsGuarded, IsReady, SameStates}
 use Rattle.patrol_plan.specs.Scenes.{Start, WorkedIn, met_place, states_at, sys_in, sys_of}
 use Rattle.patrol_plan.specs.Scenes.{takers_place, win_place}
 use Rattle.patrol_plan.specs.Sizes.{UntilFits}

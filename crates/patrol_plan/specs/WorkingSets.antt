@@ -5,6 +5,7 @@ use Rattle.std.specs.Prelude.{Contains, length, nat_le}
 use Rattle.plan_theory.specs.GuardedSets.{guarded_action, guarded_near}
 use Rattle.plan_theory.specs.LayerPlans.{is_action}
 use Rattle.plan_theory.specs.Safe.{safe_action, safe_round, safe_set}
+use Rattle.plan_theory.specs.SetWords.{anywhere}
 use Rattle.plan_theory.specs.UntilChains.{SetStage, UntilSets, covers_until, until_advance}
 use Rattle.plan_theory.specs.UntilChains.{until_met, until_win_at}
 use Rattle.ctl_syntax.specs.declared.context_goals.UntilChain.{UntilChain}
@@ -19,7 +20,6 @@ use Rattle.task_core.specs.Systems.{System}
 use Rattle.task_core.specs.Tasks.{action_count, fluent_count, system_of}
 use Rattle.task_core.specs.declared.tasks.Task.{Task}
 use Rattle.patrol_plan.specs.Chains.{until_sets}
-use Rattle.patrol_plan.specs.Guards.{anywhere}
 
 -- a set of states over n fluents, as the function that is true on it
 abbrev pub function_of : ℕ → SetOfVectors → Function

@@ -1,17 +1,18 @@
 //! Which states take which action, in each context.
 
+ghost use Rattle.plan_theory.specs.SetWords.{anywhere};
 ghost use Rattle.std.specs.Prelude.{◌≡◌, ℕ, suc, ◌≤◌, ◌+◌, ◌<◌, List, ◌∷◌, length};
 ghost use Rattle.ctl_syntax.specs.Conditions.{states_of};
 ghost use Rattle.slot_board.specs.Board as board_specs;
 ghost use Rattle.task_core.specs.Tasks.{action_count};
 ghost use Rattle.patrol_plan.specs.Chains.{IsUntilOver, until_sets};
-ghost use Rattle.patrol_plan.specs.Guards.{anywhere};
-ghost use Rattle.patrol_plan.specs.Scenes.{IsAt, IsGuarded, Left, Scene, Start, board_of, guarded};
+ghost use Rattle.patrol_plan.specs.Scenes.{IsAt, IsGuarded, Left, Start, board_of, guarded};
 ghost use Rattle.patrol_plan.specs.Scenes.{states_at};
 ghost use Rattle.patrol_plan.specs.Sizes.{ClimbFits, ClimbsFit, SearchFits, ShareFits};
 ghost use Rattle.patrol_plan.specs.Noted.{AreNoted, NotedStages, RetracedOn};
 ghost use Rattle.patrol_plan.specs.Steps.{Climbed, Climbs, FirstTaken};
 ghost use Rattle.patrol_plan.specs.Steps.{HasTakers, Shared};
+ghost use Rattle.slot_board.specs.Board.{Scene};
 ghost use Rattle.slot_board.specs.declared.steps.Step.{Step as Noted};
 ghost use Rattle.patrol_plan.specs.declared.rounds.Way.TheVariants.{Growing};
 ghost use Rattle.task_core.specs.Conditions.{IsConditionOver};

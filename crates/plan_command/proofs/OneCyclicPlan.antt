@@ -15,9 +15,9 @@ use Rattle.plan_theory.specs.LargestSets.{IsLargestSet}
 use Rattle.plan_theory.specs.Pairs.{Pairs, restricted}
 use Rattle.plan_theory.specs.CyclicPlans.{cyclic_rules}
 use Rattle.plan_theory.specs.PairRounds.{progress}
-use Rattle.cyclic_plan.proofs.PlanMade.{cubes_agree}
 use Rattle.list_laws.proofs.Booleans.{same_truth}
 use Rattle.plan_theory.proofs.Restricted.{more_pairs, outcome_of_pair, pair_outcome}
+use Rattle.encode_task.proofs.StateVectors.{cubes_agree}
 
 -- each pair of a state in the one set is in the other
 abbrev AreWithin : System → Pairs → Pairs → Type 0

@@ -33,3 +33,5 @@ pub mod PatrolSets
 pub mod PatrolSound
 pub mod PatrolRules
 pub mod NoPatrol
+pub mod FirstActions
+pub mod FewerStates

@@ -18,3 +18,4 @@ pub mod UntilPlans
 pub mod Patrols
 pub mod PatrolPrinted
 pub mod PatrolPlans
+pub mod SetWords

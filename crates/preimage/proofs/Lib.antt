@@ -1,4 +1,5 @@
 pub mod FrameSteps
+pub mod Leads
 pub mod OutcomeLemmas
 pub mod SideLemmas
 pub mod SizeLemmas

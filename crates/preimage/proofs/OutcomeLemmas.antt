@@ -5,6 +5,7 @@ use Rattle.std.specs.Option.{option_map_or}
 use Rattle.std.proofs.lemmas.List.{take_all}
 use Rattle.std.proofs.lemmas.List.Folds.{list_all_more, list_any_more}
 use Rattle.std.proofs.lemmas.Option.{get_or_from_slice_get}
+use Rattle.list_laws.proofs.Booleans.{and_one}
 use Rattle.dd_nodes.specs.NodeList.{Values}
 use Rattle.dd_nodes.specs.Subfunctions.{DependsOnly, Function}
 use Rattle.dd_ops.specs.Operations.{minus_of}
@@ -94,15 +95,11 @@ all_more task a i set within = λ j values. (step values) j
         ∙ ap (λ b. exec_set task a values && b) (sym (list_all_more (stays task set values) (outcomes_at task a) i o.0 within))
 
 -- at first
-and_true : (e : Bool) → e ≡ (e && true)
-and_true true = refl
-and_true false = refl
-
 exec_left : (task : Task) (a : ℕ) (set : Function) → exec_set task a ≡ left_after task a set 0
-exec_left task a set = λ j values. and_true (exec_set task a values) j
+exec_left task a set = λ j values. and_one (exec_set task a values) j
 
 exec_all : (task : Task) (a : ℕ) (set : Function) → exec_set task a ≡ all_after task a set 0
-exec_all task a set = λ j values. and_true (exec_set task a values) j
+exec_all task a set = λ j values. and_one (exec_set task a values) j
 
 -- at the end
 hit : (e l : Bool) → (e && not (e && not l)) ≡ (e && l)

@@ -2,7 +2,9 @@
 use Rattle.std.proofs.Common.{◌≡◌, ℕ, zero, suc, ◌+◌, ◌<◌, ◌≤◌, Bool, true, false, ◌&&◌, ◌||◌, not, List, [], ◌∷◌, length, slice_get, take, inl, inr, refl, sym, subst, ◌∙◌, arith}
 use Rattle.std.specs.List.{list_all, list_any}
 use Rattle.std.specs.Option.{option_map_or}
+use Rattle.std.proofs.Math.Bool.{and-or_distrib_left, and_self}
 use Rattle.std.proofs.lemmas.List.{take_all}
+use Rattle.list_laws.proofs.Booleans.{and_one, or_assoc, or_none}
 use Rattle.dd_nodes.specs.Subfunctions.{Function, IsSubfunction}
 use Rattle.dd_ops.specs.Operations.{and_of, minus_of, or_of}
 use Rattle.dd_sets.specs.Rooms.{AreSized, Rough, Small}
@@ -40,7 +42,7 @@ pub subfunction_self : (vars : ℕ) (f : Function) → IsSubfunction vars f f
 subfunction_self vars f = record { first = []; few = omega arith; fixes = λ values. refl }
 
 -- what is left is the difference of where the action can be executed and where some outcome leads in
-without_first : (e l : Bool) → (e && not (e && l)) ≡ (e && not l)
+pub without_first : (e l : Bool) → (e && not (e && l)) ≡ (e && not l)
 without_first true l = refl
 without_first false l = refl
 
@@ -99,14 +101,10 @@ weak_small width task a set fits = subst (Small (fluent_count task) width) (firs
 pub strong_small : (width : ℕ) (task : Task) (a : ℕ) (set : Function) → PreimageFits width task a first_every set → Small (fluent_count task) width (strong_preimage task a set)
 strong_small width task a set fits = subst (Small (fluent_count task) width) (first_strong task a (length (outcomes_at task a)) set (omega arith)) (fits.firsts (length (outcomes_at task a)))
 
--- of one outcome, where each one leads into a set is small where some one is
-and_true : (e : Bool) → e ≡ (e && true)
-and_true true = refl
-and_true false = refl
-
 exec_first : (task : Task) (a : ℕ) (set : Function) → exec_set task a ≡ first_every task a 0 set
-exec_first task a set = λ i values. and_true (exec_set task a values) i
+exec_first task a set = λ i values. and_one (exec_set task a values) i
 
+-- of one outcome, where each one leads into a set is small where some one is
 pub one_fits : (width : ℕ) (task : Task) (a : ℕ) (set : Function) → length (outcomes_at task a) ≡ 1 → PreimageFits width task a first_some set → PreimageFits width task a first_every set
 one_fits width task a set one fits = record {
   wide = fits.wide;
@@ -130,11 +128,7 @@ landing false l = refl
 
 some_twice : (p : Outcome → Bool) (outcomes : List Outcome) → list_any (λ o. p o && p o) outcomes ≡ list_any p outcomes
 some_twice p [] = refl
-some_twice p (o ∷ outcomes) = λ i. twice (p o) i || some_twice p outcomes i
-  where
-    twice : (b : Bool) → (b && b) ≡ b
-    twice true = refl
-    twice false = refl
+some_twice p (o ∷ outcomes) = λ i. and_self (p o) i || some_twice p outcomes i
 
 exec_some : (task : Task) (a : ℕ) → first_some task a (length (outcomes_at task a)) (space_set task) ≡ exec_set task a
 exec_some task a =
@@ -170,21 +164,9 @@ every_fits width task a set hits others wide action small space = record {
 -- one set more of a union
 pub joined_more : (set : Function) (sets : ℕ → Function) (j : ℕ) → or_of (or_of set (some_below sets j)) (sets j) ≡ or_of set (some_below sets (suc j))
 joined_more set sets j = λ i values. or_assoc (set values) (some_below sets j values) (sets j values) i
-  where
-    or_assoc : (a b c : Bool) → ((a || b) || c) ≡ (a || (b || c))
-    or_assoc true b c = refl
-    or_assoc false b c = refl
 
 pub part_more : (set : Function) (sets : ℕ → Function) (j : ℕ) → or_of (and_of set (some_below sets j)) (and_of set (sets j)) ≡ and_of set (some_below sets (suc j))
-part_more set sets j = λ i values. spread (set values) (some_below sets j values) (sets j values) i
-  where
-    spread : (a b c : Bool) → ((a && b) || (a && c)) ≡ (a && (b || c))
-    spread true b c = refl
-    spread false b c = refl
+part_more set sets j = λ i values. sym (and-or_distrib_left (set values) (some_below sets j values) (sets j values)) i
 
 pub joined_none : (set : Function) (sets : ℕ → Function) → set ≡ or_of set (some_below sets 0)
-joined_none set sets = λ i values. or_false (set values) i
-  where
-    or_false : (a : Bool) → a ≡ (a || false)
-    or_false true = refl
-    or_false false = refl
+joined_none set sets = λ i values. or_none (set values) i

@@ -13,6 +13,7 @@ use Rattle.dd_sets.proofs.OperationSizes.{difference_rough}
 use Rattle.encode_task.specs.Made.{MadeOf}
 use Rattle.encode_task.specs.Slots.{Encoded}
 use Rattle.encode_task.specs.TaskSets.{space_set}
+use Rattle.encode_task.proofs.StateVectors.{cubes_agree}
 use Rattle.plan_theory.specs.Classes.{IsFoundByLayers, IsStable}
 use Rattle.plan_theory.specs.Layers.{IsLastLayer, layer}
 use Rattle.plan_theory.specs.LayerPlans.{printed_rules}
@@ -41,7 +42,6 @@ use Rattle.reach_plan.specs.Searches.{FoundNone}
 use Rattle.reach_plan.specs.WorkingSets.{BoundsReachSets}
 use Rattle.reach_plan.proofs.PlanSteps.{start_of}
 use Rattle.reach_plan.proofs.PlaceFits.{fits_small}
-use Rattle.reach_plan.proofs.SetLayers.{cubes_agree}
 use Rattle.reach_plan.proofs.SmallSets.{layer_small, space_small}
 
 -- a layer that is the same as the next one is the last of all
@@ -100,7 +100,7 @@ cubes_left class start now slots cubes has are =
       at = has.at;
       are_left = (
         has.none,
-        are ∙ ap (λ (n : ℕ). cubes_of n (λ state. set_at now.sets slots 2 (value_of state))) vars ∙ cubes_agree 0 (fluent_count start.task) (λ state. set_at now.sets slots 2 (value_of state)) (outside_layers class (system_of start.task)) has.holds,
+        are ∙ ap (λ (n : ℕ). cubes_of n (λ state. set_at now.sets slots 2 (value_of state))) vars ∙ cubes_agree (fluent_count start.task) 0 (λ state. set_at now.sets slots 2 (value_of state)) (outside_layers class (system_of start.task)) has.holds,
       );
     }
 

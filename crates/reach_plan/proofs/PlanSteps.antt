@@ -1,24 +1,24 @@
 -- The rules of the plan, from what the actions take.
-use Rattle.std.proofs.Common.{◌≡◌, ℕ, ◌+◌, ◌<◌, ◌≤◌, List, [], ◌∷◌, ◌++◌, map, length, refl, sym, ap, subst, ◌∙◌, arith, append-nil, All, Bool, true, false, Result, Ok, Err, IfOk, IsErrOf, Option, None, Some}
-use Rattle.std.specs.Prelude.{IsSome, OnErr}
+use Rattle.std.proofs.Common.{◌≡◌, ℕ, ◌+◌, ◌<◌, ◌≤◌, List, [], ◌∷◌, ◌++◌, map, length, refl, sym, ap, subst, ◌∙◌, arith, append-nil, All, Bool, true, false, Result, Ok, Err, IfOk}
+use Rattle.std.specs.Prelude.{OnErr}
 use Rattle.std.specs.List.{Contains, flat_map, range_with_len}
 use Rattle.std.proofs.lemmas.List.Concat.{flat_map-append}
 use Rattle.dd_nodes.specs.Subfunctions.{Function}
 use Rattle.dd_sets.specs.Frames.{Owns}
 use Rattle.dd_sets.specs.LiveSets.{LiveSets, live_count}
 use Rattle.dd_sets.specs.declared.errors.SetErr.{SetErr}
-use Rattle.dd_sets.specs.declared.errors.SetErr.TheVariants.{Full}
 use Rattle.dd_sets.specs.declared.slots.SetId.{SetId}
 use Rattle.dd_sets.proofs.FrameLemmas.{kept_chain, not_before}
 use Rattle.dd_sets.specs.Rooms.{NoRoom}
 use Rattle.dd_sets.proofs.RoomSteps.{room_owned}
-use Rattle.encode_task.specs.Made.{HoldsGoal, MadeOf}
+use Rattle.encode_task.specs.Made.{MadeOf}
 use Rattle.encode_task.specs.Slots.{Encoded}
+use Rattle.encode_task.proofs.StateVectors.{cubes_agree}
 use Rattle.plan_rules.specs.Denoted.{denoted, IsExecutable}
 use Rattle.plan_rules.specs.Plans.{IsRuleOf}
 use Rattle.plan_rules.specs.Rules.{PlanRule, rules_of}
 use Rattle.plan_rules.specs.declared.rules.TablePlan.{TablePlan}
-use Rattle.slot_board.specs.Board.{At, Ends, HasNoRoom, Start, Working, set_at, slot_at}
+use Rattle.slot_board.specs.Board.{At, Ends, Start, Working, set_at, slot_at}
 use Rattle.task_core.specs.Cubes.{cubes_of}
 use Rattle.task_core.specs.Solutions.{HasNoSolution, IsSolution}
 use Rattle.task_core.specs.Systems.{System}
@@ -26,7 +26,6 @@ use Rattle.task_core.specs.Tasks.{action_count, fluent_count, system_of}
 use Rattle.task_core.specs.Vectors.{value_of}
 use Rattle.task_core.specs.declared.classes.Class.{Class}
 use Rattle.task_core.specs.declared.classes.Class.TheVariants.{Cyclic, Strong, Weak}
-use Rattle.task_core.specs.declared.conditions.Cond.{Cond}
 use Rattle.task_core.specs.declared.tasks.Task.{Task}
 use Rattle.task_core.proofs.TaskSystem.{is_system}
 use Rattle.plan_theory.specs.Classes.{IsFoundByLayers}
@@ -45,7 +44,6 @@ use Rattle.plan_theory.proofs.ClassLayers.{printed_executable}
 use Rattle.plan_theory.proofs.LeastBounds.{solves_by_class}
 use Rattle.plan_theory.proofs.PrintedWithin.{printed_within}
 use Rattle.list_laws.proofs.Ranges.{range-more}
-use Rattle.reach_plan.proofs.SetLayers.{cubes_agree}
 use Rattle.plan_rules.proofs.DenotedPairs.{denoted-table}
 use Rattle.list_laws.proofs.Elements.{Contains-cons, Contains-head, Contains-range_with_len-below}
 
@@ -96,7 +94,7 @@ printed_by_places class task enc slots made has = flat_map_agree (rules_of_place
     same a among =
         let below : a < action_count task = Contains-range_with_len-below (action_count task) a among in
         ap (λ (m : ℕ). map (rule_for a) (cubes_of m (λ state. set_at enc.sets slots a (value_of state)))) vars
-        ∙ ap (map (rule_for a)) (cubes_agree 0 (fluent_count task) (λ state. set_at enc.sets slots a (value_of state)) (takers class (system_of task) has.layers a) (λ v is. has.takes a v below is))
+        ∙ ap (map (rule_for a)) (cubes_agree (fluent_count task) 0 (λ state. set_at enc.sets slots a (value_of state)) (takers class (system_of task) has.layers a) (λ v is. has.takes a v below is))
 
 -- what the first pass found
 pub is_decided : (class : Class) (start : Start) (now : Encoded) (slots : List SetId) (steps : List Step) (covered : Bool) → SearchLeft class start now slots steps covered → IsDecided class start.task steps covered
@@ -110,11 +108,6 @@ left_at class start now slots steps false left = left.at
 pub decided_by : (class : Class) (start : Start) (now : Encoded) (slots : List SetId) (steps : List Step) (result : Result Bool SetErr) → Ends start now slots (SearchLeft class start now slots steps) result → IfOk result (IsDecided class start.task steps)
 decided_by class start now slots steps (Ok covered) ends = is_decided class start now slots steps covered ends
 decided_by class start now slots steps (Err e) ends = tt
-
--- a refusal for want of room
-pub full_at : {T : Type 0} (start : Start) (now : Encoded) (slots : List SetId) (P : T → Type 0) (result : Result T SetErr) → Ends start now slots P result → IsErrOf result Full → HasNoRoom start now
-full_at start now slots P (Ok x) ends full = absurd (let h : Ok x ≡ Err Full = full in cc)
-full_at start now slots P (Err e) ends full = ends.1 (let h : Err e ≡ Err Full = full in cc)
 
 -- where a search with so many places begins
 abbrev pub start_of : (task : Task) (enc : Encoded) → MadeOf task enc → ℕ → ℕ → (width : ℕ) → fluent_count task + 2 ≤ width → List ℕ → Start
@@ -160,15 +153,6 @@ takers_held class start x now old new n steps leads found all long same = record
 pub on_err : {T E : Type 0} (result : Result T E) (P : Type 0) → P → OnErr result P
 on_err (Ok x) P is = tt
 on_err (Err e) P is = is
-
--- the task's goal has a slot
-pub goal_there : (task : Task) (enc : Encoded) → MadeOf task enc → IsSome task.goal → IsSome enc.goal
-goal_there task enc made some = go enc.goal task.goal made.goal some
-  where
-    go : (own : Option SetId) (goal : Option Cond) → HoldsGoal task enc.sets own goal → IsSome goal → IsSome own
-    go None None holds is = is
-    go (Some slot) goal holds is = refl
-    go None (Some cond) holds is = absurd holds
 
 -- no slot of a function's own
 pub owns_working : (a b : LiveSets) → Owns a b [] → Working a b []

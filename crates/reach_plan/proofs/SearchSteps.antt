@@ -1,5 +1,5 @@
 -- One step of the search: what it leaves on the board.
-use Rattle.std.proofs.Common.{inl, inr, true≢false, IfErr, OnOk, ◌≡◌, ◌≢◌, ℕ, zero, suc, ◌+◌, ◌<◌, ◌≤◌, ◌==◌, get_or, Bool, true, false, not, ◌&&◌, ◌||◌, List, [], ◌∷◌, ◌++◌, length, nat_lt, take, take_all, Option, Some, None, Result, Ok, Err, refl, sym, ap, subst, ◌∙◌, ⊎_elim, arith}
+use Rattle.std.proofs.Common.{inl, inr, true≢false, ◌≡◌, ◌≢◌, ℕ, zero, suc, ◌+◌, ◌<◌, ◌≤◌, ◌==◌, get_or, Bool, true, false, not, ◌&&◌, ◌||◌, List, [], ◌∷◌, ◌++◌, length, nat_lt, take, take_all, Option, Some, None, refl, sym, ap, subst, ◌∙◌, ⊎_elim, arith}
 use Rattle.std.specs.Prelude.{slice_index_or, slice_set}
 use Rattle.std.specs.List.{list_all, list_any, range_with_len}
 use Rattle.std.specs.Option.{option_map_or}
@@ -7,20 +7,18 @@ use Rattle.std.proofs.Math.Path.{fun_ext}
 use Rattle.std.proofs.lemmas.Bool.{cases_eq, cases_lt, cond-false, cond-true, eq-eqb, lt-ltb, ltb-true, ne_eqb, false_from_ne_true}
 use Rattle.std.proofs.lemmas.List.{get_or_past, get_or-set_same, get_or-set_other, length_push, take-append-le}
 use Rattle.std.proofs.lemmas.List.Folds.{list_all-append, list_any-append}
-use Rattle.list_laws.proofs.Booleans.{or_true}
+use Rattle.list_laws.proofs.Booleans.{and_first, and_second, or_none, or_true}
 use Rattle.dd_nodes.specs.Subfunctions.{DependsOnly, Function}
 use Rattle.dd_ops.specs.Operations.{minus_of, or_of}
 use Rattle.dd_sets.specs.LiveSets.{IsLive, nothing, set_of}
 use Rattle.dd_nodes.specs.NodeList.{Values}
-use Rattle.dd_sets.specs.declared.errors.SetErr.{SetErr}
-use Rattle.dd_sets.specs.declared.errors.SetErr.TheVariants.{Full, Memory}
 use Rattle.dd_sets.specs.declared.slots.SetId.{SetId}
 use Rattle.encode_task.specs.Made.{Holds, HoldsGoal, MadeOf}
 use Rattle.encode_task.specs.Slots.{Encoded}
 use Rattle.encode_task.specs.TaskSets.{exec_set, goal_set}
 use Rattle.preimage.specs.Laws.{StrongLeadsToAll, WeakLeadsToSome}
 use Rattle.preimage.specs.Preimages.{every_outcome_in, some_outcome_in}
-use Rattle.slot_board.specs.Board.{At, Ends, HasNothing, IsSmall, Left, Moved, Start, Stayed, set_at}
+use Rattle.slot_board.specs.Board.{At, HasNothing, IsSmall, Moved, Start, Stayed, set_at}
 use Rattle.slot_board.proofs.BoardSlots.{depends, made_at}
 use Rattle.task_core.specs.Tasks.{action_count, fluent_count, initial_states, system_of}
 use Rattle.task_core.specs.Vectors.{all_vectors, value_of}
@@ -44,28 +42,7 @@ use Rattle.reach_plan.proofs.SmallSets.{at_layer, grown_none, within_round}
 use Rattle.reach_plan.proofs.SetLayers.{fewer_next, goal_is_layer, missed, next_layer_set, next_takers, none_take, stable_same}
 use Rattle.list_laws.proofs.Elements.{list_all-agree}
 
--- what is left of an answer, and of a refusal that is passed on
-pub found_of : {T : Type 0} (start : Start) (now : Encoded) (slots : List SetId) (P : T → Type 0) (result : Result T SetErr) (x : T) → result ≡ Ok x → Ends start now slots P result → P x
-found_of start now slots P result x is ends = subst (Ends start now slots P) is ends
-
-pub passed_on : {S T : Type 0} (start : Start) (now : Encoded) (slots : List SetId) (P : S → Type 0) (Q : T → Type 0) (inner : Result S SetErr) (outer : Result T SetErr) (e : SetErr) → inner ≡ Err e → (x : SetErr) × (outer ≡ Err x) × (x ≡ e) → Ends start now slots P inner → Ends start now slots Q outer
-passed_on start now slots P Q inner outer e was p ends =
-    subst (Ends start now slots Q) (sym p.1) (let kept = subst (Ends start now slots P) was ends in (kept.0, λ full. kept.1 (sym p.2 ∙ full)))
-
-pub ends_with : {T : Type 0} (start : Start) (now : Encoded) (slots : List SetId) (P Q : T → Type 0) (result : Result T SetErr) → ((x : T) → P x → Q x) → Ends start now slots P result → Ends start now slots Q result
-ends_with start now slots P Q (Ok x) f ends = f x ends
-ends_with start now slots P Q (Err e) f ends = ends
-
--- whatever it is, the board is there
-pub ends_at : {T : Type 0} (start : Start) (now : Encoded) (slots : List SetId) (P : T → Type 0) (result : Result T SetErr) → ((x : T) → P x → At start now slots) → Ends start now slots P result → At start now slots
-ends_at start now slots P (Ok x) f ends = f x ends
-ends_at start now slots P (Err e) f ends = ends.0
-
 -- at first no action is done
-or_false : (b : Bool) → b ≡ (b || false)
-or_false true = refl
-or_false false = refl
-
 not_below_zero : (a : ℕ) → nat_lt a 0 ≡ false
 not_below_zero a = false_from_ne_true (nat_lt a 0) (λ lt. let l : a < 0 = ltb-true a 0 lt in absurd (omega arith))
 
@@ -76,7 +53,7 @@ taken_none class task f h = fun_ext (λ a. sym (cond-false (nat_lt a 0) (or_of (
 or_last : (s l p : Bool) → ((s || l) || p) ≡ (s || (l || (p || false)))
 or_last true l p = refl
 or_last false true p = refl
-or_last false false p = or_false p
+or_last false false p = or_none p
 
 pub grown_more : (class : Class) (task : Task) (f : Function) (a : ℕ) → or_of (grown class task f a) (class_preimage class task a f) ≡ grown class task f (a + 1)
 grown_more class task f a = fun_ext step
@@ -245,14 +222,10 @@ led_higher : (class : Class) (task : Task) (top : ℕ) (steps : List Step) (here
 led_higher class task top steps here led = record { there = led.there; along = λ i. higher class task top _ (led.along i); within = led.within }
 
 -- an action leads into a set from where it can be executed
-and_left : (b c : Bool) → (b && c) ≡ true → b ≡ true
-and_left true c e = refl
-and_left false c e = e
-
 pub preimage_inside : (class : Class) (task : Task) (a : ℕ) (set : Function) (values : Values) → class_preimage class task a set values ≡ true → exec_set task a values ≡ true
-preimage_inside Weak task a set values is = and_left (exec_set task a values) (some_outcome_in task a set values) is
-preimage_inside Strong task a set values is = and_left (exec_set task a values) (every_outcome_in task a set values) is
-preimage_inside Cyclic task a set values is = and_left (exec_set task a values) (some_outcome_in task a set values) is
+preimage_inside Weak task a set values is = and_first (exec_set task a values) (some_outcome_in task a set values) is
+preimage_inside Strong task a set values is = and_first (exec_set task a values) (every_outcome_in task a set values) is
+preimage_inside Cyclic task a set values is = and_first (exec_set task a values) (some_outcome_in task a set values) is
 
 -- joined with a part of itself a set is itself
 absorbed : (g p : Bool) → (p ≡ true → g ≡ true) → (g || p) ≡ g
@@ -265,9 +238,9 @@ joined_part g p part = fun_ext (λ values. absorbed (g values) (p values) (part 
 
 -- and what is new of the part is nothing
 nothing_new : (x g p : Bool) → (g || p) ≡ g → (x || (p && not g)) ≡ x
-nothing_new x true true e = sym (or_false x)
-nothing_new x true false e = sym (or_false x)
-nothing_new x false false e = sym (or_false x)
+nothing_new x true true e = sym (or_none x)
+nothing_new x true false e = sym (or_none x)
+nothing_new x false false e = sym (or_none x)
 nothing_new x false true e = absurd (true≢false e)
 
 with_own : (h : ℕ → Function) (a : ℕ) (set : Function) → set ≡ h a → with_set h a set ≡ h
@@ -366,18 +339,6 @@ joined_new start x mid now old half new f g hits a before after long has first s
       by_next = record { by_layer = layer_still start mid now half new 0 1 _ half_long begun.by_next.by_layer.at second (omega arith) f untaken begun.by_next.by_layer; holds_next = second.here ∙ grown };
       noted = inl noted;
     }
-
--- what a note leaves
-pub noted_then : {T : Type 0} (start : Start) (now : Encoded) (slots : List SetId) (P Q : Type 0) (result : Result T SetErr) → IfErr result (λ e. e ≡ Memory) → OnOk result P → At start now slots → (P → Q) → Left start now slots Q result
-noted_then start now slots P Q (Ok x) never done at then = then done
-noted_then start now slots P Q (Err e) never done at then = (at, λ full. absurd (let no : Memory ≡ Full = sym never ∙ full in cc))
-
--- a refusal for want of memory that is passed on
-pub memory_passed : {S T : Type 0} (start : Start) (now : Encoded) (slots : List SetId) (Q : T → Type 0) (inner : Result S SetErr) (outer : Result T SetErr) (e : SetErr) → inner ≡ Err e → (x : SetErr) × (outer ≡ Err x) × (x ≡ e) → IfErr inner (λ e. e ≡ Memory) → At start now slots
-    → Ends start now slots Q outer
-memory_passed start now slots Q inner outer e was p never at =
-    let memory : e ≡ Memory = subst (λ r. IfErr r (λ e. e ≡ Memory)) was never in
-    subst (Ends start now slots Q) (sym p.1) (at, λ full. absurd (let no : Memory ≡ Full = sym memory ∙ sym p.2 ∙ full in cc))
 
 -- at first the next layer is this one
 pub grown_first : {k : ℕ} (class : Class) (start : Start) (x now : Encoded) (old new : List SetId) (f : Function) (h : ℕ → Function) (steps : List Step) (spent : List Bool) → length old ≡ 4 → BeginsRound class start x old k f h steps spent → Moved start x.sets old now new 1 (set_at x.sets old 0) → HasGrown class start now new k f h 0 steps spent
@@ -552,14 +513,10 @@ at_first start x now old new n slot long has is m =
     }
 
 -- each of the steps is one of the task
-and_right : (b c : Bool) → (b && c) ≡ true → c ≡ true
-and_right true c e = e
-and_right false c e = absurd (true≢false (sym e))
-
 pub step_passes : (n : ℕ) (steps : List Step) (i : ℕ) (x : Step) → list_all (is_step_of n) steps ≡ true → i < length steps → is_step_of n (get_or steps i x) ≡ true
 step_passes n [] i x all within = absurd (omega arith)
-step_passes n (step ∷ steps) zero x all within = and_left (is_step_of n step) (list_all (is_step_of n) steps) all
-step_passes n (step ∷ steps) (suc i) x all within = step_passes n steps i x (and_right (is_step_of n step) (list_all (is_step_of n) steps) all) (omega arith)
+step_passes n (step ∷ steps) zero x all within = and_first (is_step_of n step) (list_all (is_step_of n) steps) all
+step_passes n (step ∷ steps) (suc i) x all within = step_passes n steps i x (and_second (is_step_of n step) (list_all (is_step_of n) steps) all) (omega arith)
 
 -- a list of steps and one more
 pub after_one_more : (class : Class) (task : Task) (here : Progress) (front rest : List Step) (step : Step) → rest ≡ front ++ step ∷ [] → after_step class task (after_steps class task here front) step ≡ after_steps class task here rest

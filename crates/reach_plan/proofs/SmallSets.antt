@@ -1,6 +1,5 @@
 -- The sets that a search makes are working sets, or are made of two of these.
 use Rattle.std.proofs.Common.{◌≡◌, ℕ, zero, suc, ◌+◌, ◌<◌, ◌≤◌, Bool, true, false, ◌&&◌, ◌||◌, not, ◌^◌, List, [], ◌∷◌, length, take, take_all, nat_lt, refl, sym, ap, subst, ◌∙◌, ⊎_elim, arith}
-use native.Mathlib.Nat.{pow-succ'}
 use Rattle.std.specs.List.{list_all, list_any, range_with_len}
 use Rattle.std.proofs.Math.Path.{fun_ext}
 use Rattle.std.proofs.lemmas.Bool.{cases_lt, cond-false, cond-true, lt-ltb, ltb-true, false_from_ne_true}
@@ -12,7 +11,8 @@ use Rattle.dd_ops.specs.Operations.{minus_of, or_of}
 use Rattle.dd_sets.specs.Rooms.{Small}
 use Rattle.dd_sets.proofs.OperationSizes.{agreeing_sized}
 use Rattle.dd_sets.proofs.SizeLemmas.{every_small}
-use Rattle.encode_task.specs.TaskSets.{exec_set, first_values, initial_set, space_set}
+use Rattle.encode_task.specs.TaskSets.{exec_set, first_values, initial_set, space_set, states_in}
+use Rattle.encode_task.proofs.StateVectors.{at_state, length_first, own_values}
 use Rattle.preimage.proofs.OutcomeLemmas.{strong_leads, weak_leads}
 use Rattle.preimage.proofs.SizeLemmas.{every_fits, some_fits}
 use Rattle.preimage.specs.WorkingSets.{IsMadeByRound, PreimageFits, first_every, first_some, hits_at, some_below}
@@ -26,13 +26,14 @@ use Rattle.task_core.specs.declared.classes.Class.TheVariants.{Weak, Strong, Cyc
 use Rattle.task_core.specs.declared.tasks.Task.{Task}
 use Rattle.plan_theory.specs.Layers.{IsLastLayer, layer}
 use Rattle.plan_theory.specs.LayerPlans.{takers}
+use Rattle.list_laws.proofs.Numbers.{below_power_two}
 use Rattle.list_laws.proofs.Ranges.{range-more}
 use Rattle.reach_plan.specs.LayerSets.{AreTakers, IsLayerSet, class_preimage, grown, taken_by}
 use Rattle.reach_plan.specs.Steps.{IsTaken, IsWithinRound, Progress}
-use Rattle.reach_plan.specs.WorkingSets.{BoundsReachSets, first_of, states_in}
+use Rattle.reach_plan.specs.WorkingSets.{BoundsReachSets, first_of}
 use Rattle.reach_plan.specs.WorkingSets.IsRoundSet.{initial_round, layer_round, space_round}
 use Rattle.reach_plan.specs.WorkingSets.IsWorkingSet.{by_rounds, taken}
-use Rattle.reach_plan.proofs.SetLayers.{at_state, next_takers, own_values, state_of}
+use Rattle.reach_plan.proofs.SetLayers.{next_takers}
 
 -- an action's preimage is its hits
 pub preimage_hits : (class : Class) (task : Task) (set : Function) (a : ℕ) → class_preimage class task a set ≡ hits_at (first_of class) task set a
@@ -72,7 +73,7 @@ grown_joined class task set m = fun_ext (λ values. ap (λ b. set values || b) (
 -- a layer's set is the function of its states
 layer_function : (class : Class) (task : Task) (k : ℕ) (set : Function) → IsLayerSet class task k set → set ≡ states_in task (layer class (system_of task) k)
 layer_function class task k set is = fun_ext (λ values.
-    at_state (fluent_count task) set is.depends values ∙ is.agrees (first_values (fluent_count task) values) (state_of (fluent_count task) values))
+    at_state (fluent_count task) set is.depends values ∙ is.agrees (first_values (fluent_count task) values) (length_first (fluent_count task) values))
 
 -- what a preimage of a set makes is small, where all that belongs to the set and to the states is
 fits_by : (class : Class) (width : ℕ) (task : Task) (a : ℕ) (set : Function) → a < action_count task → fluent_count task + 2 ≤ width
@@ -173,9 +174,5 @@ module _ (width : ℕ) (class : Class) (task : Task) (wide : BoundsReachSets wid
   takes_small a within = taken_small width class task wide layers a (here.taken a) last within (at.is_taken a within)
 
 -- every set is small by a large enough width
-below_power : (n : ℕ) → n + 2 ≤ 2 ^ n + 1
-below_power zero = omega arith
-below_power (suc n) = let less : n + 2 ≤ 2 ^ n + 1 = below_power n in omega (arith, pow-succ' 2 n)
-
 pub wide_enough : (class : Class) (task : Task) → BoundsReachSets (2 ^ fluent_count task + 1) class task
-wide_enough class task = record { wide = below_power (fluent_count task); each = λ set made. every_small (fluent_count task) set }
+wide_enough class task = record { wide = below_power_two (fluent_count task); each = λ set made. every_small (fluent_count task) set }

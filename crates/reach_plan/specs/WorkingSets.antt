@@ -2,20 +2,15 @@
 use Rattle.std.specs.Prelude.{ℕ, ◌+◌, ◌<◌, ◌≤◌}
 use Rattle.dd_nodes.specs.Subfunctions.{Function}
 use Rattle.dd_sets.specs.Rooms.{Small}
-use Rattle.encode_task.specs.TaskSets.{first_values, initial_set, space_set}
+use Rattle.encode_task.specs.TaskSets.{initial_set, space_set, states_in}
 use Rattle.encode_task.specs.WorkingSets.{IsMadeByEncode}
 use Rattle.preimage.specs.WorkingSets.{IsMadeByRounds, first_every, first_some}
-use Rattle.task_core.specs.Cubes.{SetOfVectors}
 use Rattle.task_core.specs.Tasks.{action_count, fluent_count, system_of}
 use Rattle.task_core.specs.declared.classes.Class.{Class}
 use Rattle.task_core.specs.declared.classes.Class.TheVariants.{Weak, Strong, Cyclic}
 use Rattle.task_core.specs.declared.tasks.Task.{Task}
 use Rattle.plan_theory.specs.Layers.{IsLastLayer, layer}
 use Rattle.plan_theory.specs.LayerPlans.{takers}
-
--- the function that is true on the states of a set
-abbrev pub states_in : Task → SetOfVectors → Function
-states_in task set values = set (first_values (fluent_count task) values)
 
 -- how the first outcomes of an action are to lead into a set: some one of them for weak plans, every
 -- one for strong plans

@@ -18,7 +18,7 @@ use Rattle.task_core.specs.Vectors.{same_value}
 use Rattle.task_core.specs.declared.literals.Lit.{Lit}
 use Rattle.plan_rules.specs.Plans.{IsCubeOf}
 use Rattle.list_laws.proofs.Elements.{Contains-map, Contains-range_with_len, list_any-from}
-use Rattle.refute_cert.specs.Sets.{cube_set}
+use Rattle.encode_task.specs.TaskSets.{cube_set}
 
 -- the literals of the fluents below k, and of those from k on
 low_part : ℕ → Cube → Function

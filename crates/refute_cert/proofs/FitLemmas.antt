@@ -1,23 +1,17 @@
 -- What a whole verdict asks of its board, by the sizes of its sets.
-use Rattle.std.proofs.Common.{◌≡◌, ℕ, zero, suc, ◌+◌, ◌<◌, ◌≤◌, List, [], ◌∷◌, drop, get_or, take, take_all, length, Option, None, Some, Result, Ok, Err, IsErrOf, IfOk, refl, sym, ap, subst, ◌∙◌, arith}
-use Rattle.std.proofs.lemmas.Bool.{false≢true}
+use Rattle.std.proofs.Common.{◌≡◌, ℕ, zero, suc, ◌+◌, ◌<◌, ◌≤◌, List, [], ◌∷◌, drop, get_or, take, take_all, length, refl, sym, ap, subst, ◌∙◌, arith}
 use Rattle.std.proofs.lemmas.List.Elements.{All-get_or}
 use Rattle.dd_nodes.specs.Subfunctions.{Function}
-use Rattle.dd_sets.specs.LiveSets.{LiveSets, nothing}
-use Rattle.std.specs.Prelude.{IsSome}
-use Rattle.task_core.specs.declared.conditions.Cond.{Cond}
-use Rattle.dd_sets.specs.declared.errors.SetErr.{SetErr}
-use Rattle.dd_sets.specs.declared.errors.SetErr.TheVariants.{Full}
-use Rattle.dd_sets.specs.declared.slots.SetId.{SetId}
+use Rattle.dd_sets.specs.LiveSets.{nothing}
 use Rattle.dd_ops.specs.Operations.{or_of}
-use Rattle.encode_task.specs.Made.{HoldsGoal, MadeOf}
+use Rattle.encode_task.specs.Made.{MadeOf}
 use Rattle.encode_task.specs.Slots.{Encoded}
 use Rattle.task_core.specs.Tasks.{fluent_count}
 use Rattle.task_core.specs.declared.classes.Class.{Class}
 use Rattle.task_core.specs.declared.tasks.Task.{Task}
 use Rattle.plan_certs.specs.Certificates.{CubeSet, set_at}
 use Rattle.plan_certs.specs.Named.{AreSetsOf, IsSetOf}
-use Rattle.slot_board.specs.Board.{At, Ends, HasNoRoom, IsSmall, Start}
+use Rattle.slot_board.specs.Board.{IsSmall, Start}
 use Rattle.refute_cert.specs.Sets.{states_in, states_of}
 use Rattle.refute_cert.specs.Sizes.{AreFit, IsBoard, JudgeFits, LeaveFits, SetsFit}
 use Rattle.board_steps.proofs.MakeLemmas.{at_any, drop_none, drop_suc}
@@ -73,25 +67,3 @@ module _ (start : Start) (class : Class) (sets : List CubeSet) (board : IsBoard 
 
 pub board_of : (task : Task) (enc : Encoded) (made : MadeOf task enc) (width : ℕ) (wide : fluent_count task + 2 ≤ width) → IsBoard (start_of task enc made width wide)
 board_of task enc made width wide = record { five = refl; cube = (0, omega arith, refl); left = (1, omega arith, refl) }
-
--- what an answer says
-pub at_end : {T : Type 0} (start : Start) (now : Encoded) (slots : List SetId) (P : T → Type 0) (result : Result T SetErr) → ((x : T) → P x → At start now slots) → Ends start now slots P result → At start now slots
-at_end start now slots P (Ok x) f ends = f x ends
-at_end start now slots P (Err e) f ends = ends.0
-
-pub full_at : {T : Type 0} (start : Start) (now : Encoded) (slots : List SetId) (P : T → Type 0) (result : Result T SetErr) → Ends start now slots P result → IsErrOf result Full → HasNoRoom start now
-full_at start now slots P (Ok x) ends full = absurd (let h : Ok x ≡ Err Full = full in cc)
-full_at start now slots P (Err e) ends full = ends.1 (let h : Err e ≡ Err Full = full in cc)
-
-pub ok_with : {T : Type 0} (start : Start) (now : Encoded) (slots : List SetId) (P Q : T → Type 0) (result : Result T SetErr) → ((x : T) → P x → Q x) → Ends start now slots P result → IfOk result Q
-ok_with start now slots P Q (Ok x) f ends = f x ends
-ok_with start now slots P Q (Err e) f ends = tt
-
--- the task's goal has a slot
-goal_in : (task : Task) (sets : LiveSets) (slot : Option SetId) (goal : Option Cond) → HoldsGoal task sets slot goal → IsSome goal → IsSome slot
-goal_in task sets None (Some goal) holds some = absurd holds
-goal_in task sets (Some slot) goal holds some = refl
-goal_in task sets None None holds some = absurd (false≢true some)
-
-pub goal_there : (task : Task) (enc : Encoded) → MadeOf task enc → IsSome task.goal → IsSome enc.goal
-goal_there task enc made some = goal_in task enc.sets enc.goal task.goal made.goal some

@@ -1,11 +1,13 @@
 -- Cubes by halves: what a literal adds to a cube, and what two halves of some cubes mean together.
-use Rattle.std.proofs.Common.{◌≡◌, ℕ, ◌+◌, ◌<◌, ◌/◌, ◌==◌, Bool, true, false, not, ◌&&◌, ◌||◌, List, [], ◌∷◌, ◌++◌, Vec, map, length, take, drop, take-append-drop, get_or, Result, Ok, Err, IsErrOf, refl, sym, ap, subst, ◌∙◌, arith}
+use Rattle.std.proofs.Common.{◌≡◌, ℕ, ◌+◌, ◌<◌, Bool, true, false, not, ◌&&◌, ◌||◌, List, [], ◌∷◌, ◌++◌, Vec, map, length, take, drop, get_or, Result, Ok, Err, IsErrOf, refl, sym, ap, subst, ◌∙◌, arith}
 use Rattle.std.specs.List.{list_any}
 use Rattle.std.specs.declared.alloc.Global.{Global}
-use Rattle.std.proofs.lemmas.Bool.{eq-eqb, true≢false}
+use Rattle.std.proofs.Math.Bool.{and-or_distrib_right}
+use Rattle.std.proofs.lemmas.Bool.{true≢false}
 use Rattle.std.proofs.lemmas.List.{drop-map, map-append, take-map}
 use Rattle.std.proofs.lemmas.List.Elements.{All-drop, All-take}
 use Rattle.std.proofs.lemmas.List.Folds.{list_all_more, list_any-append}
+use Rattle.list_laws.proofs.Booleans.{or_none}
 use Rattle.dd_nodes.specs.Subfunctions.{Function}
 use Rattle.dd_ops.specs.Operations.{and_of, minus_of, or_of, variable}
 use Rattle.dd_sets.specs.Calls.{KeepsSets}
@@ -16,6 +18,8 @@ use Rattle.dd_sets.specs.declared.errors.SetErr.TheVariants.{Full}
 use Rattle.dd_sets.specs.declared.slots.SetId.{SetId}
 use Rattle.dd_sets.proofs.OwnLemmas.{own_nothing}
 use Rattle.encode_task.specs.Slots.{Encoded}
+use Rattle.encode_task.specs.TaskSets.{cube_set}
+use Rattle.encode_task.proofs.HalfLemmas.{halves_are}
 use Rattle.task_core.specs.Cubes.{Cube}
 use Rattle.task_core.specs.Vectors.{same_value}
 use Rattle.task_core.specs.declared.literals.Lit.{Lit}
@@ -25,7 +29,7 @@ use Rattle.plan_rules.specs.Plans.{IsCubeOf}
 use Rattle.board_steps.proofs.MakeLemmas.{at_any}
 use Rattle.slot_board.specs.Board.{At, Moved, Start, slot_at}
 use Rattle.slot_board.proofs.BoardSlots.{at_same}
-use Rattle.refute_cert.specs.Sets.{cube_set, literal_set, some_cube}
+use Rattle.refute_cert.specs.Sets.{literal_set, some_cube}
 use Rattle.refute_cert.specs.Sizes.{HasSet, HasUnion}
 
 same_true : (b : Bool) → b ≡ same_value b true
@@ -53,18 +57,8 @@ pub both_halves : (xs ys cubes : CubeSet) → xs ++ ys ≡ cubes → or_of (some
 both_halves xs ys cubes are = λ j values.
     (sym (list_any-append (λ cube. cube_set cube values) xs ys) ∙ ap (λ set. some_cube set values) are) j
 
-or_false : (b : Bool) → b ≡ (b || false)
-or_false true = refl
-or_false false = refl
-
 pub one_cube : (cube : Cube) (cubes : CubeSet) → cubes ≡ cube ∷ [] → cube_set cube ≡ some_cube cubes
-one_cube cube cubes is = (λ j values. or_false (cube_set cube values) j) ∙ ap some_cube (sym is)
-
-distributes : (x y s : Bool) → ((x || y) && s) ≡ ((x && s) || (y && s))
-distributes true y true = refl
-distributes true true false = refl
-distributes true false false = refl
-distributes false y s = refl
+one_cube cube cubes is = (λ j values. or_none (cube_set cube values) j) ∙ ap some_cube (sym is)
 
 -- the states among what some of some cubes matches
 pub states_among : (set : CubeSet) (space : Function) → and_of (some_cube set) space ≡ (λ values. list_any (λ cube. cube_set cube values && space values) set)
@@ -73,7 +67,7 @@ states_among set space = λ j values. each set space values j
     each : (set : CubeSet) (space : Function) (values : ℕ → Bool) → (some_cube set values && space values) ≡ list_any (λ cube. cube_set cube values && space values) set
     each [] space values = refl
     each (cube ∷ set) space values =
-        distributes (cube_set cube values) (some_cube set values) (space values)
+        and-or_distrib_right (cube_set cube values) (some_cube set values) (space values)
         ∙ ap (λ b. (cube_set cube values && space values) || b) (each set space values)
 
 -- a refusal leaves the board as it was
@@ -121,15 +115,6 @@ live_after start enc now slots set result at owns k within = (answer_keeps enc.s
 -- the literal at a place, whatever the default
 pub cube_more_at : (cube : Cube) (i : ℕ) (d : Lit) → i < length cube → and_of (cube_set (take i cube)) (literal_set (get_or cube i d)) ≡ cube_set (take (i + 1) cube)
 cube_more_at cube i d within = cube_more cube i (get_or cube i d) within (at_any cube i d (get_or cube i d) within)
-
--- the halves of a list that has two elements at least
-pub halves_are : {X : Type 0} (mid : ℕ) (xs ys all : List X) → xs ≡ take mid all → ys ≡ drop mid all → xs ++ ys ≡ all
-halves_are mid xs ys all front back = (λ i. front i ++ back i) ∙ take-append-drop mid all
-
-pub halves_some : (n : ℕ) → (n == 0) ≡ false → (n ≡ 1 → ⊥) → (0 < n / 2) × (n / 2 < n)
-halves_some n some more =
-    let not_none : n ≡ 0 → ⊥ = λ none. true≢false (sym (eq-eqb n 0 none) ∙ some) in
-    (omega arith, omega arith)
 
 pub cubes_are : (mid : ℕ) (xs ys all : List (Vec Lit Global)) → xs ≡ take mid all → ys ≡ drop mid all → map cube_of xs ++ map cube_of ys ≡ map cube_of all
 cubes_are mid xs ys all front back = sym (map-append cube_of xs ys) ∙ ap (map cube_of) (halves_are mid xs ys all front back)

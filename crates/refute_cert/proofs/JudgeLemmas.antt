@@ -7,7 +7,7 @@ use Rattle.dd_sets.specs.LiveSets.{IsLive, nothing, set_of}
 use Rattle.dd_sets.specs.declared.errors.SetErr.{SetErr}
 use Rattle.dd_sets.specs.declared.slots.SetId.{SetId}
 use Rattle.encode_task.specs.Slots.{Encoded, exec_slot}
-use Rattle.encode_task.specs.TaskSets.{exec_set, space_set}
+use Rattle.encode_task.specs.TaskSets.{cube_set, exec_set, space_set}
 use Rattle.task_core.specs.Cubes.{Cube}
 use Rattle.task_core.specs.Tasks.{action_count, fluent_count}
 use Rattle.task_core.specs.declared.classes.Class.{Class}
@@ -17,7 +17,7 @@ use Rattle.plan_certs.specs.Certificates.{CubeSet}
 use Rattle.slot_board.specs.Board.{At, Left, Moved, Start, set_at}
 use Rattle.slot_board.proofs.BoardSlots.{action_within, depends, left_with}
 use Rattle.refute_cert.specs.Programs.{common_steps, fix_steps, set_steps, way_out_steps}
-use Rattle.refute_cert.specs.Sets.{contradicts, cube_set, meets, states_in, way_out_set}
+use Rattle.refute_cert.specs.Sets.{contradicts, meets, states_in, way_out_set}
 use Rattle.refute_cert.specs.Sizes.{CommonFits, CubesFit, HasLeft, HasSet, HasUnion, LeaveFits, SetFits}
 use Rattle.board_steps.specs.Steps.{CanMakeAll, Placed, Shows, after_steps, with_set}
 use Rattle.board_steps.specs.declared.steps.Step.{Step}

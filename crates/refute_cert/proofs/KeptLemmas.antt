@@ -1,13 +1,14 @@
 -- Sets that add nothing: where no action is a way out of some sets, none is a way out of a set whose states
 -- are all in their union.
-use Rattle.std.proofs.Common.{◌≡◌, ℕ, ◌<◌, Bool, true, false, not, ◌&&◌, ◌||◌, length, refl, sym, ap, ◌∙◌}
+use Rattle.std.proofs.Common.{◌≡◌, ℕ, ◌<◌, Bool, true, false, not, ◌&&◌, ◌||◌, length, refl, sym, ◌∙◌}
 use Rattle.std.specs.List.{list_any, range_with_len}
-use Rattle.std.proofs.lemmas.Bool.{and_from, and_parts, false≢true, or_left, true≢false}
+use Rattle.std.proofs.lemmas.Bool.{and_from, and_parts, false_from_ne_true, false≢true, or_left, true≢false}
 use Rattle.dd_nodes.specs.NodeList.{Values}
 use Rattle.dd_nodes.specs.Subfunctions.{Function}
 use Rattle.dd_ops.specs.Operations.{minus_of, or_of}
 use Rattle.dd_sets.specs.LiveSets.{nothing}
-use Rattle.encode_task.specs.TaskSets.{exec_set, space_set}
+use Rattle.dd_sets.proofs.SetLemmas.{inside_to}
+use Rattle.encode_task.specs.TaskSets.{cube_set, exec_set, space_set}
 use Rattle.preimage.specs.Preimages.{every_outcome_in, some_outcome_in, strong_preimage, weak_preimage}
 use Rattle.task_core.specs.Actions.{after_value}
 use Rattle.task_core.specs.Conditions.{holds}
@@ -18,8 +19,9 @@ use Rattle.task_core.specs.declared.classes.Class.TheVariants.{Weak, Strong, Cyc
 use Rattle.task_core.specs.declared.tasks.Task.{Task}
 use Rattle.task_core.proofs.Vectors.{all_vectors_has, all_vectors_length}
 use Rattle.plan_certs.specs.Certificates.{CubeSet}
+use Rattle.list_laws.proofs.Booleans.{not_up}
 use Rattle.list_laws.proofs.Elements.{Contains-range_with_len, Contains-range_with_len-below, list_all-at, list_all-from, list_any-from, list_any-witness}
-use Rattle.refute_cert.specs.Sets.{IsKept, cube_set, is_left, leaves_by, meets, states_in, way_out_set}
+use Rattle.refute_cert.specs.Sets.{IsKept, is_left, leaves_by, meets, states_in, way_out_set}
 
 -- a part of another set
 abbrev Part : Function → Function → Type 0
@@ -28,10 +30,6 @@ Part f g = (values : Values) → f values ≡ true → g values ≡ true
 imply : (s x y : Bool) → (x ≡ true → y ≡ true) → (not s || x) ≡ true → (not s || y) ≡ true
 imply true x y h e = h e
 imply false x y h e = refl
-
-not_less : (x y : Bool) → (x ≡ true → y ≡ true) → not y ≡ true → not x ≡ true
-not_less true y h e = sym (ap not (h refl)) ∙ e
-not_less false y h e = refl
 
 -- more is led into a larger set
 module _ (task : Task) (a : ℕ) (f g : Function) (part : Part f g) (values : Values) where
@@ -60,8 +58,8 @@ way_less task a f g more others first both values is =
     let q = and_parts (exec_set task a values) (not (weak_preimage task a more values)) p.0 in
     and_from (exec_set task a values && not (weak_preimage task a f values)) (not (strong_preimage task a (or_of f g) values))
     (and_from (exec_set task a values) (not (weak_preimage task a f values)) q.0
-    (not_less (weak_preimage task a f values) (weak_preimage task a more values) (weak_more task a f more first values) q.1))
-    (not_less (strong_preimage task a (or_of f g) values) (strong_preimage task a (or_of more others) values) (strong_more task a (or_of f g) (or_of more others) both values) p.1)
+    (not_up (weak_preimage task a f values) (weak_preimage task a more values) (weak_more task a f more first values) q.1))
+    (not_up (strong_preimage task a (or_of f g) values) (strong_preimage task a (or_of more others) values) (strong_more task a (or_of f g) (or_of more others) both values) p.1)
 
 -- it can be executed there, so it is a state
 way_space : (task : Task) (a : ℕ) (f g : Function) (values : Values) → way_out_set Cyclic task f g a values ≡ true → space_set task values ≡ true
@@ -84,14 +82,6 @@ either_same false e = e
 part_twice : (f g : Function) → Part (or_of f f) (or_of f g)
 part_twice f g values is = or_left (f values) (g values) (either_same (f values) is)
 
-in_first : (x y : Bool) → (y && not x) ≡ false → y ≡ true → x ≡ true
-in_first true y none is = refl
-in_first false y none is = absurd (true≢false (sym (ap (λ b. b && true) is) ∙ none))
-
-never : (b : Bool) → (b ≡ true → ⊥) → b ≡ false
-never true h = absurd (h refl)
-never false h = refl
-
 module _ (task : Task) (f : Function) (set : CubeSet) (kept : IsKept Cyclic task f) where
   -- a set that adds nothing has no way out
   none_left : minus_of (states_in task set) f ≡ nothing → is_left Cyclic task f set ≡ true → ⊥
@@ -105,12 +95,12 @@ module _ (task : Task) (f : Function) (set : CubeSet) (kept : IsKept Cyclic task
       let inside : states_in task set values ≡ true =
       list_any-from (λ cube. cube_set cube values && space_set task values) set x.0 x.1
       (and_from (cube_set x.0 values) (space_set task values) p.0 (way_space task w.0 f (states_in task set) values p.1)) in
-      let before : f values ≡ true = in_first (f values) (states_in task set values) (λ i. none i values) inside in
+      let before : f values ≡ true = inside_to (states_in task set values) (f values) (λ i. none i values) inside in
       true≢false (sym (way_less task w.0 f f f (states_in task set) (part_same f) (part_twice f (states_in task set)) values p.1)
       ∙ kept w.0 (Contains-range_with_len-below (action_count task) w.0 w.1) y.0 (all_vectors_length (fluent_count task) y.0 y.1) before)
 
   pub not_left : minus_of (states_in task set) f ≡ nothing → false ≡ is_left Cyclic task f set
-  not_left none = sym (never (is_left Cyclic task f set) (none_left none))
+  not_left none = sym (false_from_ne_true (is_left Cyclic task f set) (none_left none))
 
   -- where a set has no way out, the union with it has none
   still_kept : is_left Cyclic task f set ≡ false → (a : ℕ) → a < action_count task → (v : Vector) → length v ≡ fluent_count task → or_of f (states_in task set) (value_of v) ≡ true
@@ -140,7 +130,7 @@ pub next_kept : (class : Class) (task : Task) (f : Function) (set : CubeSet) →
 next_kept Weak task f set kept none = tt
 next_kept Strong task f set kept none = tt
 next_kept Cyclic task f set kept none = λ a below v long inside.
-    never (way_out_set Cyclic task (or_of f (states_in task set)) (or_of f (states_in task set)) a (value_of v)) (still_kept task f set kept (sym none) a below v long inside)
+    false_from_ne_true (way_out_set Cyclic task (or_of f (states_in task set)) (or_of f (states_in task set)) a (value_of v)) (still_kept task f set kept (sym none) a below v long inside)
 
 pub nothing_kept : (class : Class) (task : Task) → IsKept class task nothing
 nothing_kept Weak task = tt

@@ -1,46 +1,23 @@
 -- What is looked up on the board: whether two sets have a vector in common, and whether a cube matches
 -- some of a set once its literals are fixed there.
-use Rattle.std.proofs.Common.{◌≡◌, ◌≢◌, ◌↔◌, IsTrue, ℕ, ◌<◌, ◌==◌, Bool, true, false, not, ◌&&◌, ◌||◌, [], ◌∷◌, length, refl, sym, ap, ◌∙◌, ⊎_elim, arith}
-use Rattle.std.specs.List.{Contains, list_any, range_with_len}
-use Rattle.std.proofs.lemmas.List.{length-map}
-use Rattle.std.proofs.lemmas.List.FromFn.{length-range_with_len}
-use Rattle.std.proofs.Math.Path.{fun_ext}
-use Rattle.std.proofs.lemmas.Bool.{and_from, and_parts, cases_eq, cond-false, cond-true, eq-eqb, eqb-true, false≢true, ne_eqb, true≢false}
+use Rattle.std.proofs.Common.{◌≡◌, ◌≢◌, ◌↔◌, IsTrue, ℕ, ◌<◌, ◌==◌, Bool, true, false, not, ◌&&◌, ◌||◌, [], ◌∷◌, refl, sym, ap, ◌∙◌, ⊎_elim, arith}
+use Rattle.std.specs.List.{Contains, list_any}
+use Rattle.std.proofs.lemmas.Bool.{and_from, and_parts, cases_eq, cond-false, cond-true, eq-eqb, eqb-true, false_from_ne_true, false≢true, ne_eqb, or_parts, true≢false}
 use Rattle.std.proofs.lemmas.List.Elements.{All-head, All-tail}
 use Rattle.dd_nodes.specs.NodeList.{Values, with_value}
 use Rattle.dd_nodes.specs.Subfunctions.{DependsOnly, Function}
 use Rattle.dd_ops.specs.Operations.{and_of, cofactor_of}
 use Rattle.dd_ops.proofs.QuestionLemmas.{with_value_own}
 use Rattle.dd_sets.specs.LiveSets.{nothing}
-use Rattle.encode_task.specs.TaskSets.{first_values}
-use Rattle.encode_task.proofs.ShownLemmas.{value_computed}
+use Rattle.encode_task.specs.TaskSets.{cube_set, first_values}
+use Rattle.encode_task.proofs.StateVectors.{at_state, length_first, some_there}
 use Rattle.task_core.specs.Cubes.{Cube}
 use Rattle.task_core.specs.Vectors.{Vector, all_vectors, same_value, value_of}
 use Rattle.task_core.specs.declared.literals.Lit.{Lit}
-use Rattle.task_core.proofs.Vectors.{all_vectors_has, all_vectors_length}
+use Rattle.task_core.proofs.Vectors.{all_vectors_has, same_value_equal}
 use Rattle.plan_rules.specs.Plans.{IsCubeOf}
 use Rattle.list_laws.proofs.Elements.{Contains-cases, Contains-nil, list_all-at, list_all-from, list_any-false, list_any-from, list_any-none, list_any-witness}
-use Rattle.refute_cert.specs.Sets.{contradicts, cube_set, is_opposite, meets}
-
-length_first : (n : ℕ) (values : Values) → length (first_values n values) ≡ n
-length_first n values = omega (arith, length-map (range_with_len 0 n) values, length-range_with_len 0 n)
-
--- a set that depends on n values has what has the same n
-same_first : (n : ℕ) (set : Function) (values : Values) → DependsOnly 0 n set → set (value_of (first_values n values)) ≡ set values
-same_first n set values only = only (value_of (first_values n values)) values (λ u low l. value_computed values n u l)
-
--- it is empty, or has a vector
-none_there : (n : ℕ) (set : Function) → DependsOnly 0 n set → list_any (λ v. set (value_of v)) (all_vectors n) ≡ false → set ≡ nothing
-none_there n set only none = fun_ext (λ values.
-    sym (same_first n set values only)
-    ∙ list_any-false (λ v. set (value_of v)) (all_vectors n) (first_values n values) none (all_vectors_has n (first_values n values) (length_first n values)))
-
-some_there : (n : ℕ) (set : Function) → DependsOnly 0 n set → (set ≡ nothing → ⊥) → (v : Vector) × (length v ≡ n) × (set (value_of v) ≡ true)
-some_there n set only some = by_test (list_any (λ v. set (value_of v)) (all_vectors n)) refl
-  where
-    by_test : (b : Bool) → list_any (λ v. set (value_of v)) (all_vectors n) ≡ b → (v : Vector) × (length v ≡ n) × (set (value_of v) ≡ true)
-    by_test true e = let w = list_any-witness (λ v. set (value_of v)) (all_vectors n) e in (w.0, all_vectors_length n w.0 w.1, w.2)
-    by_test false e = absurd (some (none_there n set only e))
+use Rattle.refute_cert.specs.Sets.{contradicts, is_opposite, meets}
 
 true_of : (x y : Bool) → x ≡ true → y ≡ true → x ≡ y
 true_of x y a b = a ∙ sym b
@@ -69,11 +46,6 @@ unfolding fixed assigned
 fixed_at [] b values = refl
 fixed_at (lit ∷ lits) b values = fixed_at lits (cofactor_of b lit.fluent.0 lit.positive) values
 
-same_from : (x p : Bool) → same_value x p ≡ true → x ≡ p
-same_from true p e = sym e
-same_from false true e = absurd (false≢true e)
-same_from false false e = refl
-
 -- values that a cube matches stay
 assigned_same : (lits : Cube) (values : Values) → cube_set lits values ≡ true → assigned lits values ≡ values
 unfolding assigned
@@ -81,7 +53,7 @@ assigned_same [] values matched = refl
 assigned_same (lit ∷ lits) values matched =
     let parts = and_parts (same_value (values lit.fluent.0) lit.positive) (cube_set lits values) matched in
     ap (λ (w : Values). with_value w lit.fluent.0 lit.positive) (assigned_same lits values parts.1)
-    ∙ with_value_own values lit.fluent.0 lit.positive (same_from (values lit.fluent.0) lit.positive parts.0)
+    ∙ with_value_own values lit.fluent.0 lit.positive (same_value_equal (values lit.fluent.0) lit.positive parts.0)
 
 -- a literal that none is opposite to has its value
 not_opposite : (p q : Bool) → not (same_value p q) ≡ false → q ≡ p
@@ -89,10 +61,6 @@ not_opposite true true e = refl
 not_opposite true false e = absurd (true≢false e)
 not_opposite false true e = absurd (true≢false e)
 not_opposite false false e = refl
-
-or_parts : (x y : Bool) → (x || y) ≡ false → (x ≡ false) × (y ≡ false)
-or_parts true y e = absurd (true≢false e)
-or_parts false y e = (refl, e)
 
 assigned_has : (lits : Cube) (lit : Lit) (values : Values) → Contains lits lit → list_any (is_opposite lit) lits ≡ false → assigned lits values lit.fluent.0 ≡ lit.positive
 unfolding assigned
@@ -161,20 +129,16 @@ module _ (n : ℕ) (cube : Cube) (b : Function) (below : IsCubeOf n cube) (only 
       let v : Vector = first_values n at in
       list_any-from (λ v. cube_set cube (value_of v) && b (value_of v)) (all_vectors n) v (all_vectors_has n v (length_first n at))
       (and_from (cube_set cube (value_of v)) (b (value_of v))
-      (same_first n (cube_set cube) at (cube_depends n cube below) ∙ assigned_matches cube (value_of w.0) none)
-      (same_first n b at only ∙ sym (fixed_at cube b (value_of w.0)) ∙ w.2))
+      (sym (at_state n (cube_set cube) (cube_depends n cube below) at) ∙ assigned_matches cube (value_of w.0) none)
+      (sym (at_state n b only at) ∙ sym (fixed_at cube b (value_of w.0)) ∙ w.2))
 
   matched_left : meets n (cube_set cube) b ≡ true → (fixed cube b ≡ nothing → ⊥) × (contradicts cube ≡ false)
   matched_left met =
       let w = list_any-witness (λ v. cube_set cube (value_of v) && b (value_of v)) (all_vectors n) met in
       let parts = and_parts (cube_set cube (value_of w.0)) (b (value_of w.0)) w.2 in (
         λ none. true≢false (sym parts.1 ∙ ap b (sym (assigned_same cube (value_of w.0) parts.0)) ∙ sym (fixed_at cube b (value_of w.0)) ∙ ap (λ (s : Function). s (value_of w.0)) none),
-        not_true (contradicts cube) (λ against. matched_agrees cube (value_of w.0) parts.0 against),
+        false_from_ne_true (contradicts cube) (λ against. matched_agrees cube (value_of w.0) parts.0 against),
       )
-    where
-      not_true : (x : Bool) → (x ≡ true → ⊥) → x ≡ false
-      not_true true h = absurd (h refl)
-      not_true false h = refl
 
   pub cube_found : (set : Function) → set ≡ fixed cube b → (found : Bool) → (IsTrue found ↔ (((set ≡ nothing) → ⊥) × (contradicts cube ≡ false))) → found ≡ meets n (cube_set cube) b
   cube_found set is true found = let h = found.0 refl in sym (left_matched (λ e. h.0 (is ∙ e)) h.1)

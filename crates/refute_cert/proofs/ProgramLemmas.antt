@@ -1,67 +1,41 @@
 -- The steps that make a set of a certificate can be made, and make it.
-use Rattle.std.proofs.Common.{◌≡◌, ◌≢◌, ℕ, suc, ◌<◌, Bool, true, false, not, ◌&&◌, ◌||◌, [], ◌∷◌, ◌++◌, take, refl, sym, ap, subst, ◌∙◌, inl, inr, arith, append-nil, append_assoc}
+use Rattle.std.proofs.Common.{◌≡◌, ◌≢◌, ℕ, suc, ◌<◌, ◌&&◌, ◌||◌, [], ◌∷◌, ◌++◌, take, refl, sym, ap, subst, ◌∙◌, inl, inr, arith, append-nil, append_assoc}
 use Rattle.std.specs.List.{flat_map}
 use Rattle.std.proofs.Math.Path.{fun_ext}
-use Rattle.std.proofs.lemmas.List.Folds.{list_all-append, list_any-append}
+use Rattle.std.proofs.lemmas.List.Folds.{list_any-append}
 use Rattle.std.proofs.lemmas.List.Elements.{All-head, All-nil, All-push, All-tail}
-use Rattle.dd_nodes.specs.NodeList.{Values}
+use Rattle.list_laws.proofs.Booleans.{and_not, or_none}
 use Rattle.dd_nodes.specs.Subfunctions.{Function}
 use Rattle.dd_ops.specs.Operations.{and_of, minus_of, or_of, variable}
 use Rattle.dd_sets.specs.LiveSets.{IsLive, everything, nothing, set_of}
 use Rattle.dd_sets.specs.declared.slots.SetId.{SetId}
 use Rattle.dd_sets.proofs.OperationSizes.{meet_rough, variable_small}
-use Rattle.encode_task.specs.TaskSets.{space_set}
+use Rattle.encode_task.specs.TaskSets.{cube_set, space_set}
 use Rattle.task_core.specs.Cubes.{Cube}
 use Rattle.task_core.specs.Tasks.{fluent_count}
-use Rattle.task_core.specs.Vectors.{same_value}
 use Rattle.task_core.specs.declared.literals.Lit.{Lit}
 use Rattle.plan_rules.specs.Plans.{IsCubeOf}
 use Rattle.plan_certs.specs.Certificates.{CubeSet}
 use Rattle.plan_certs.specs.Named.{IsSetOf}
-use Rattle.slot_board.specs.Board.{IsSmall, Start, combined}
+use Rattle.slot_board.specs.Board.{IsSmall, Start, combined, sign_of}
 use Rattle.slot_board.specs.declared.board.Operation.TheVariants.{Minus}
 use Rattle.slot_board.proofs.BoardSizes.{nothing_small}
-use Rattle.refute_cert.specs.Programs.{cube_steps, literal_steps, set_steps, sign_of, state_steps}
-use Rattle.refute_cert.specs.Sets.{cube_set, states_in}
+use Rattle.slot_board.proofs.Literals.{literal_is}
+use Rattle.refute_cert.specs.Programs.{cube_steps, literal_steps, set_steps, state_steps}
+use Rattle.refute_cert.specs.Sets.{states_in}
 use Rattle.refute_cert.specs.Sizes.{IsBoard, SetFits}
 use Rattle.board_steps.specs.Steps.{CanMakeAll, Placed, after_step, after_steps, with_set}
 use Rattle.board_steps.specs.declared.steps.Step.TheVariants.{Fluent, Combine}
 use Rattle.board_steps.proofs.StepLemmas.{after_append, can_append, with_other}
 
-same_true : (x : Bool) → x ≡ (same_value x true && true)
-same_true true = refl
-same_true false = refl
-
-same_false : (x : Bool) → not x ≡ (same_value x false && true)
-same_false true = refl
-same_false false = refl
-
-literal_at : (b : Bool) (g : Function) (f : ℕ) (values : Values) → combined (sign_of b) g (variable f) values ≡ (g values && (same_value (values f) b && true))
-literal_at true g f values = ap (λ t. g values && t) (same_true (values f))
-literal_at false g f values = ap (λ t. g values && t) (same_false (values f))
-
--- one literal more of a cube
-literal_set : (done : Cube) (lit : Lit) → combined (sign_of lit.positive) (cube_set done) (variable lit.fluent.0) ≡ cube_set (done ++ lit ∷ [])
-literal_set done lit = fun_ext (λ values.
-    literal_at lit.positive (cube_set done) lit.fluent.0 values
-    ∙ sym (list_all-append (λ (l : Lit). same_value (values l.fluent.0) l.positive) done (lit ∷ [])))
-
 -- the states that one cube more matches
-or_none : (b : Bool) → b ≡ (b || false)
-or_none true = refl
-or_none false = refl
-
 states_added : (start : Start) (done : CubeSet) (cube : Cube) → or_of (states_in start.task done) (and_of (cube_set cube) (space_set start.task)) ≡ states_in start.task (done ++ cube ∷ [])
 states_added start done cube = fun_ext (λ values.
     ap (λ b. states_in start.task done values || b) (or_none (cube_set cube values && space_set start.task values))
     ∙ sym (list_any-append (λ (c : Cube). cube_set c values && space_set start.task values) done (cube ∷ [])))
 
-minus_same : (b : Bool) → (b && not b) ≡ false
-minus_same true = refl
-minus_same false = refl
-
 pub minus_itself : (f : Function) → minus_of f f ≡ nothing
-minus_itself f = fun_ext (λ values. minus_same (f values))
+minus_itself f = fun_ext (λ values. and_not (f values))
 
 pub nothing_fits : (start : Start) → IsSmall start nothing
 nothing_fits start = nothing_small (fluent_count start.task) start.width start.wide
@@ -71,7 +45,7 @@ fluent_fits start f low = variable_small (fluent_count start.task) start.width f
 
 module _ (start : Start) (board : IsBoard start) (small : (cube : Cube) → IsCubeOf (fluent_count start.task) cube → IsSmall start (cube_set cube)) where
   literal_made : (q : Placed) (done : Cube) (lit : Lit) → q 2 ≡ cube_set done → combined (sign_of lit.positive) (q 2) (variable lit.fluent.0) ≡ cube_set (done ++ lit ∷ [])
-  literal_made q done lit is = ap (λ g. combined (sign_of lit.positive) g (variable lit.fluent.0)) is ∙ literal_set done lit
+  literal_made q done lit is = ap (λ g. combined (sign_of lit.positive) g (variable lit.fluent.0)) is ∙ literal_is done lit
 
   with_literal : Placed → Lit → Placed
   with_literal q lit = after_steps start q (literal_steps lit)

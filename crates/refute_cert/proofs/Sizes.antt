@@ -2,6 +2,7 @@
 -- small for w, those of a verdict are for a number whose square is little more than w ^ 3.
 use Rattle.std.proofs.Common.{◌≡◌, ℕ, zero, suc, ◌+◌, ◌*◌, ◌^◌, ◌<◌, ◌≤◌, not, ◌&&◌, List, [], ◌∷◌, take, length, refl, sym, subst, ⊎_elim, arith, mul-le-mul_right}
 use Rattle.std.proofs.lemmas.Bool.{cases_lt}
+use Rattle.list_laws.proofs.Numbers.{below_power_two}
 use Rattle.dd_nodes.specs.Subfunctions.{Function, nodes}
 use Rattle.dd_ops.specs.Operations.{minus_of, or_of}
 use Rattle.dd_sets.specs.LiveSets.{LiveSets, live_sets}
@@ -9,7 +10,7 @@ use Rattle.dd_sets.specs.Rooms.{AreRough, NoRoom, Rough, Small}
 use Rattle.dd_sets.proofs.NoRoomLemmas.{no_room_small}
 use Rattle.dd_sets.proofs.OperationSizes.{difference_rough, nodes_of_both}
 use Rattle.dd_sets.proofs.SizeLemmas.{every_small, small_rough, small_wider}
-use Rattle.encode_task.specs.TaskSets.{exec_set, initial_set, lands_set, led_into, space_set}
+use Rattle.encode_task.specs.TaskSets.{cube_set, exec_set, goal_states_set, initial_set, lands_set, led_into, space_set}
 use Rattle.preimage.specs.Preimages.{strong_preimage, weak_preimage}
 use Rattle.preimage.specs.WorkingSets.{IsMadeByRound, PreimageFits, first_every, first_some, hits_at}
 use Rattle.preimage.specs.WorkingSets.IsMadeByRound.{itself}
@@ -19,7 +20,7 @@ use Rattle.task_core.specs.declared.classes.Class.{Class}
 use Rattle.task_core.specs.declared.classes.Class.TheVariants.{Weak, Strong, Cyclic}
 use Rattle.task_core.specs.declared.tasks.Task.{Task}
 use Rattle.plan_certs.specs.Certificates.{CubeSet, PlainCertificate, set_at}
-use Rattle.refute_cert.specs.Sets.{cube_set, goal_states_set, states_in, states_of, way_out_set}
+use Rattle.refute_cert.specs.Sets.{states_in, states_of, way_out_set}
 use Rattle.refute_cert.specs.Sizes.{AreFit, IsRoundSet, BoundsJudgedSets, WayFits}
 use Rattle.refute_cert.proofs.CubeNodes.{cube_small}
 use Rattle.board_steps.proofs.MakeLemmas.{at_any}
@@ -28,20 +29,12 @@ use Rattle.refute_cert.specs.Sizes.IsRoundSet.{initial, space, one_set, first_se
 use Rattle.refute_cert.specs.Sizes.IsWorkingSet.{goal, first_cubes, by_some, by_every}
 
 -- for the large width
-large_wide : (n : ℕ) → n + 2 ≤ 2 ^ n + 1
-large_wide zero = omega arith
-large_wide (suc n) = let e : n + 2 ≤ 2 ^ n + 1 = large_wide n in let one : 1 ≤ 2 ^ n = power_some n in omega arith
-  where
-    power_some : (n : ℕ) → 1 ≤ 2 ^ n
-    power_some zero = omega arith
-    power_some (suc n) = let e : 1 ≤ 2 ^ n = power_some n in omega arith
-
 every_rough : (n : ℕ) (set : Function) → Rough n (2 ^ n + 1) set
 every_rough n set = small_rough n (2 ^ n + 1) set (every_small n set)
 
 every_preimage : (task : Task) (a : ℕ) (first : Task → ℕ → ℕ → Function → Function) (set : Function) → PreimageFits (2 ^ fluent_count task + 1) task a first set
 every_preimage task a first set = record {
-  wide = large_wide (fluent_count task);
+  wide = below_power_two (fluent_count task);
   given = every_small (fluent_count task) set;
   exec = every_small (fluent_count task) (exec_set task a);
   lands = λ o low. every_small (fluent_count task) (lands_set task a o);
@@ -56,7 +49,7 @@ every_way Cyclic task f g a = (every_preimage task a first_some f, every_preimag
 
 pub large_fits : (class : Class) (task : Task) (sets : List CubeSet) → AreFit (2 ^ fluent_count task + 1) class task sets
 large_fits class task sets = record {
-  wide = large_wide (fluent_count task);
+  wide = below_power_two (fluent_count task);
   initial = every_small (fluent_count task) (initial_set task);
   goal = every_small (fluent_count task) (goal_states_set task);
   space = every_small (fluent_count task) (space_set task);

@@ -1,15 +1,16 @@
 -- The union of all sets, and what is asked of it.
-use Rattle.std.proofs.Common.{◌≡◌, ◌∙◌, Bool, true, false, not, ◌||◌, List, [], ◌∷◌, Option, None, Some, if◌then◌else◌, refl, sym, ap, subst}
+use Rattle.std.proofs.Common.{◌≡◌, ◌∙◌, Bool, true, false, not, List, [], ◌∷◌, Option, None, Some, if◌then◌else◌, refl, sym, ap, subst}
 use Rattle.std.specs.Prelude.{IsSome}
 use Rattle.std.specs.Option.{option_map_or}
 use Rattle.std.proofs.Math.Path.{fun_ext}
+use Rattle.list_laws.proofs.Booleans.{or_assoc, or_none}
 use Rattle.dd_nodes.specs.Subfunctions.{Function}
 use Rattle.dd_ops.specs.Operations.{or_of}
 use Rattle.dd_sets.specs.LiveSets.{IsLive, nothing, set_of}
 use Rattle.dd_sets.specs.declared.slots.SetId.{SetId}
 use Rattle.encode_task.specs.Made.{HoldsGoal}
 use Rattle.encode_task.specs.Slots.{Encoded}
-use Rattle.encode_task.specs.TaskSets.{goal_set, initial_set}
+use Rattle.encode_task.specs.TaskSets.{goal_set, goal_states_set, initial_set}
 use Rattle.task_core.specs.Tasks.{fluent_count}
 use Rattle.task_core.specs.declared.classes.Class.{Class}
 use Rattle.task_core.specs.declared.conditions.Cond.{Cond}
@@ -17,20 +18,12 @@ use Rattle.task_core.specs.declared.tasks.Task.{Task}
 use Rattle.plan_certs.specs.Certificates.{CubeSet}
 use Rattle.slot_board.specs.Board.{At, Start}
 use Rattle.refute_cert.specs.Judgements.{judged_actions, judgement}
-use Rattle.refute_cert.specs.Sets.{goal_states_set, meets, states_in, states_of}
+use Rattle.refute_cert.specs.Sets.{meets, states_in, states_of}
 use Rattle.refute_cert.specs.Sizes.{CommonFits, JudgeFits, union_after}
 use Rattle.refute_cert.specs.declared.verdict.Flaw.TheVariants.{Initial, Goal}
 use Rattle.refute_cert.specs.declared.verdict.Judged.TheVariants.{Rejected}
 
 -- the union with more sets has what it had, and theirs
-or_assoc : (a b c : Bool) → ((a || b) || c) ≡ (a || (b || c))
-or_assoc true b c = refl
-or_assoc false b c = refl
-
-or_none : (a : Bool) → a ≡ (a || false)
-or_none true = refl
-or_none false = refl
-
 after_is : (task : Task) (f : Function) (sets : List CubeSet) → union_after task f sets ≡ or_of f (states_of task sets)
 after_is task f [] = fun_ext (λ values. or_none (f values))
 after_is task f (set ∷ sets) = after_is task (or_of f (states_in task set)) sets ∙ fun_ext (λ values. or_assoc (f values) (states_in task set values) (states_of task sets values))

@@ -4,24 +4,23 @@ use Rattle.std.specs.Prelude.{IsSome}
 use Rattle.std.specs.Option.{option_map_or}
 use Rattle.std.specs.List.{Contains, list_all, list_any, range_with_len}
 use Rattle.std.proofs.Math.Path.{fun_ext}
-use Rattle.std.proofs.lemmas.Bool.{and_from, and_parts, false≢true, true≢false, not-true, or_cases, cases_lt}
+use Rattle.std.proofs.lemmas.Bool.{and_from, and_parts, false≢true, true≢false, not-true, or_cases, cases_lt, or_parts}
 use Rattle.std.proofs.lemmas.List.Elements.{All-get_or}
 use Rattle.std.proofs.lemmas.List.Folds.{list_any-append}
 use Rattle.dd_nodes.specs.NodeList.{Values}
 use Rattle.dd_nodes.specs.Subfunctions.{DependsOnly, Function}
 use Rattle.dd_ops.specs.Operations.{or_of}
-use Rattle.dd_sets.specs.LiveSets.{everything, nothing}
-use Rattle.encode_task.specs.TaskSets.{exec_set, first_values, goal_set, initial_set, space_set}
+use Rattle.dd_sets.specs.LiveSets.{nothing}
+use Rattle.encode_task.specs.TaskSets.{cube_set, exec_set, first_values, goal_set, goal_states_set, initial_set, space_set}
 use Rattle.encode_task.proofs.ShownLemmas.{first_are}
 use Rattle.encode_task.proofs.SpaceLemmas.{space_depends}
 use Rattle.preimage.specs.Preimages.{strong_preimage, weak_preimage}
+use Rattle.preimage.proofs.Leads.{exec_at}
 use Rattle.preimage.proofs.OutcomeLemmas.{strong_leads, weak_leads}
-use Rattle.task_core.specs.Actions.{after_value}
-use Rattle.task_core.specs.declared.actions.Outcome.{Outcome}
 use Rattle.task_core.specs.Conditions.{holds}
 use Rattle.task_core.specs.Cubes.{Cube, matches}
 use Rattle.task_core.specs.Systems.{goal_states}
-use Rattle.task_core.specs.Tasks.{action_count, fluent_count, in_space, initial_states, is_executable, next_states, outcomes_at, states_where, system_of}
+use Rattle.task_core.specs.Tasks.{action_count, fluent_count, in_space, initial_states, is_executable, next_states, states_where, system_of}
 use Rattle.task_core.specs.Vectors.{Vector, all_vectors, same_vector, value_of}
 use Rattle.task_core.specs.declared.classes.Class.{Class}
 use Rattle.task_core.specs.declared.classes.Class.TheVariants.{Weak, Strong, Cyclic}
@@ -29,20 +28,17 @@ use Rattle.task_core.specs.declared.conditions.Cond.{Cond}
 use Rattle.task_core.specs.declared.tasks.Task.{Task}
 use Rattle.task_core.proofs.TaskSystem.{exec_executable, executable_exec, is_system, states_where_has, states_where_holds}
 use Rattle.task_core.proofs.Vectors.{all_vectors_has, all_vectors_length, same_vector_equal, same_vector_refl}
+use Rattle.list_laws.proofs.Booleans.{and_yes, not_false}
 use Rattle.list_laws.proofs.Elements.{Contains-range_with_len, list_all-agree, list_any-agree, list_any-false, list_any-from, list_any-witness}
 use Rattle.plan_certs.specs.Certificates.{CanAct, CubeSet, HasNoWayOut, HoldsInitial, HoldsNoGoal, IsWayOut, PlainCertificate, holds_state, is_no_way_out, set_at, some_holds}
 use Rattle.plan_rules.specs.Plans.{IsCubeOf}
 use Rattle.plan_certs.specs.Named.{AreSetsOf, IsSetOf}
 use Rattle.refute_cert.specs.Judgements.{IsVerdict, judged_actions, judgement}
-use Rattle.refute_cert.specs.Sets.{cube_set, goal_states_set, is_left, leaves_by, meets, some_is_left, states_in, states_of, way_out_set}
+use Rattle.refute_cert.specs.Sets.{is_left, leaves_by, meets, some_is_left, states_in, states_of, way_out_set}
 use Rattle.refute_cert.specs.declared.verdict.Flaw.TheVariants.{Initial, Goal, Action}
 use Rattle.refute_cert.specs.declared.verdict.Judged.TheVariants.{Accepted, Rejected}
 use Rattle.refute_cert.proofs.LookLemmas.{cube_depends}
 use Rattle.std.proofs.lemmas.List.Elements.{All-head, All-tail, All-take}
-
-and_yes : (b c : Bool) → c ≡ true → (b && c) ≡ b
-and_yes true c e = e
-and_yes false c e = refl
 
 -- the sets of a certificate depend on the task's fluents
 in_depends : (task : Task) (set : CubeSet) → IsSetOf (fluent_count task) set → DependsOnly 0 (fluent_count task) (states_in task set)
@@ -79,24 +75,6 @@ module _ (task : Task) where
   next_inside : (v : Vector) (a : ℕ) (t : Vector) → Contains (next_states task v a) t → in_space task t ≡ true
   next_inside v a t has = ((is_system task).next v a t has).inside
 
-  all_true : {X : Type 0} (xs : List X) → list_all (λ x. true) xs ≡ true
-  all_true [] = refl
-  all_true (x ∷ xs) = all_true xs
-
-  or_true : (b : Bool) → (b || true) ≡ true
-  or_true true = refl
-  or_true false = refl
-
-  -- where an action can be executed
-  exec_at : (v : Vector) (a : ℕ) → exec_set task a (value_of v) ≡ is_executable task v a
-  exec_at v a =
-      sym (and_yes (exec_set task a (value_of v)) (list_all stays (outcomes_at task a)) (list_all-agree stays (λ (o : Outcome). true) (outcomes_at task a) (λ o has. or_true (not (space_set task (after_value o (value_of v))))) ∙ all_true (outcomes_at task a)))
-      ∙ strong_leads task a everything v (λ s t same. refl)
-      ∙ and_yes (is_executable task v a) (list_all (λ (t : Vector). true) (next_states task v a)) (all_true (next_states task v a))
-    where
-      stays : Outcome → Bool
-      stays o = not (space_set task (after_value o (value_of v))) || everything (after_value o (value_of v))
-
   some_next : (set : Function) (p : Vector → Bool) (v : Vector) (a : ℕ) → DependsOnly 0 (fluent_count task) set → ((t : Vector) → in_space task t ≡ true → set (value_of t) ≡ p t) → weak_preimage task a set (value_of v) ≡ list_any p (next_states task v a)
   some_next set p v a only same = weak_leads task a set v only ∙ list_any-agree (λ t. set (value_of t)) p (next_states task v a) (λ t has. same t (next_inside v a t has))
 
@@ -128,16 +106,16 @@ module _ (task : Task) where
     way_at : (class : Class) (i : ℕ) → i < length sets → (v : Vector) (a : ℕ) → is_executable task v a ≡ true
         → way_out_set class task (states_of task (take i sets)) (states_in task (set_at sets i)) a (value_of v) ≡ not (is_no_way_out class sets i (next_states task v a))
     way_at Weak i within v a executable =
-        ap (λ b. b && not (strong_preimage task a (states_in task (set_at sets i)) (value_of v))) (exec_at v a ∙ executable)
+        ap (λ b. b && not (strong_preimage task a (states_in task (set_at sets i)) (value_of v))) (exec_at task v a ∙ executable)
         ∙ ap not (every_next (states_in task (set_at sets i)) (holds_state (set_at sets i)) v a executable (in_depends task (set_at sets i) (set_below i within)) (in_held (set_at sets i)))
     way_at Strong i within v a executable =
-        ap (λ b. b && not (weak_preimage task a (states_in task (set_at sets i)) (value_of v))) (exec_at v a ∙ executable)
+        ap (λ b. b && not (weak_preimage task a (states_in task (set_at sets i)) (value_of v))) (exec_at task v a ∙ executable)
         ∙ ap not (some_next (states_in task (set_at sets i)) (holds_state (set_at sets i)) v a (in_depends task (set_at sets i) (set_below i within)) (in_held (set_at sets i)))
     way_at Cyclic i within v a executable =
         let f = states_of task (take i sets) in
         let g = states_in task (set_at sets i) in
         let only = of_depends task (take i sets) (first_below i) in
-        ap (λ b. (b && not (weak_preimage task a f (value_of v))) && not (strong_preimage task a (or_of f g) (value_of v))) (exec_at v a ∙ executable)
+        ap (λ b. (b && not (weak_preimage task a f (value_of v))) && not (strong_preimage task a (or_of f g) (value_of v))) (exec_at task v a ∙ executable)
         ∙ ap (λ b. not b && not (strong_preimage task a (or_of f g) (value_of v))) (some_next f (some_holds (take i sets)) v a only (of_held (take i sets)))
         ∙ ap (λ b. not (list_any (some_holds (take i sets)) (next_states task v a)) && not b)
         (every_next (or_of f g) (some_holds (take (suc i) sets)) v a executable (both_depend (fluent_count task) f g only (in_depends task (set_at sets i) (set_below i within)))
@@ -162,7 +140,7 @@ module _ (task : Task) where
         let cube = list_any-witness (λ cube. meets (fluent_count task) (cube_set cube) w) (set_at sets i) found in
         let v = list_any-witness (λ v. cube_set cube.0 (value_of v) && w (value_of v)) (all_vectors (fluent_count task)) cube.2 in
         let parts = and_parts (cube_set cube.0 (value_of v.0)) (w (value_of v.0)) v.2 in
-        let executable = sym (exec_at v.0 a) ∙ way_exec class (states_of task (take i sets)) (states_in task (set_at sets i)) a (value_of v.0) parts.1 in
+        let executable = sym (exec_at task v.0 a) ∙ way_exec class (states_of task (take i sets)) (states_in task (set_at sets i)) a (value_of v.0) parts.1 in
         let exec = executable_exec task v.0 a executable in (
           v.0,
           record {
@@ -177,10 +155,6 @@ module _ (task : Task) where
         )
 
     -- and each there is
-    not_false : (b : Bool) → not b ≡ false → b ≡ true
-    not_false true e = refl
-    not_false false e = absurd (true≢false e)
-
     way_missing : (class : Class) (i a : ℕ) → leaves_by class task (states_of task (take i sets)) (set_at sets i) a ≡ false → (v : Vector) → CanAct (system_of task) (record { class = class; sets = sets }) i v a
         → is_no_way_out class sets i (next_states task v a) ≡ true
     way_missing class i a none v acts =
@@ -235,19 +209,15 @@ module _ (task : Task) where
         within_or : (i : ℕ) → (i < length sets) ⊎ (length sets ≤ i)
         within_or i = cases_lt i (length sets)
 
-    or_none : (x y : Bool) → (x || y) ≡ false → (x ≡ false) × (y ≡ false)
-    or_none true y e = absurd (true≢false e)
-    or_none false y e = (refl, e)
-
     left_missing : (class : Class) (i k : ℕ) → from_here class i ≡ false → i + k < length sets → is_left class task (states_of task (take (i + k) sets)) (set_at sets (i + k)) ≡ false
     left_missing class i zero none within =
         let e : i + 0 ≡ i = omega arith in
         subst (λ j. is_left class task (states_of task (take j sets)) (set_at sets j) ≡ false) (sym e)
-        (or_none (is_left class task (states_of task (take i sets)) (set_at sets i)) (from_here class (suc i)) (sym (here_step class i (omega (arith, within))) ∙ none)).0
+        (or_parts (is_left class task (states_of task (take i sets)) (set_at sets i)) (from_here class (suc i)) (sym (here_step class i (omega (arith, within))) ∙ none)).0
     left_missing class i (suc k) none within =
         let e : i + suc k ≡ suc i + k = omega arith in
         subst (λ j. is_left class task (states_of task (take j sets)) (set_at sets j) ≡ false) (sym e)
-        (left_missing class (suc i) k (or_none (is_left class task (states_of task (take i sets)) (set_at sets i)) (from_here class (suc i)) (sym (here_step class i (omega (arith, within))) ∙ none)).1 (omega (arith, within)))
+        (left_missing class (suc i) k (or_parts (is_left class task (states_of task (take i sets)) (set_at sets i)) (from_here class (suc i)) (sym (here_step class i (omega (arith, within))) ∙ none)).1 (omega (arith, within)))
 
     -- the verdict on the actions
     actions_found : (class : Class) → some_is_left class task nothing sets ≡ true → (i : ℕ) × (v : Vector) × (a : ℕ) × IsWayOut (system_of task) (record { class = class; sets = sets }) i v a

@@ -1,14 +1,14 @@
 -- What a verdict says of a certificate.
 use Rattle.std.specs.Prelude.{ℕ, not, if◌then◌else◌, List}
 use Rattle.dd_sets.specs.LiveSets.{nothing}
-use Rattle.encode_task.specs.TaskSets.{initial_set}
+use Rattle.encode_task.specs.TaskSets.{goal_states_set, initial_set}
 use Rattle.task_core.specs.Systems.{System}
 use Rattle.task_core.specs.Tasks.{fluent_count}
 use Rattle.task_core.specs.Vectors.{Vector}
 use Rattle.task_core.specs.declared.classes.Class.{Class}
 use Rattle.task_core.specs.declared.tasks.Task.{Task}
 use Rattle.plan_certs.specs.Certificates.{CubeSet, IsAccepted, IsFirstFlaw, PlainCertificate, no_initial, some_goal, way_out}
-use Rattle.refute_cert.specs.Sets.{goal_states_set, meets, some_is_left, states_of}
+use Rattle.refute_cert.specs.Sets.{meets, some_is_left, states_of}
 use Rattle.refute_cert.specs.declared.verdict.Flaw.TheVariants.{Initial, Goal, Action}
 use Rattle.refute_cert.specs.declared.verdict.Judged.{Judged}
 use Rattle.refute_cert.specs.declared.verdict.Judged.TheVariants.{Accepted, Rejected}

@@ -2,7 +2,7 @@
 -- up. On the board of a verdict there are five places: 0 has the union of the first sets of the
 -- certificate, 1 one set as far as it is made, 2 a cube, 3 what is put together with another place,
 -- and 4 the states of which some may be left.
-use Rattle.std.specs.Prelude.{Bool, true, false, List, [], ◌∷◌, ◌++◌, map}
+use Rattle.std.specs.Prelude.{List, [], ◌∷◌, ◌++◌, map}
 use Rattle.std.specs.List.{flat_map}
 use Rattle.dd_sets.specs.declared.slots.SetId.{SetId}
 use Rattle.task_core.specs.Cubes.{Cube}
@@ -10,17 +10,12 @@ use Rattle.task_core.specs.declared.classes.Class.{Class}
 use Rattle.task_core.specs.declared.classes.Class.TheVariants.{Weak, Strong, Cyclic}
 use Rattle.task_core.specs.declared.literals.ActionId.{ActionId}
 use Rattle.task_core.specs.declared.literals.Lit.{Lit}
-use Rattle.slot_board.specs.declared.board.Operation.{Operation}
+use Rattle.slot_board.specs.Board.{sign_of}
 use Rattle.slot_board.specs.declared.board.Operation.TheVariants.{Join, Meet, Minus}
 use Rattle.slot_board.specs.declared.board.Outcomes.{Outcomes}
 use Rattle.plan_certs.specs.Certificates.{CubeSet}
 use Rattle.board_steps.specs.declared.steps.Step.{Step}
 use Rattle.board_steps.specs.declared.steps.Step.TheVariants.{Whole, Fluent, Fix, Kept, Copy, Combine, Lead}
-
--- a cube is met with a fluent, or the fluent is taken from it
-abbrev pub sign_of : Bool → Operation
-sign_of true = Meet
-sign_of false = Minus
 
 abbrev pub literal_steps : Lit → List Step
 literal_steps lit = Fluent 3 lit.fluent ∷ Combine 2 (sign_of lit.positive) 2 3 ∷ []

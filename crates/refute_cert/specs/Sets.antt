@@ -1,11 +1,9 @@
 -- The sets of a certificate as sets of lists of truth values, and where an action is a way out of one.
 use Rattle.std.specs.Prelude.{◌≡◌, ℕ, ◌<◌, Bool, true, false, not, ◌&&◌, ◌||◌, ◌==◌, List, [], ◌∷◌, length, ⊤}
-use Rattle.std.specs.List.{list_all, list_any, range_with_len}
+use Rattle.std.specs.List.{list_any, range_with_len}
 use Rattle.dd_nodes.specs.Subfunctions.{Function}
 use Rattle.dd_ops.specs.Operations.{minus_of, or_of}
-use Rattle.encode_task.specs.TaskSets.{exec_set, goal_set, space_set}
-use Rattle.dd_sets.specs.LiveSets.{nothing}
-use Rattle.std.specs.Option.{option_map_or}
+use Rattle.encode_task.specs.TaskSets.{cube_set, exec_set, space_set}
 use Rattle.preimage.specs.Preimages.{strong_preimage, weak_preimage}
 use Rattle.task_core.specs.Cubes.{Cube}
 use Rattle.task_core.specs.Tasks.{action_count, fluent_count}
@@ -15,10 +13,6 @@ use Rattle.task_core.specs.declared.classes.Class.TheVariants.{Weak, Strong, Cyc
 use Rattle.task_core.specs.declared.literals.Lit.{Lit}
 use Rattle.task_core.specs.declared.tasks.Task.{Task}
 use Rattle.plan_certs.specs.Certificates.{CubeSet}
-
--- where a cube matches
-abbrev pub cube_set : Cube → Function
-cube_set cube values = list_all (λ lit. same_value (values lit.fluent.0) lit.positive) cube
 
 -- where a literal is true, and where some of some cubes matches
 abbrev pub literal_set : Lit → Function
@@ -42,10 +36,6 @@ way_out_set Strong task earlier set a = minus_of (exec_set task a) (weak_preimag
 way_out_set Cyclic task earlier set a =
     minus_of (minus_of (exec_set task a) (weak_preimage task a earlier))
     (strong_preimage task a (or_of earlier set))
-
--- the goal states of a task
-abbrev pub goal_states_set : Task → Function
-goal_states_set task = option_map_or (goal_set task) task.goal nothing
 
 -- whether two sets have a vector of n values in common
 abbrev pub meets : ℕ → Function → Function → Bool

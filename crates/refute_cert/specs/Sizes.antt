@@ -6,7 +6,7 @@ use Rattle.dd_sets.specs.LiveSets.{IsLive, IsSets, nothing, set_of}
 use Rattle.dd_sets.specs.Rooms.{Rough, Small}
 use Rattle.dd_sets.specs.declared.slots.SetId.{SetId}
 use Rattle.encode_task.specs.Slots.{Encoded}
-use Rattle.encode_task.specs.TaskSets.{initial_set, space_set}
+use Rattle.encode_task.specs.TaskSets.{cube_set, goal_states_set, initial_set, space_set}
 use Rattle.preimage.specs.WorkingSets.{IsMadeByRounds, PreimageFits, first_every, first_some}
 use Rattle.task_core.specs.Cubes.{Cube}
 use Rattle.task_core.specs.Tasks.{action_count, fluent_count}
@@ -18,7 +18,7 @@ use Rattle.plan_certs.specs.Certificates.{CubeSet, PlainCertificate, set_at}
 use Rattle.plan_certs.specs.Named.{IsSetOf}
 use Rattle.slot_board.specs.Board.{At, IsSmall, Start}
 use Rattle.slot_board.specs.Board.{set_at as set_at_place}
-use Rattle.refute_cert.specs.Sets.{cube_set, goal_states_set, is_left, states_in, states_of, way_out_set}
+use Rattle.refute_cert.specs.Sets.{is_left, states_in, states_of, way_out_set}
 
 -- the round sets of a verdict: the initial states, all states, those of each set of the certificate, and
 -- those of its first sets

@@ -7,12 +7,13 @@ ghost use Rattle.dd_ops.specs.Operations.{and_of};
 ghost use Rattle.dd_sets.specs.Frames.{Owns, OwnsAnswer};
 ghost use Rattle.dd_sets.specs.LiveSets.{IsLive, IsSets, LiveSets, set_of};
 ghost use Rattle.encode_task.specs.Made.{MadeOf};
+ghost use Rattle.encode_task.specs.TaskSets.{cube_set};
 ghost use Rattle.plan_certs.specs.Named.{IsSetOf, cube_of, set_of as cubes_in};
 ghost use Rattle.plan_rules.specs.Plans.{IsCubeOf};
 ghost use Rattle.preimage.specs.Preimages.{OfSomeTask};
 ghost use Rattle.task_core.specs.Tasks.{fluent_count};
 ghost use Rattle.task_core.specs.declared.tasks.Task.{Task as TaskOf};
-ghost use Rattle.refute_cert.specs.Sets.{cube_set, literal_set, some_cube, states_in};
+ghost use Rattle.refute_cert.specs.Sets.{literal_set, some_cube, states_in};
 
 use dd_sets::{SetErr, SetId, Sets};
 use encode_task::Enc;

@@ -1,5 +1,6 @@
 //! Looks at the sets of a certificate.
 
+ghost use Rattle.encode_task.specs.TaskSets.{cube_set};
 ghost use Rattle.std.specs.Prelude.{◌≡◌, ◌↔◌, ℕ, ◌<◌, [], ◌∷◌, IsTrue, true, false, map, length};
 ghost use Rattle.std.specs.List.{list_any};
 ghost use Rattle.dd_nodes.specs.Subfunctions.{Function};
@@ -9,7 +10,7 @@ ghost use Rattle.task_core.specs.Tasks.{fluent_count};
 ghost use Rattle.plan_certs.specs.Certificates.{CubeSet};
 ghost use Rattle.plan_certs.specs.Named.{set_of as cubes_in};
 ghost use Rattle.slot_board.specs.Board.{At, Ends, IsSmall, IsWorking, Left, Start, set_at};
-ghost use Rattle.refute_cert.specs.Sets.{IsKept, contradicts, cube_set, is_left, is_opposite};
+ghost use Rattle.refute_cert.specs.Sets.{IsKept, contradicts, is_left, is_opposite};
 ghost use Rattle.refute_cert.specs.Sets.{leaves_by};
 ghost use Rattle.refute_cert.specs.Sets.{meets, some_is_left, states_in, way_out_set};
 ghost use Rattle.refute_cert.specs.Sizes.{CommonFits, CubesFit, HasLeft, HasSet, HasUnion};

@@ -1,10 +1,11 @@
 //! The steps that make the sets of a certificate, and those in which a verdict is looked up.
 
+ghost use Rattle.slot_board.specs.Board.{sign_of};
 ghost use Rattle.std.specs.Prelude.{◌≡◌, ◌++◌, [], ◌∷◌, IfErr, IfOk, OnOk};
 ghost use Rattle.std.specs.List.{flat_map};
 ghost use Rattle.plan_certs.specs.Named.{set_of};
 ghost use Rattle.refute_cert.specs.Programs.{common_steps, cube_steps, fix_steps, literal_steps};
-ghost use Rattle.refute_cert.specs.Programs.{set_steps, sign_of, way_out_steps};
+ghost use Rattle.refute_cert.specs.Programs.{set_steps, way_out_steps};
 
 use board_steps::Step;
 use dd_sets::{SetErr, SetId};

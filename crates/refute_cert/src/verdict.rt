@@ -7,14 +7,14 @@ ghost use Rattle.dd_sets.specs.LiveSets.{live_sets};
 ghost use Rattle.dd_sets.specs.Rooms.{IsAtLimit, IsTightFor};
 ghost use Rattle.encode_task.specs.Made.{MadeOf};
 ghost use Rattle.plan_certs.specs.Named.{AreSetsOf, plain_certificate, set_of as cubes_in};
-ghost use Rattle.encode_task.specs.TaskSets.{initial_set};
+ghost use Rattle.encode_task.specs.TaskSets.{goal_states_set, initial_set};
 ghost use Rattle.plan_certs.specs.Certificates.{CubeSet};
 ghost use Rattle.slot_board.specs.Board.{At, Ends, Left, Start};
 ghost use Rattle.task_core.specs.Tasks.{fluent_count, system_of};
 ghost use Rattle.task_core.specs.declared.classes.Class.{Class};
 ghost use Rattle.task_core.specs.declared.tasks.Task.{Task as TaskOf};
 ghost use Rattle.refute_cert.specs.Judgements.{IsVerdict, judged_actions, judgement};
-ghost use Rattle.refute_cert.specs.Sets.{goal_states_set, meets, states_of};
+ghost use Rattle.refute_cert.specs.Sets.{meets, states_of};
 ghost use Rattle.refute_cert.specs.Sizes.{HasUnion, BoundsJudgedSets, JudgeFits};
 
 use crate::judging::{Asked, clear_union, has_common, join_sets, some_set_is_left};

@@ -13,7 +13,7 @@ use Rattle.dd_sets.proofs.OwnedLemmas.{answer_kept}
 use Rattle.dd_sets.specs.declared.errors.SetErr.TheVariants.{Full}
 use Rattle.encode_task.specs.Slots.{Encoded}
 use Rattle.encode_task.specs.Made.{MadeOf}
-use Rattle.preimage.proofs.FrameSteps.{made_now}
+use Rattle.preimage.proofs.FrameSteps.{made_now, same_chain}
 use Rattle.task_core.specs.Tasks.{action_count, fluent_count, initial_states}
 use Rattle.task_core.specs.Vectors.{value_of}
 use Rattle.std.specs.List.{list_all}
@@ -117,9 +117,6 @@ module _ (before mid now after : LiveSets) (slots : List SetId) (place : ℕ) (n
       ap (set_of after) (slot_other slots place other new differs)
       ∙ ends.sets (slot_at slots other) (work.apart other place l within differs)
       ∙ answer.kept.sets (slot_at slots other) (work.live other l)
-
-pub same_chain : (a b c : Encoded) → b ≡ record a { sets = b.sets } → c ≡ record b { sets = c.sets } → c ≡ record a { sets = c.sets }
-same_chain a b c first second = second ∙ ap (λ (e : Encoded). record e { sets = c.sets }) first
 
 -- the sets are still those of the task
 pub made_at : (start : Start) (enc : Encoded) (slots : List SetId) → At start enc slots → MadeOf start.task enc

@@ -1,40 +1,27 @@
 -- Whether a set has the initial states, by its test.
-use Rattle.std.proofs.Common.{◌≡◌, suc, ◌<◌, Bool, true, false, List, [], ◌∷◌, length, IsTrue, ◌↔◌, refl, sym, ap, ◌∙◌, arith}
-use Rattle.std.specs.List.{Contains, list_all, list_any}
-use Rattle.std.proofs.lemmas.Bool.{and_from, true≢false}
+use Rattle.std.proofs.Common.{◌≡◌, Bool, true, false, IsTrue, ◌↔◌, refl, sym, ap, ◌∙◌}
+use Rattle.std.specs.List.{list_all, list_any}
+use Rattle.list_laws.proofs.Elements.{list_all-from, list_any-from, list_any-witness}
 use Rattle.dd_nodes.specs.NodeList.{Values}
 use Rattle.dd_nodes.specs.Subfunctions.{DependsOnly, Function}
 use Rattle.encode_task.specs.TaskSets.{first_values, initial_set}
-use Rattle.encode_task.proofs.ShownLemmas.{first_are, found, value_computed}
+use Rattle.encode_task.proofs.ShownLemmas.{first_are, value_computed}
 use Rattle.task_core.specs.Tasks.{fluent_count, initial_states}
-use Rattle.task_core.specs.Vectors.{Vector, same_vector, value_of}
+use Rattle.task_core.specs.Vectors.{same_vector, value_of}
 use Rattle.task_core.specs.declared.tasks.Task.{Task}
 use Rattle.task_core.proofs.TaskSystem.{is_system}
-use Rattle.task_core.proofs.Vectors.{list_all_contains, list_any_contains, same_vector_equal, same_vector_refl}
-
-all_from : (p : Vector → Bool) (xs : List Vector) → ((x : Vector) → Contains xs x → p x ≡ true) → list_all p xs ≡ true
-all_from p [] each = refl
-all_from p (x ∷ xs) each =
-    and_from (p x) (list_all p xs) (each x (0, omega arith, refl))
-    (all_from p xs (λ y c. let l : c.0 < length xs = c.1 in each y (suc c.0, omega arith, c.2)))
-
-any_of : (p : Vector → Bool) (xs : List Vector) (x : Vector) → Contains xs x → p x ≡ true → list_any p xs ≡ true
-any_of p xs x c is = go (list_any p xs) refl
-  where
-    go : (b : Bool) → list_any p xs ≡ b → b ≡ true
-    go true e = refl
-    go false e = absurd (true≢false (sym is ∙ list_any_contains p xs x e c))
+use Rattle.task_core.proofs.Vectors.{list_all_contains, same_vector_equal, same_vector_refl}
 
 module _ (task : Task) (f : Function) (only : DependsOnly 0 (fluent_count task) f) where
   inside_all : ((values : Values) → initial_set task values ≡ true → f values ≡ true) → list_all (λ state. f (value_of state)) (initial_states task) ≡ true
-  inside_all inside = all_from (λ state. f (value_of state)) (initial_states task) (λ s c.
+  inside_all inside = list_all-from (λ state. f (value_of state)) (initial_states task) (λ s c.
       inside (value_of s)
       (ap (λ u. list_any (same_vector u) (initial_states task)) (first_are (fluent_count task) (value_of s) s ((is_system task).initial s c).vector (λ u l. refl))
-      ∙ any_of (same_vector s) (initial_states task) s c (same_vector_refl s)))
+      ∙ list_any-from (same_vector s) (initial_states task) s c (same_vector_refl s)))
 
   all_inside : list_all (λ state. f (value_of state)) (initial_states task) ≡ true → (values : Values) → initial_set task values ≡ true → f values ≡ true
   all_inside all values member =
-      let w = found (same_vector (first_values (fluent_count task) values)) (initial_states task) member in
+      let w = list_any-witness (same_vector (first_values (fluent_count task) values)) (initial_states task) member in
       let e : first_values (fluent_count task) values ≡ w.0 = same_vector_equal (first_values (fluent_count task) values) w.0 w.2 in
       only values (value_of w.0) (λ u low l. sym (value_computed values (fluent_count task) u l) ∙ ap (λ v. value_of v u) e)
       ∙ list_all_contains (λ state. f (value_of state)) (initial_states task) w.0 all w.1

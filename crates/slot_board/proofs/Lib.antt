@@ -1,3 +1,5 @@
 pub mod BoardSizes
 pub mod BoardSlots
+pub mod Endings
 mod InitialStates
+pub mod Literals

@@ -1,5 +1,5 @@
 -- The slots of a search, each at a place of one list, and what every call leaves of them.
-use Rattle.std.specs.Prelude.{◌≡◌, ◌≢◌, ℕ, ◌+◌, ◌<◌, ◌≤◌, ◌⊎◌, false, List, length}
+use Rattle.std.specs.Prelude.{◌≡◌, ◌≢◌, ℕ, ◌+◌, ◌<◌, ◌≤◌, ◌⊎◌, Bool, true, false, List, length}
 use Rattle.std.specs.Prelude.{Contains, Result, Ok, Err, slice_index_or}
 use Rattle.dd_nodes.specs.Subfunctions.{Function}
 use Rattle.dd_ops.specs.Operations.{and_of, minus_of, or_of}
@@ -40,6 +40,10 @@ pub record Working (before now : LiveSets) (slots : List SetId) : Type 0 where
   pub others : (slot : ℕ) → ((i : ℕ) → i < length slots → slot_at slots i ≢ slot)
       → is_live now slot ≡ is_live before slot
   pub count : live_count now ≡ live_count before + length slots
+
+-- the task's sets, and the slots of a board
+abbrev pub Scene : Type 0
+Scene = Encoded × List SetId
 
 -- where a search began: a task and its sets, how many places it has, and how many slots it may need
 -- besides these and the eight of an operation; a width, by which its sets are small, and the places
@@ -115,6 +119,11 @@ abbrev pub combined : Operation → Function → Function → Function
 combined Meet = and_of
 combined Join = or_of
 combined Minus = minus_of
+
+-- what narrows a set by the sign of a literal
+abbrev pub sign_of : Bool → Operation
+sign_of true = Meet
+sign_of false = Minus
 
 -- where an action leads into a set
 abbrev pub led : Outcomes → Task → ℕ → Function → Function

@@ -5,8 +5,7 @@ use Rattle.cyclic_plan.specs.Takers.{start_of}
 use Rattle.cyclic_plan.proofs.Answered.{any_start, first_places, room_of}
 use Rattle.cyclic_plan.proofs.CertSteps.{cert_at, says_full, says_none, says_plan, says_printed}
 use Rattle.cyclic_plan.proofs.Fitting.{all_wide}
-use Rattle.preimage.proofs.FrameSteps.{made_now}
-use Rattle.slot_board.proofs.BoardSlots.{same_chain}
+use Rattle.preimage.proofs.FrameSteps.{made_now, same_chain}
 use Rattle.cyclic_plan.proofs.certs.cert_cyclic.Goals as goal
 
 pub find_sets-answer-requires-clause-ready : goal.find_sets-answer-requires-clause-ready

@@ -1,10 +1,10 @@
 use Rattle.std.proofs.Common.{◌+◌, ◌^◌, arith}
 use Rattle.task_core.specs.Tasks.{action_count, fluent_count}
+use Rattle.preimage.proofs.FrameSteps.{same_chain}
 use Rattle.cyclic_plan.specs.Stages.{rough_places}
 use Rattle.cyclic_plan.specs.Takers.{start_of}
 use Rattle.cyclic_plan.proofs.Answered.{any_start, ends_found, ends_none, ends_refusal, first_places, room_of}
 use Rattle.cyclic_plan.proofs.Fitting.{all_wide}
-use Rattle.slot_board.proofs.BoardSlots.{same_chain}
 use Rattle.cyclic_plan.proofs.plan.cyclic_takers.Goals as goal
 
 pub search-requires-clause-ready : goal.search-requires-clause-ready

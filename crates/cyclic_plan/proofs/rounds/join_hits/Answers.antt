@@ -4,9 +4,10 @@ use Rattle.std.proofs.lemmas.Result.{err_from_is_err_and}
 use Rattle.task_core.specs.Tasks.{action_count}
 use Rattle.slot_board.specs.Board.{Fits}
 use Rattle.slot_board.proofs.BoardSlots.{passed, went}
+use Rattle.slot_board.proofs.Endings.{noted_then}
 use Rattle.cyclic_plan.specs.Stages.{none_taken}
 use Rattle.slot_board.specs.declared.steps.Step.TheVariants.{Grow}
-use Rattle.cyclic_plan.proofs.Followed.{joined_new, joined_none, noted_then}
+use Rattle.cyclic_plan.proofs.Followed.{joined_new, joined_none}
 use Rattle.cyclic_plan.proofs.Premises.{joined_fits}
 use Rattle.cyclic_plan.proofs.rounds.join_hits.Goals as goal
 

@@ -1,9 +1,10 @@
 use Rattle.std.proofs.Common.{ℕ, subst, ◌≡◌, ◌+◌, arith, length, ◌∙◌}
 use Rattle.std.proofs.lemmas.Result.{err_from_is_err_and}
+use Rattle.list_laws.proofs.Booleans.{not_false}
 use Rattle.task_core.specs.Tasks.{action_count}
 use Rattle.slot_board.specs.Board.{Moved, set_at}
 use Rattle.slot_board.proofs.BoardSlots.{action_within, passed, went, made_at}
-use Rattle.cyclic_plan.proofs.Narrowing.{not_false, pairs_dropped, same_loses_none}
+use Rattle.cyclic_plan.proofs.Narrowing.{pairs_dropped, same_loses_none}
 use Rattle.cyclic_plan.proofs.Premises.{kept_copied, kept_made, left_lead}
 use Rattle.cyclic_plan.proofs.rounds.keep_inside.Goals as goal
 

@@ -3,7 +3,8 @@ use Rattle.std.proofs.Common.{suc, ◌≡◌, ◌+◌, ◌++◌, [], ◌∷◌, 
 use Rattle.task_core.specs.Tasks.{action_count}
 use Rattle.slot_board.specs.declared.steps.Step.TheVariants.{Advance}
 use Rattle.slot_board.proofs.BoardSlots.{on_ok, same_actions, went, passed}
-use Rattle.cyclic_plan.proofs.Followed.{begun_next, memory_passed}
+use Rattle.slot_board.proofs.Endings.{memory_passed}
+use Rattle.cyclic_plan.proofs.Followed.{begun_next}
 use Rattle.cyclic_plan.proofs.Premises.{copy_next}
 use Rattle.cyclic_plan.proofs.rounds.next_step.Goals as goal
 

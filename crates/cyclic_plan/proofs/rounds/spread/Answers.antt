@@ -3,7 +3,8 @@ use Rattle.std.proofs.lemmas.Result.{err_from_is_err_and}
 use Rattle.task_core.specs.Tasks.{action_count}
 use Rattle.slot_board.specs.declared.steps.Step.TheVariants.{Advance}
 use Rattle.slot_board.proofs.BoardSlots.{passed, same_actions, same_fluents, went}
-use Rattle.cyclic_plan.proofs.Followed.{memory_passed, noted_then, spread_end}
+use Rattle.slot_board.proofs.Endings.{memory_passed, noted_then}
+use Rattle.cyclic_plan.proofs.Followed.{spread_end}
 use Rattle.cyclic_plan.proofs.Growth.{spread_less}
 use Rattle.cyclic_plan.proofs.rounds.spread.Goals as goal
 

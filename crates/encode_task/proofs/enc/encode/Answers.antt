@@ -1,6 +1,7 @@
 -- At first no slot is live.
 use Rattle.std.proofs.Common.{◌≡◌, ℕ, ◌+◌, ◌*◌, ◌^◌, ◌<◌, ◌≤◌, ◌∙◌, sym, subst, arith}
 use Rattle.std.proofs.lemmas.Result.{err_from_is_err_and}
+use Rattle.list_laws.proofs.Numbers.{below_power}
 use Rattle.task_core.specs.Tasks.{fluent_count}
 use Rattle.encode_task.specs.Bounds.{working_slots}
 use Rattle.dd_nodes.specs.Subfunctions.{nodes}
@@ -8,7 +9,7 @@ use Rattle.dd_sets.specs.LiveSets.{live_sets}
 use Rattle.dd_sets.proofs.NoRoomLemmas.{no_room_small, no_room_tight}
 use Rattle.dd_sets.proofs.SizeLemmas.{every_small}
 use Rattle.encode_task.specs.KeptSets.{kept_nodes}
-use Rattle.encode_task.proofs.TaskSizes.{all_kept, few_fluents, kept_bound}
+use Rattle.encode_task.proofs.TaskSizes.{all_kept, kept_bound}
 use Rattle.encode_task.proofs.PartLemmas.{same_refusal_of}
 use Rattle.encode_task.proofs.WholeLemmas.{tight_whole}
 use Rattle.encode_task.proofs.enc.encode.Goals as goal
@@ -21,7 +22,7 @@ returns-in_err-kept-clause-full c full =
     let p = err_from_is_err_and c.from_residual-in_err-kept.result c.from_residual-in_err-kept.ensures.1 in
     let vars : c.in_ok-sets.sets.vars ≡ fluent_count c.args.task.now = omega (arith, c.in_ok-sets.ensures.vars) in
     let w : ℕ = 2 ^ fluent_count c.args.task.now + 1 in
-    let room = c.encode_sets.ensures.full (same_refusal_of c.encode_sets.result c.from_residual-in_err-kept.result _ c.in_err-kept.was p full) w (omega (arith, few_fluents (fluent_count c.args.task.now))) (λ set made. every_small (fluent_count c.args.task.now) set) in
+    let room = c.encode_sets.ensures.full (same_refusal_of c.encode_sets.result c.from_residual-in_err-kept.result _ c.in_err-kept.was p full) w (omega (arith, below_power (fluent_count c.args.task.now))) (λ set made. every_small (fluent_count c.args.task.now) set) in
     tight_whole room.middle c.args.limit (fluent_count c.args.task.now) 208 (working_slots c.args.task.now) (room.kept.limit ∙ c.in_ok-sets.ensures.limit) (room.kept.vars ∙ vars) (room.kept.order ∙ c.in_ok-sets.ensures.order)
     (omega (arith, room.few, c.in_ok-sets.ensures.count)) (no_room_tight w _ _ 208 1 room.no_room)
 

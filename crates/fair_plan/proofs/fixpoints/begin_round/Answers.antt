@@ -1,10 +1,11 @@
 use Rattle.std.proofs.Common.{◌≡◌, arith, length}
 use Rattle.std.proofs.lemmas.Result.{err_from_is_err_and}
 use Rattle.slot_board.proofs.BoardSlots.{passed}
+use Rattle.slot_board.specs.Board.{Scene}
 use Rattle.slot_board.specs.declared.board.Operation.TheVariants.{Minus}
 use Rattle.board_steps.specs.declared.steps.Step.TheVariants.{Combine, Copy}
 use Rattle.std.proofs.Common.{[], ◌∷◌}
-use Rattle.fair_plan.specs.Boards.{AreStepsOf, Origin, Scene, actions_of}
+use Rattle.fair_plan.specs.Boards.{AreStepsOf, Origin, actions_of}
 use Rattle.fair_plan.proofs.Boards.{actions_are, done, leaves_with, low}
 use Rattle.fair_plan.proofs.Rounds.{round_begun}
 use Rattle.fair_plan.proofs.fixpoints.begin_round.Goals as goal

@@ -1,8 +1,9 @@
 use Rattle.std.proofs.Common.{◌≡◌, [], ◌∷◌, arith, length}
 use Rattle.board_steps.specs.declared.steps.Step.TheVariants.{Copy}
 use Rattle.std.proofs.lemmas.Result.{err_from_is_err_and}
+use Rattle.slot_board.specs.Board.{Scene}
 use Rattle.slot_board.proofs.BoardSlots.{passed}
-use Rattle.fair_plan.specs.Boards.{AreStepsOf, Scene, actions_of}
+use Rattle.fair_plan.specs.Boards.{AreStepsOf, actions_of}
 use Rattle.fair_plan.proofs.Boards.{actions_are, done, in_start, leaves_with, low}
 use Rattle.fair_plan.proofs.Rounds.{aimed}
 use Rattle.fair_plan.proofs.fixpoints.come_to.Goals as goal

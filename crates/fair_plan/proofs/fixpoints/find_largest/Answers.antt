@@ -1,7 +1,8 @@
 use Rattle.std.proofs.Common.{◌≡◌, ◌+◌, arith, length}
 use Rattle.std.proofs.lemmas.Result.{err_from_is_err_and}
+use Rattle.slot_board.specs.Board.{Scene}
 use Rattle.slot_board.proofs.BoardSlots.{passed, same_fluents}
-use Rattle.fair_plan.specs.Boards.{Scene, actions_of}
+use Rattle.fair_plan.specs.Boards.{actions_of}
 use Rattle.fair_plan.proofs.Boards.{actions_are, done, le_length, le_start, low_in}
 use Rattle.fair_plan.proofs.Rounds.{begun_on, is_largest, rounds_less}
 use Rattle.fair_plan.proofs.fixpoints.find_largest.Goals as goal

@@ -1,7 +1,7 @@
 use Rattle.std.proofs.Common.{arith}
 use Rattle.std.proofs.lemmas.Result.{err_from_is_err_and}
-use Rattle.board_steps.proofs.StepLemmas.{passed_on}
-use Rattle.fair_plan.specs.Boards.{Scene}
+use Rattle.slot_board.specs.Board.{Scene}
+use Rattle.slot_board.proofs.Endings.{passed_on}
 use Rattle.fair_plan.proofs.Boards.{action_in, done, low_in}
 use Rattle.fair_plan.proofs.Growth.{rest_can, rest_looked}
 use Rattle.fair_plan.proofs.fixpoints.has_rest.Goals as goal

@@ -1,7 +1,8 @@
 use Rattle.std.proofs.Common.{◌≡◌, ◌+◌, ◌≤◌, arith, length}
 use Rattle.std.proofs.lemmas.Result.{err_from_is_err_and}
+use Rattle.slot_board.specs.Board.{Scene}
 use Rattle.slot_board.proofs.BoardSlots.{passed}
-use Rattle.fair_plan.specs.Boards.{Scene, actions_of}
+use Rattle.fair_plan.specs.Boards.{actions_of}
 use Rattle.fair_plan.proofs.Boards.{actions_are, done, le_length, le_start, leaves_with}
 use Rattle.fair_plan.proofs.Rounds.{round_made, targets_now}
 use Rattle.fair_plan.specs.Places.{pairs_end}

@@ -1,5 +1,5 @@
 use Rattle.std.proofs.Common.{arith}
-use Rattle.fair_plan.specs.Boards.{Scene}
+use Rattle.slot_board.specs.Board.{Scene}
 use Rattle.fair_plan.proofs.Boards.{leaves_with, low}
 use Rattle.fair_plan.proofs.Rounds.{stays_made, stays_not}
 use Rattle.fair_plan.proofs.fixpoints.keep_staying.Goals as goal

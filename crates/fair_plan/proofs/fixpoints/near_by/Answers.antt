@@ -1,6 +1,6 @@
 use Rattle.std.proofs.lemmas.Result.{err_from_is_err_and}
-use Rattle.board_steps.proofs.StepLemmas.{found_of, passed_on}
-use Rattle.fair_plan.specs.Boards.{Scene}
+use Rattle.slot_board.specs.Board.{Scene}
+use Rattle.slot_board.proofs.Endings.{found_of, passed_on}
 use Rattle.fair_plan.proofs.Boards.{action_in, action_still, leaves_with}
 use Rattle.fair_plan.proofs.Growth.{adds_after, adds_none}
 use Rattle.fair_plan.proofs.fixpoints.near_by.Goals as goal

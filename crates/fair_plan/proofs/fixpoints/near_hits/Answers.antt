@@ -1,4 +1,4 @@
-use Rattle.fair_plan.specs.Boards.{Scene}
+use Rattle.slot_board.specs.Board.{Scene}
 use Rattle.fair_plan.proofs.Boards.{action_in, leaves_with}
 use Rattle.fair_plan.proofs.Growth.{near_can, near_made}
 use Rattle.fair_plan.proofs.fixpoints.near_hits.Goals as goal

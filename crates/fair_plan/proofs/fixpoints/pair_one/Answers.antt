@@ -1,5 +1,5 @@
 use Rattle.std.proofs.Common.{arith}
-use Rattle.fair_plan.specs.Boards.{Scene}
+use Rattle.slot_board.specs.Board.{Scene}
 use Rattle.fair_plan.proofs.Boards.{action_in, leaves_with, low}
 use Rattle.fair_plan.proofs.Growth.{pair_made, within}
 use Rattle.fair_plan.proofs.fixpoints.pair_one.Goals as goal

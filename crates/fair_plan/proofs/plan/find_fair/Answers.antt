@@ -1,10 +1,11 @@
 use Rattle.std.proofs.Common.{◌≡◌, ◌∙◌, ◌+◌, ◌^◌, ℕ, [], ap, arith, length, refl, subst, sym}
 use Rattle.encode_task.specs.Slots.{Encoded}
-use Rattle.slot_board.proofs.BoardSlots.{same_chain}
 use Rattle.task_core.specs.Tasks.{action_count, fluent_count}
+use Rattle.preimage.proofs.FrameSteps.{same_chain}
+use Rattle.slot_board.proofs.Endings.{ends_at, ends_full, ends_ok}
 use Rattle.fair_plan.specs.Goals.{IsFairGoalOver}
 use Rattle.fair_plan.specs.Places.{place_count}
-use Rattle.fair_plan.proofs.PlanSteps.{ends_at, ends_full, ends_ok, origin_of, wide_enough}
+use Rattle.fair_plan.proofs.PlanSteps.{origin_of, wide_enough}
 use Rattle.fair_plan.proofs.plan.find_fair.Goals as goal
 
 pub count_of-count-requires : goal.count_of-count-requires

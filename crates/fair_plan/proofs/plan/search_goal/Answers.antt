@@ -1,8 +1,8 @@
 use Rattle.std.proofs.Common.{ℕ, subst}
 use Rattle.std.proofs.lemmas.Result.{err_from_is_err_and}
-use Rattle.board_steps.proofs.StepLemmas.{found_of, passed_on}
+use Rattle.slot_board.specs.Board.{Scene}
+use Rattle.slot_board.proofs.Endings.{found_of, passed_on}
 use Rattle.fair_theory.specs.FairPlans.{sets_of_goal}
-use Rattle.fair_plan.specs.Boards.{Scene}
 use Rattle.fair_plan.specs.Goals.{IsFairGoalOver}
 use Rattle.fair_plan.proofs.Boards.{actions_at, vars_at}
 use Rattle.fair_plan.proofs.PlanSteps.{can_be_had, none_answer}

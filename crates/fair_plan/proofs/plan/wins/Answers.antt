@@ -1,8 +1,9 @@
 use Rattle.std.proofs.Common.{◌≡◌, ◌∙◌, ℕ, arith, subst}
 use Rattle.std.proofs.lemmas.Result.{err_from_is_err_and}
-use Rattle.board_steps.proofs.StepLemmas.{passed_on}
+use Rattle.slot_board.specs.Board.{Scene}
+use Rattle.slot_board.proofs.Endings.{passed_on}
 use Rattle.fair_theory.specs.FairPlans.{sets_of_goal}
-use Rattle.fair_plan.specs.Boards.{Scene, actions_of}
+use Rattle.fair_plan.specs.Boards.{actions_of}
 use Rattle.fair_plan.specs.Goals.{IsFairGoalOver}
 use Rattle.fair_plan.specs.Places.{win_place}
 use Rattle.fair_plan.proofs.Boards.{actions_are, actions_at, done, in_at, vars_at}

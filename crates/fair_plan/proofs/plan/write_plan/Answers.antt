@@ -1,10 +1,10 @@
 use Rattle.std.proofs.Common.{ℕ, List, subst, sym, refl}
 use Rattle.std.proofs.lemmas.Result.{err_from_is_err_and}
 use Rattle.std.proofs.lemmas.List.Elements.{All-nil}
-use Rattle.board_steps.proofs.StepLemmas.{passed_on}
 use Rattle.plan_rules.specs.Plans.{IsContextRuleOf}
 use Rattle.plan_rules.specs.declared.rules.AutoRule.{AutoRule}
 use Rattle.task_core.specs.Tasks.{fluent_count}
+use Rattle.slot_board.proofs.Endings.{passed_on}
 use Rattle.fair_plan.specs.Boards.{actions_of}
 use Rattle.fair_plan.specs.Goals.{contexts_of}
 use Rattle.fair_plan.specs.Rounds.{AreRules}

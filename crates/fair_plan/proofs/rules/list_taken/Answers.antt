@@ -1,12 +1,12 @@
 use Rattle.std.proofs.Common.{◌≡◌, arith, subst}
 use Rattle.std.proofs.lemmas.Result.{err_from_is_err_and}
+use Rattle.plan_theory.specs.SetWords.{rules_for}
 use Rattle.slot_board.proofs.BoardSlots.{passed}
 use Rattle.fair_plan.proofs.Boards.{action_in, done, in_start, low}
 use Rattle.fair_plan.proofs.TakerSteps.{takers_in}
 use Rattle.fair_plan.proofs.RuleSteps.{listed_left, rules_more}
 use Rattle.std.specs.Prelude.{⊤, OnOk, map, ◌++◌}
 use Rattle.plan_rules.specs.Rules.{context_rule_of}
-use Rattle.fair_plan.specs.Rounds.{rules_for}
 use Rattle.fair_plan.specs.Boards.{IsThere, states_in}
 use Rattle.fair_plan.proofs.rules.list_taken.Goals as goal
 

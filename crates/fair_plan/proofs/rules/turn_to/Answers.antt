@@ -1,11 +1,12 @@
 use Rattle.std.proofs.Common.{◌≡◌, ◌<◌, arith, length, [], ◌∷◌}
 use Rattle.std.proofs.lemmas.Result.{err_from_is_err_and}
+use Rattle.slot_board.specs.Board.{Scene}
 use Rattle.slot_board.proofs.BoardSlots.{passed}
 use Rattle.fair_plan.proofs.Boards.{actions_are, done, in_at, in_start, low}
 use Rattle.fair_plan.specs.Boards.{actions_of}
 use Rattle.std.proofs.Common.{ℕ, ◌∙◌}
 use Rattle.board_steps.specs.declared.steps.Step.TheVariants.{Copy}
-use Rattle.fair_plan.specs.Boards.{AreStepsOf, IsThere, Origin, Scene}
+use Rattle.fair_plan.specs.Boards.{AreStepsOf, IsThere, Origin}
 use Rattle.fair_plan.proofs.Goals.{met_in, win_in}
 use Rattle.fair_plan.proofs.rules.turn_to.Goals as goal
 

@@ -1,7 +1,7 @@
 use Rattle.std.proofs.Common.{arith}
 use Rattle.std.proofs.lemmas.Result.{err_from_is_err_and}
+use Rattle.slot_board.specs.Board.{Scene}
 use Rattle.slot_board.proofs.BoardSlots.{passed}
-use Rattle.fair_plan.specs.Boards.{Scene}
 use Rattle.fair_plan.proofs.Boards.{done, in_at, in_start, leaves_with, low_in}
 use Rattle.fair_plan.proofs.Goals.{aim_can, aims_at, cond_still}
 use Rattle.fair_plan.proofs.stages.aim_at.Goals as goal

@@ -1,7 +1,7 @@
 use Rattle.std.proofs.Common.{◌+◌, ◌<◌, arith, length}
 use Rattle.std.proofs.lemmas.Result.{err_from_is_err_and}
+use Rattle.slot_board.specs.Board.{Scene}
 use Rattle.slot_board.proofs.BoardSlots.{passed}
-use Rattle.fair_plan.specs.Boards.{Scene}
 use Rattle.fair_plan.proofs.Boards.{done, in_at, le_start}
 use Rattle.fair_plan.proofs.Goals.{visit_cond, visits_all, visits_more, visits_none}
 use Rattle.fair_plan.proofs.stages.put_visits.Goals as goal

@@ -1,10 +1,11 @@
 use Rattle.std.proofs.Common.{◌≡◌, ℕ, ◌-◌, ◌∙◌, subst, arith, drop, map}
 use Rattle.std.proofs.lemmas.Result.{err_from_is_err_and}
+use Rattle.slot_board.specs.Board.{Scene}
 use Rattle.slot_board.proofs.BoardSlots.{passed}
 use Rattle.ctl_syntax.specs.Conditions.{states_of}
 use Rattle.fair_theory.specs.FairSets.{IsChainWin}
 use Rattle.ctl_syntax.specs.GoalValues.{stage_sets}
-use Rattle.fair_plan.specs.Boards.{Scene, actions_of, states_in, sys_of}
+use Rattle.fair_plan.specs.Boards.{actions_of, states_in, sys_of}
 use Rattle.fair_plan.specs.Places.{win_place}
 use Rattle.fair_plan.proofs.Boards.{actions_are, actions_same, done, in_at}
 use Rattle.fair_plan.proofs.Goals.{chain_last, chain_later, chain_more, chain_stage, met_in, win_in}

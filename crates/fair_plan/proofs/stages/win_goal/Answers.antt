@@ -4,7 +4,8 @@ use Rattle.ctl_syntax.specs.declared.context_goals.ContextGoal.{ContextGoal}
 use Rattle.fair_theory.specs.FairPlans.{sets_of_goal}
 use Rattle.fair_theory.specs.FairSets.{IsFairWin, IsLargestFairSet, patrol_asks}
 use Rattle.task_core.specs.declared.conditions.Cond.{Cond}
-use Rattle.fair_plan.specs.Boards.{Leaves, Scene, actions_of, states_in, sys_of}
+use Rattle.slot_board.specs.Board.{Scene}
+use Rattle.fair_plan.specs.Boards.{Leaves, actions_of, states_in, sys_of}
 use Rattle.fair_plan.specs.Goals.{IsFairGoalOver, IsPatrolOver}
 use Rattle.fair_plan.specs.Places.{win_place}
 use Rattle.fair_plan.proofs.stages.win_goal.Goals as goal

@@ -1,9 +1,10 @@
 use Rattle.std.proofs.Common.{◌≡◌, ◌+◌, ◌<◌, ◌∙◌, arith, length, map}
 use Rattle.std.proofs.lemmas.Result.{err_from_is_err_and}
+use Rattle.slot_board.specs.Board.{Scene}
 use Rattle.slot_board.proofs.BoardSlots.{passed}
 use Rattle.ctl_syntax.specs.Conditions.{states_of}
 use Rattle.fair_theory.specs.FairSets.{patrol_asks}
-use Rattle.fair_plan.specs.Boards.{Scene, actions_of}
+use Rattle.fair_plan.specs.Boards.{actions_of}
 use Rattle.fair_plan.specs.Places.{win_place}
 use Rattle.fair_plan.proofs.Boards.{actions_are, actions_same, done, le_length, leaves_with}
 use Rattle.fair_plan.proofs.Goals.{kept_can, patrol_begins, patrol_won, visits_in, win_in, wholes_can}

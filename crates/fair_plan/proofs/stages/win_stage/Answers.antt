@@ -1,9 +1,10 @@
 use Rattle.std.proofs.Common.{◌≡◌, ◌+◌, ◌<◌, arith, length}
 use Rattle.std.proofs.lemmas.Result.{err_from_is_err_and}
+use Rattle.slot_board.specs.Board.{Scene}
 use Rattle.slot_board.proofs.BoardSlots.{passed}
 use Rattle.ctl_syntax.specs.GoalValues.{stage_sets}
 use Rattle.fair_theory.specs.FairSets.{stage_asks}
-use Rattle.fair_plan.specs.Boards.{Scene, actions_of, states_in}
+use Rattle.fair_plan.specs.Boards.{actions_of, states_in}
 use Rattle.fair_plan.proofs.Boards.{actions_are, done, in_start, le_length, leaves_with}
 use Rattle.fair_plan.proofs.Goals.{kept_can, stage_begins, stage_won}
 use Rattle.fair_plan.proofs.stages.win_stage.Goals as goal

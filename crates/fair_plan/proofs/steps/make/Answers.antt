@@ -1,4 +1,5 @@
-use Rattle.fair_plan.specs.Boards.{Scene, set_in}
+use Rattle.slot_board.specs.Board.{Scene}
+use Rattle.fair_plan.specs.Boards.{set_in}
 use Rattle.fair_plan.proofs.Boards.{can_all, made, shown}
 use Rattle.fair_plan.proofs.steps.make.Goals as goal
 

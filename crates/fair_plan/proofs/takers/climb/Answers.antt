@@ -1,8 +1,9 @@
 use Rattle.std.proofs.Common.{◌+◌, ◌<◌, ℕ, [], ◌∷◌, arith, length}
 use Rattle.std.proofs.lemmas.Result.{err_from_is_err_and}
+use Rattle.slot_board.specs.Board.{Scene}
 use Rattle.slot_board.proofs.BoardSlots.{passed, same_fluents}
 use Rattle.board_steps.specs.declared.steps.Step.TheVariants.{Copy}
-use Rattle.fair_plan.specs.Boards.{AreStepsOf, Scene, Origin, IsThere}
+use Rattle.fair_plan.specs.Boards.{AreStepsOf, Origin, IsThere}
 use Rattle.fair_plan.proofs.Boards.{actions_same, done, in_start, low, low_in, places_still}
 use Rattle.fair_plan.proofs.Growth.{climbs_last, grown_less}
 use Rattle.fair_plan.proofs.takers.climb.Goals as goal

@@ -1,7 +1,7 @@
 use Rattle.std.proofs.Common.{◌+◌, arith, length}
 use Rattle.std.proofs.lemmas.Result.{err_from_is_err_and}
-use Rattle.board_steps.proofs.StepLemmas.{found_of, passed_on}
-use Rattle.fair_plan.specs.Boards.{Scene}
+use Rattle.slot_board.specs.Board.{Scene}
+use Rattle.slot_board.proofs.Endings.{found_of, passed_on}
 use Rattle.fair_plan.proofs.Boards.{action_still, actions_are, leaves_with, places_still}
 use Rattle.fair_plan.proofs.Growth.{climbs_after, climbs_not}
 use Rattle.fair_plan.proofs.takers.climb_by.Goals as goal

@@ -1,7 +1,7 @@
 use Rattle.std.proofs.Common.{◌+◌, arith}
 use Rattle.std.proofs.lemmas.Result.{err_from_is_err_and}
+use Rattle.slot_board.specs.Board.{Scene}
 use Rattle.slot_board.proofs.BoardSlots.{passed}
-use Rattle.fair_plan.specs.Boards.{Scene}
 use Rattle.fair_plan.proofs.Boards.{actions_same, done, low, places_still}
 use Rattle.fair_plan.proofs.Growth.{climbs_more, climbs_none}
 use Rattle.fair_plan.proofs.takers.climb_once.Goals as goal

@@ -2,7 +2,7 @@ use Rattle.std.proofs.Common.{arith}
 use Rattle.std.proofs.lemmas.Result.{err_from_is_err_and}
 use Rattle.slot_board.specs.Board.{set_at}
 use Rattle.slot_board.proofs.BoardSlots.{action_within, went}
-use Rattle.board_steps.proofs.StepLemmas.{passed_on}
+use Rattle.slot_board.proofs.Endings.{passed_on}
 use Rattle.judge_sets.proofs.ShrinkSteps.{here_can, here_told}
 use Rattle.judge_sets.proofs.StepFacts.{place_in, shown, slot_in}
 use Rattle.judge_sets.proofs.fixpoints.find_here.Goals as goal

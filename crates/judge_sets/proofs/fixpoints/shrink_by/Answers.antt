@@ -1,7 +1,7 @@
 use Rattle.std.proofs.Common.{◌≡◌, arith, length, subst}
 use Rattle.std.proofs.lemmas.Result.{err_from_is_err_and}
 use Rattle.slot_board.proofs.BoardSlots.{same_actions, went}
-use Rattle.board_steps.proofs.StepLemmas.{found_of, passed_on}
+use Rattle.slot_board.proofs.Endings.{found_of, passed_on}
 use Rattle.judge_sets.specs.Places.{HasHere, HasOut}
 use Rattle.judge_sets.proofs.ShrinkSteps.{loses_no, lost_none}
 use Rattle.judge_sets.proofs.fixpoints.shrink_by.Goals as goal

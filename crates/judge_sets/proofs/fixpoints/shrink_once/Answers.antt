@@ -2,7 +2,7 @@ use Rattle.std.proofs.Common.{◌≡◌, ℕ, arith, length, subst}
 use Rattle.std.proofs.lemmas.Result.{err_from_is_err_and}
 use Rattle.task_core.specs.Tasks.{action_count}
 use Rattle.slot_board.proofs.BoardSlots.{made_at, same_actions}
-use Rattle.board_steps.proofs.StepLemmas.{found_of, passed_on}
+use Rattle.slot_board.proofs.Endings.{found_of, passed_on}
 use Rattle.judge_sets.specs.Places.{HasLost}
 use Rattle.judge_sets.proofs.ShrinkSteps.{lost_at_first, lost_more}
 use Rattle.judge_sets.proofs.fixpoints.shrink_once.Goals as goal

@@ -2,7 +2,7 @@ use Rattle.std.proofs.Common.{◌≡◌, arith, length, true≢false}
 use Rattle.std.proofs.lemmas.Result.{err_from_is_err_and}
 use Rattle.task_core.specs.Tasks.{action_count}
 use Rattle.slot_board.proofs.BoardSlots.{same_actions, same_fluents}
-use Rattle.board_steps.proofs.StepLemmas.{found_of, passed_on}
+use Rattle.slot_board.proofs.Endings.{found_of, passed_on}
 use Rattle.judge_sets.proofs.ShrinkSteps.{shrink_less}
 use Rattle.judge_sets.proofs.fixpoints.shrink_to_end.Goals as goal
 

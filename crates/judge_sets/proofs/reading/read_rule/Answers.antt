@@ -1,9 +1,9 @@
 use Rattle.std.proofs.Common.{refl, subst, sym}
 use Rattle.std.proofs.lemmas.Result.{err_from_is_err_and}
 use Rattle.slot_board.proofs.BoardSlots.{went}
+use Rattle.slot_board.proofs.Endings.{passed_on}
 use Rattle.task_core.specs.Cubes.{Cube}
 use Rattle.plan_rules.specs.Rules.{rule_of}
-use Rattle.board_steps.proofs.StepLemmas.{passed_on}
 use Rattle.judge_sets.specs.Places.{HasCube}
 use Rattle.judge_sets.proofs.reading.read_rule.Goals as goal
 

@@ -2,8 +2,8 @@ use Rattle.std.proofs.Common.{◌↔◌, IsTrue, List, arith, subst, take}
 use Rattle.std.proofs.lemmas.Result.{err_from_is_err_and}
 use Rattle.task_core.specs.Tasks.{system_of}
 use Rattle.plan_rules.specs.Rules.{PlanRule, rule_of}
-use Rattle.board_steps.proofs.StepLemmas.{found_of, passed_on}
 use Rattle.first_match.specs.FirstMatch.{EachRuleCounts}
+use Rattle.slot_board.proofs.Endings.{found_of, passed_on}
 use Rattle.judge_sets.specs.Places.{HasRead}
 use Rattle.judge_sets.proofs.ReadLoop.{all_read, counts_more, next_rule, none_counts, rules_more}
 use Rattle.judge_sets.proofs.reading.read_rules.Goals as goal

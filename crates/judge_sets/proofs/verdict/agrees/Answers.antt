@@ -2,7 +2,7 @@ use Rattle.std.proofs.Common.{◌≡◌, arith, length}
 use Rattle.std.proofs.lemmas.Result.{err_from_is_err_and}
 use Rattle.slot_board.specs.Board.{set_at}
 use Rattle.slot_board.proofs.BoardSlots.{same_actions, went}
-use Rattle.board_steps.proofs.StepLemmas.{ends_with, passed_on}
+use Rattle.slot_board.proofs.Endings.{ends_with, passed_on}
 use Rattle.judge_sets.specs.Fixpoints.IsBegin.{agreeing}
 use Rattle.judge_sets.proofs.JudgeSteps.{agree_can, agree_made, agree_steps_kept, agree_told}
 use Rattle.judge_sets.proofs.StepFacts.{shown}

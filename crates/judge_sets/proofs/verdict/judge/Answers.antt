@@ -2,7 +2,7 @@ use Rattle.std.proofs.Common.{◌≡◌, arith, length, subst, sym}
 use Rattle.std.specs.Prelude.{IsSome}
 use Rattle.std.proofs.lemmas.Result.{err_from_is_err_and}
 use Rattle.slot_board.proofs.BoardSlots.{same_actions, went}
-use Rattle.board_steps.proofs.StepLemmas.{found_of, passed_on}
+use Rattle.slot_board.proofs.Endings.{found_of, passed_on}
 use Rattle.judge_sets.proofs.JudgeSteps.{same_goal}
 use Rattle.judge_sets.proofs.verdict.judge.Goals as goal
 

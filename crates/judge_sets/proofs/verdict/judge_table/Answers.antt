@@ -1,11 +1,12 @@
 use Rattle.std.proofs.Common.{◌≡◌, ◌+◌, ◌^◌, [], ap, arith, length, map, refl, subst, sym}
 use Rattle.std.specs.Prelude.{IsSome}
 use Rattle.encode_task.specs.Slots.{Encoded}
+use Rattle.encode_task.proofs.MadeLemmas.{goal_there}
 use Rattle.plan_rules.specs.Rules.{rule_of}
-use Rattle.preimage.proofs.FrameSteps.{made_now}
-use Rattle.slot_board.proofs.BoardSlots.{same_chain}
+use Rattle.preimage.proofs.FrameSteps.{made_now, same_chain}
 use Rattle.task_core.specs.Tasks.{action_count, fluent_count}
-use Rattle.judge_sets.proofs.JudgeSteps.{all_bounded, at_end, full_at, goal_there, ok_with, room_of, scene_of}
+use Rattle.slot_board.proofs.Endings.{ends_at, ends_full, ends_ok}
+use Rattle.judge_sets.proofs.JudgeSteps.{all_bounded, room_of, scene_of}
 use Rattle.judge_sets.proofs.verdict.judge_table.Goals as goal
 
 pub returns-in_err-board-clause-made : goal.returns-in_err-board-clause-made
@@ -41,7 +42,7 @@ close-requires c =
     let scene = scene_of task enc c.requires.made (2 ^ fluent_count c.args.task.now + 1) rules (all_bounded c.args.task.now (map rule_of c.args.rules.now)) c.places.result are c.requires.in_task c.requires.goal in
     let opened = c.in_ok-board.ensures.opened task c.requires.made 0 (2 ^ fluent_count c.args.task.now + 1) (all_bounded c.args.task.now (map rule_of c.args.rules.now)).wide [] in
     let ends = c.judge-judged.ensures scene opened refl in
-    (c.args.enc.now.sets, (at_end scene.start c.judge-judged.new.enc c.judge-judged.new.board.slots.items _ c.judge-judged.result (λ verdict done. done.0.there.at) ends).working)
+    (c.args.enc.now.sets, (ends_at scene.start c.judge-judged.new.enc c.judge-judged.new.board.slots.items _ c.judge-judged.result (λ verdict done. done.0.there.at) ends).working)
 
 pub returns-clause-solves : goal.returns-clause-solves
 returns-clause-solves c =
@@ -52,7 +53,7 @@ returns-clause-solves c =
     let scene = scene_of task enc c.requires.made (2 ^ fluent_count c.args.task.now + 1) rules (all_bounded c.args.task.now (map rule_of c.args.rules.now)) c.places.result are c.requires.in_task c.requires.goal in
     let opened = c.in_ok-board.ensures.opened task c.requires.made 0 (2 ^ fluent_count c.args.task.now + 1) (all_bounded c.args.task.now (map rule_of c.args.rules.now)).wide [] in
     let ends = c.judge-judged.ensures scene opened refl in
-    ok_with scene.start c.judge-judged.new.enc c.judge-judged.new.board.slots.items _ _ c.judge-judged.result (λ verdict done. done.1.solves) ends
+    ends_ok scene.start c.judge-judged.new.enc c.judge-judged.new.board.slots.items _ _ c.judge-judged.result (λ verdict done. done.1.solves) ends
 
 pub returns-clause-agrees : goal.returns-clause-agrees
 returns-clause-agrees c =
@@ -63,7 +64,7 @@ returns-clause-agrees c =
     let scene = scene_of task enc c.requires.made (2 ^ fluent_count c.args.task.now + 1) rules (all_bounded c.args.task.now (map rule_of c.args.rules.now)) c.places.result are c.requires.in_task c.requires.goal in
     let opened = c.in_ok-board.ensures.opened task c.requires.made 0 (2 ^ fluent_count c.args.task.now + 1) (all_bounded c.args.task.now (map rule_of c.args.rules.now)).wide [] in
     let ends = c.judge-judged.ensures scene opened refl in
-    ok_with scene.start c.judge-judged.new.enc c.judge-judged.new.board.slots.items _ _ c.judge-judged.result (λ verdict done. done.1.agrees) ends
+    ends_ok scene.start c.judge-judged.new.enc c.judge-judged.new.board.slots.items _ _ c.judge-judged.result (λ verdict done. done.1.agrees) ends
 
 pub returns-clause-each_counts : goal.returns-clause-each_counts
 returns-clause-each_counts c =
@@ -74,7 +75,7 @@ returns-clause-each_counts c =
     let scene = scene_of task enc c.requires.made (2 ^ fluent_count c.args.task.now + 1) rules (all_bounded c.args.task.now (map rule_of c.args.rules.now)) c.places.result are c.requires.in_task c.requires.goal in
     let opened = c.in_ok-board.ensures.opened task c.requires.made 0 (2 ^ fluent_count c.args.task.now + 1) (all_bounded c.args.task.now (map rule_of c.args.rules.now)).wide [] in
     let ends = c.judge-judged.ensures scene opened refl in
-    ok_with scene.start c.judge-judged.new.enc c.judge-judged.new.board.slots.items _ _ c.judge-judged.result (λ verdict done. done.1.each_counts) ends
+    ends_ok scene.start c.judge-judged.new.enc c.judge-judged.new.board.slots.items _ _ c.judge-judged.result (λ verdict done. done.1.each_counts) ends
 
 pub returns-clause-full : goal.returns-clause-full
 returns-clause-full c full width wide =
@@ -85,7 +86,7 @@ returns-clause-full c full width wide =
     let scene = scene_of task enc c.requires.made width rules wide c.places.result are c.requires.in_task c.requires.goal in
     let opened = c.in_ok-board.ensures.opened task c.requires.made 0 width wide.wide [] in
     let ends = c.judge-judged.ensures scene opened refl in
-    room_of task enc.sets c.close.new.enc.sets width c.places.result are (c.close.ensures.room enc.sets width _ _ (full_at scene.start c.judge-judged.new.enc c.judge-judged.new.board.slots.items _ c.judge-judged.result ends full))
+    room_of task enc.sets c.close.new.enc.sets width c.places.result are (c.close.ensures.room enc.sets width _ _ (ends_full scene.start c.judge-judged.new.enc c.judge-judged.new.board.slots.items _ c.judge-judged.result ends full))
 
 pub returns-clause-slots : goal.returns-clause-slots
 returns-clause-slots c =
@@ -96,7 +97,7 @@ returns-clause-slots c =
     let scene = scene_of task enc c.requires.made (2 ^ fluent_count c.args.task.now + 1) rules (all_bounded c.args.task.now (map rule_of c.args.rules.now)) c.places.result are c.requires.in_task c.requires.goal in
     let opened = c.in_ok-board.ensures.opened task c.requires.made 0 (2 ^ fluent_count c.args.task.now + 1) (all_bounded c.args.task.now (map rule_of c.args.rules.now)).wide [] in
     let ends = c.judge-judged.ensures scene opened refl in
-    c.close.ensures.frame enc.sets (at_end scene.start c.judge-judged.new.enc c.judge-judged.new.board.slots.items _ c.judge-judged.result (λ verdict done. done.0.there.at) ends).working
+    c.close.ensures.frame enc.sets (ends_at scene.start c.judge-judged.new.enc c.judge-judged.new.board.slots.items _ c.judge-judged.result (λ verdict done. done.0.there.at) ends).working
 
 pub returns-clause-same_slots : goal.returns-clause-same_slots
 returns-clause-same_slots c =
@@ -107,7 +108,7 @@ returns-clause-same_slots c =
     let scene = scene_of task enc c.requires.made (2 ^ fluent_count c.args.task.now + 1) rules (all_bounded c.args.task.now (map rule_of c.args.rules.now)) c.places.result are c.requires.in_task c.requires.goal in
     let opened = c.in_ok-board.ensures.opened task c.requires.made 0 (2 ^ fluent_count c.args.task.now + 1) (all_bounded c.args.task.now (map rule_of c.args.rules.now)).wide [] in
     let ends = c.judge-judged.ensures scene opened refl in
-    same_chain enc c.judge-judged.new.enc c.close.new.enc (at_end scene.start c.judge-judged.new.enc c.judge-judged.new.board.slots.items _ c.judge-judged.result (λ verdict done. done.0.there.at) ends).same c.close.ensures.same_slots
+    same_chain enc c.judge-judged.new.enc c.close.new.enc (ends_at scene.start c.judge-judged.new.enc c.judge-judged.new.board.slots.items _ c.judge-judged.result (λ verdict done. done.0.there.at) ends).same c.close.ensures.same_slots
 
 pub returns-clause-made : goal.returns-clause-made
 returns-clause-made c any made =
@@ -118,4 +119,4 @@ returns-clause-made c any made =
     let scene = scene_of task enc c.requires.made (2 ^ fluent_count c.args.task.now + 1) rules (all_bounded c.args.task.now (map rule_of c.args.rules.now)) c.places.result are c.requires.in_task c.requires.goal in
     let opened = c.in_ok-board.ensures.opened task c.requires.made 0 (2 ^ fluent_count c.args.task.now + 1) (all_bounded c.args.task.now (map rule_of c.args.rules.now)).wide [] in
     let ends = c.judge-judged.ensures scene opened refl in
-    made_now any enc c.close.new.enc (same_chain enc c.judge-judged.new.enc c.close.new.enc (at_end scene.start c.judge-judged.new.enc c.judge-judged.new.board.slots.items _ c.judge-judged.result (λ verdict done. done.0.there.at) ends).same c.close.ensures.same_slots) (c.close.ensures.frame enc.sets (at_end scene.start c.judge-judged.new.enc c.judge-judged.new.board.slots.items _ c.judge-judged.result (λ verdict done. done.0.there.at) ends).working).kept made
+    made_now any enc c.close.new.enc (same_chain enc c.judge-judged.new.enc c.close.new.enc (ends_at scene.start c.judge-judged.new.enc c.judge-judged.new.board.slots.items _ c.judge-judged.result (λ verdict done. done.0.there.at) ends).same c.close.ensures.same_slots) (c.close.ensures.frame enc.sets (ends_at scene.start c.judge-judged.new.enc c.judge-judged.new.board.slots.items _ c.judge-judged.result (λ verdict done. done.0.there.at) ends).working).kept made

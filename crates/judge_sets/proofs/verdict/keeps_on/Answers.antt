@@ -1,5 +1,5 @@
 use Rattle.std.proofs.Common.{arith}
-use Rattle.board_steps.proofs.StepLemmas.{ends_with}
+use Rattle.slot_board.proofs.Endings.{ends_with}
 use Rattle.judge_sets.specs.Fixpoints.IsBegin.{followed}
 use Rattle.judge_sets.proofs.JudgeSteps.{cyclic_begin, cyclic_kept, strong_kept, weak_kept}
 use Rattle.judge_sets.proofs.verdict.keeps_on.Goals as goal

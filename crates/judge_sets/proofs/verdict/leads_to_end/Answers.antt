@@ -1,7 +1,7 @@
 use Rattle.std.proofs.Common.{arith}
 use Rattle.std.proofs.lemmas.Result.{err_from_is_err_and}
 use Rattle.slot_board.proofs.BoardSlots.{went}
-use Rattle.board_steps.proofs.StepLemmas.{passed_on}
+use Rattle.slot_board.proofs.Endings.{passed_on}
 use Rattle.judge_sets.proofs.JudgeSteps.{grown_test, grown_told, part_grown}
 use Rattle.judge_sets.proofs.StepFacts.{place_in, slot_in}
 use Rattle.judge_sets.proofs.verdict.leads_to_end.Goals as goal

@@ -1,7 +1,7 @@
 use Rattle.std.proofs.Common.{◌≡◌, ◌∙◌, arith, length, sym}
 use Rattle.std.proofs.lemmas.Result.{err_from_is_err_and}
 use Rattle.slot_board.proofs.BoardSlots.{same_actions}
-use Rattle.board_steps.proofs.StepLemmas.{found_of, passed_on}
+use Rattle.slot_board.proofs.Endings.{found_of, passed_on}
 use Rattle.judge_sets.proofs.JudgeSteps.{not_told, told_of}
 use Rattle.judge_sets.proofs.verdict.solves.Goals as goal
 

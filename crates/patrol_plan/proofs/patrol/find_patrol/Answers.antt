@@ -1,6 +1,6 @@
 use Rattle.std.proofs.Common.{◌≡◌, ◌∙◌, ◌+◌, ◌*◌, ◌^◌, ap, arith, length, refl, subst, sym}
-use Rattle.slot_board.proofs.BoardSlots.{same_chain}
 use Rattle.task_core.specs.Tasks.{action_count, fluent_count}
+use Rattle.preimage.proofs.FrameSteps.{same_chain}
 use Rattle.patrol_plan.specs.Chains.{IsPatrolOver, visit_sets}
 use Rattle.patrol_plan.specs.Scenes.{place_count, rough_places}
 use Rattle.patrol_plan.specs.Tables.{start_of}

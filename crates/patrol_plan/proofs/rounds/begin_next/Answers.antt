@@ -2,8 +2,9 @@ use Rattle.patrol_plan.proofs.SizeSteps.{fits_none, placed_small}
 use Rattle.patrol_plan.specs.Rounds.{turn_by}
 use Rattle.patrol_plan.specs.Sizes.{IsSmall}
 use Rattle.std.proofs.Common.{arith, inl, subst, sym}
+use Rattle.slot_board.specs.Board.{Scene}
 use Rattle.slot_board.proofs.BoardSlots.{left_with}
-use Rattle.patrol_plan.specs.Scenes.{Left, Scene, board_of, states_at, sys_in}
+use Rattle.patrol_plan.specs.Scenes.{Left, board_of, states_at, sys_in}
 use Rattle.patrol_plan.specs.Steps.{Leads}
 use Rattle.patrol_plan.specs.declared.rounds.Way.{Way}
 use Rattle.patrol_plan.proofs.SceneSteps.{low}

@@ -1,7 +1,8 @@
 use Rattle.patrol_plan.proofs.SizeSteps.{at_small, fits_meet, may_two, placed_small}
 use Rattle.std.proofs.Common.{arith, inl, subst, sym}
+use Rattle.slot_board.specs.Board.{Scene}
 use Rattle.slot_board.proofs.BoardSlots.{left_with}
-use Rattle.patrol_plan.specs.Scenes.{Left, Scene, board_of}
+use Rattle.patrol_plan.specs.Scenes.{Left, board_of}
 use Rattle.patrol_plan.specs.Steps.{KeepsHits}
 use Rattle.patrol_plan.specs.declared.rounds.Way.{Way}
 use Rattle.patrol_plan.proofs.SceneSteps.{low}

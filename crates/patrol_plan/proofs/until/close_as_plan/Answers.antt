@@ -1,5 +1,5 @@
+use Rattle.preimage.proofs.FrameSteps.{same_chain}
 use Rattle.patrol_plan.proofs.PlanSteps.{left_at, left_full}
-use Rattle.slot_board.proofs.BoardSlots.{same_chain}
 use Rattle.patrol_plan.proofs.until.close_as_plan.Goals as goal
 
 pub close-requires : goal.close-requires

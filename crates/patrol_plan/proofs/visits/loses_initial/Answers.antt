@@ -1,14 +1,11 @@
 -- The states that the round leaves, and the test of the initial ones.
-use Rattle.std.proofs.Common.{◌≡◌, Bool, true, false, not, arith, refl, sym, ◌∙◌}
+use Rattle.std.proofs.Common.{arith, sym, ◌∙◌}
+use Rattle.std.proofs.lemmas.Bool.{not-true}
 use Rattle.std.proofs.lemmas.Result.{err_from_is_err_and}
 use Rattle.slot_board.proofs.BoardSlots.{passed}
 use Rattle.patrol_plan.specs.Scenes.{board_of}
 use Rattle.patrol_plan.proofs.VisitSteps.{round_loses, visit_low, visits_stayed, visits_test}
 use Rattle.patrol_plan.proofs.visits.loses_initial.Goals as goal
-
-off : (b : Bool) → not b ≡ true → b ≡ false
-off true e = sym e
-off false e = refl
 
 pub covers_initial-requires-clause-working : goal.covers_initial-requires-clause-working
 covers_initial-requires-clause-working c = let r = c.requires.ready in (board_of r.0, r.3.stay.ready.at)
@@ -31,4 +28,4 @@ returns-clause-left c start conds r h =
 pub returns-clause-lost : goal.returns-clause-lost
 returns-clause-lost c start conds r h lost =
     round_loses start conds (c.args.enc.now, c.args.board.now.slots.items) r h
-    (sym (c.in_ok-held.ensures.answer (board_of start) h.stay.ready.at) ∙ off c.in_ok-held.held lost)
+    (sym (c.in_ok-held.ensures.answer (board_of start) h.stay.ready.at) ∙ not-true c.in_ok-held.held lost)

@@ -1,5 +1,5 @@
+use Rattle.plan_theory.specs.SetWords.{anywhere}
 use Rattle.dd_sets.specs.LiveSets.{everything}
-use Rattle.patrol_plan.specs.Guards.{anywhere}
 use Rattle.patrol_plan.specs.Scenes.{board_of, guarded}
 use Rattle.patrol_plan.specs.Sizes.{TurnsFit}
 use Rattle.patrol_plan.specs.declared.rounds.Way.TheVariants.{Shrinking}

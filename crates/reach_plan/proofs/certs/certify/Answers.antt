@@ -3,11 +3,11 @@ use Rattle.std.proofs.Common.{◌≡◌, ◌+◌, ◌∙◌, Err, ap, arith, len
 use Rattle.std.proofs.lemmas.Result.{err_from_is_err_and}
 use Rattle.dd_sets.specs.Rooms.{NoRoom}
 use Rattle.dd_sets.specs.declared.errors.SetErr.TheVariants.{Full}
+use Rattle.encode_task.proofs.MadeLemmas.{goal_there}
 use Rattle.preimage.proofs.FrameSteps.{made_now}
 use Rattle.task_core.specs.Tasks.{action_count}
 use Rattle.reach_plan.specs.Certs.{IsLeft}
 use Rattle.reach_plan.proofs.CertSteps.{in_task, printed, solution}
-use Rattle.reach_plan.proofs.PlanSteps.{goal_there}
 use Rattle.reach_plan.proofs.certs.certify.Goals as goal
 
 pub states_left-requires-clause-goal : goal.states_left-requires-clause-goal

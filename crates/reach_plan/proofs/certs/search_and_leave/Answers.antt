@@ -2,9 +2,9 @@
 use Rattle.std.proofs.Common.{◌≡◌, ℕ, ◌+◌, ◌<◌, arith, length, subst}
 use Rattle.std.proofs.lemmas.Result.{err_from_is_err_and}
 use Rattle.slot_board.proofs.BoardSlots.{went}
+use Rattle.slot_board.proofs.Endings.{passed_on}
 use Rattle.reach_plan.specs.Searches.{SearchLeft}
 use Rattle.reach_plan.proofs.CertSteps.{cubes_left}
-use Rattle.reach_plan.proofs.SearchSteps.{passed_on}
 use Rattle.reach_plan.proofs.certs.search_and_leave.Goals as goal
 
 pub search_back-requires-clause-ready : goal.search_back-requires-clause-ready

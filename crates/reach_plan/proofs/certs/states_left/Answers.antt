@@ -2,12 +2,11 @@
 use Rattle.std.proofs.Common.{◌+◌, ◌≡◌, ◌∙◌, [], ◌∷◌, arith, ap, length, sym, subst}
 use Rattle.std.specs.Prelude.{IsSome}
 use Rattle.encode_task.specs.Slots.{Encoded}
-use Rattle.slot_board.proofs.BoardSlots.{same_chain}
 use Rattle.dd_sets.proofs.RoomSteps.{room_wider}
 use Rattle.list_laws.proofs.Elements.{Contains-head}
+use Rattle.preimage.proofs.FrameSteps.{same_chain}
+use Rattle.slot_board.proofs.Endings.{ends_at, ends_full}
 use Rattle.reach_plan.proofs.CertSteps.{cert_pass, left_by}
-use Rattle.reach_plan.proofs.PlanSteps.{full_at}
-use Rattle.reach_plan.proofs.SearchSteps.{ends_at}
 use Rattle.reach_plan.proofs.SmallSets.{wide_enough}
 use Rattle.reach_plan.proofs.certs.states_left.Goals as goal
 
@@ -57,7 +56,7 @@ returns-clause-full c full task made width wide =
     let opened = c.in_ok-board.ensures.opened task made (c.args.actions + 12) width wide.wide (2 ∷ []) in
     room_wider c.args.enc.now.sets (4 + (c.args.actions + 12) + 8) (c.args.actions + 24) 5 16 (omega arith) (omega arith)
     (c.close.ensures.room c.args.enc.now.sets width _ _
-    (full_at start c.search_and_leave-left.new.enc c.search_and_leave-left.new.board.slots.items _ c.search_and_leave-left.result (c.search_and_leave-left.ensures start opened wide (Contains-head 2 [])) full))
+    (ends_full start c.search_and_leave-left.new.enc c.search_and_leave-left.new.board.slots.items _ c.search_and_leave-left.result (c.search_and_leave-left.ensures start opened wide (Contains-head 2 [])) full))
 
 pub returns-clause-slots : goal.returns-clause-slots
 returns-clause-slots c =

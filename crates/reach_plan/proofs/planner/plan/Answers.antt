@@ -3,10 +3,10 @@ use Rattle.std.proofs.Common.{◌≡◌, ◌∙◌, [], Err, ap, inl, refl, subs
 use Rattle.std.specs.List.{flat_map, range_with_len}
 use Rattle.std.proofs.lemmas.Result.{err_from_is_err_and}
 use Rattle.dd_sets.specs.declared.errors.SetErr.TheVariants.{Full}
-use Rattle.preimage.proofs.FrameSteps.{made_now}
+use Rattle.preimage.proofs.FrameSteps.{made_now, same_chain}
 use Rattle.dd_sets.proofs.SizeLemmas.{every_small}
 use Rattle.slot_board.specs.Board.{Working, set_at}
-use Rattle.slot_board.proofs.BoardSlots.{same_chain, working_owns}
+use Rattle.slot_board.proofs.BoardSlots.{working_owns}
 use Rattle.task_core.specs.Tasks.{action_count, fluent_count}
 use Rattle.reach_plan.specs.SetRules.{rules_of_place}
 use Rattle.reach_plan.specs.Takers.{AreFound, slots_of}

@@ -2,10 +2,11 @@
 use Rattle.std.proofs.Common.{◌≡◌, ◌++◌, [], ◌∷◌}
 use Rattle.std.proofs.lemmas.Result.{err_from_is_err_and}
 use Rattle.slot_board.proofs.BoardSlots.{passed, went}
+use Rattle.slot_board.proofs.Endings.{noted_then}
 use Rattle.reach_plan.specs.Steps.{untaken}
 use Rattle.slot_board.specs.declared.steps.Step.TheVariants.{Advance}
 use Rattle.reach_plan.proofs.PlaceFits.{fits_small}
-use Rattle.reach_plan.proofs.SearchSteps.{advanced, noted_then}
+use Rattle.reach_plan.proofs.SearchSteps.{advanced}
 use Rattle.reach_plan.proofs.search.advance.Goals as goal
 
 pub copy_of-requires-clause-working : goal.copy_of-requires-clause-working

@@ -2,10 +2,11 @@
 use Rattle.std.proofs.Common.{◌≡◌, ◌++◌, [], ◌∷◌, arith, length}
 use Rattle.std.proofs.lemmas.Result.{err_from_is_err_and}
 use Rattle.slot_board.proofs.BoardSlots.{passed, went}
+use Rattle.slot_board.proofs.Endings.{noted_then}
 use Rattle.slot_board.specs.declared.steps.Step.TheVariants.{Grow}
 use Rattle.reach_plan.specs.Steps.{untaken}
 use Rattle.reach_plan.proofs.PlaceFits.{grown_fits, joined_fits}
-use Rattle.reach_plan.proofs.SearchSteps.{joined_new, joined_none, noted_then}
+use Rattle.reach_plan.proofs.SearchSteps.{joined_new, joined_none}
 use Rattle.reach_plan.proofs.search.join_hits.Goals as goal
 
 pub combine-requires-clause-working : goal.combine-requires-clause-working

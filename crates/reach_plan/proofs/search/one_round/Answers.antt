@@ -3,10 +3,11 @@ use Rattle.std.proofs.Common.{◌≡◌, ◌∙◌, arith, length, sym}
 use Rattle.std.proofs.lemmas.Bool.{both_ways}
 use Rattle.std.proofs.lemmas.Result.{err_from_is_err_and}
 use Rattle.slot_board.proofs.BoardSlots.{made_at, same_actions, went}
+use Rattle.slot_board.proofs.Endings.{passed_on}
 use Rattle.task_core.specs.Tasks.{action_count}
 use Rattle.reach_plan.specs.Steps.{untaken}
 use Rattle.reach_plan.proofs.PlaceFits.{next_layer_small, test_fits}
-use Rattle.reach_plan.proofs.SearchSteps.{begins_still, covered_at, is_more, is_still, passed_on}
+use Rattle.reach_plan.proofs.SearchSteps.{begins_still, covered_at, is_more, is_still}
 use Rattle.reach_plan.proofs.search.one_round.Goals as goal
 
 pub covers_initial-requires-clause-working : goal.covers_initial-requires-clause-working

@@ -5,12 +5,12 @@ use Rattle.std.proofs.lemmas.Result.{err_from_is_err_and}
 use Rattle.dd_sets.specs.Rooms.{NoRoom}
 use Rattle.dd_sets.specs.declared.errors.SetErr.TheVariants.{Full}
 use Rattle.encode_task.specs.Slots.{Encoded}
-use Rattle.slot_board.proofs.BoardSlots.{same_chain}
-use Rattle.preimage.proofs.FrameSteps.{made_now}
+use Rattle.encode_task.proofs.MadeLemmas.{goal_there}
+use Rattle.preimage.proofs.FrameSteps.{made_now, same_chain}
 use Rattle.task_core.specs.Tasks.{action_count}
 use Rattle.reach_plan.specs.Steps.{LeadToLast}
 use Rattle.reach_plan.specs.Takers.{IsDecided}
-use Rattle.reach_plan.proofs.PlanSteps.{goal_there, on_err, owns_after, owns_working, room_after, working_after}
+use Rattle.reach_plan.proofs.PlanSteps.{on_err, owns_after, owns_working, room_after, working_after}
 use Rattle.reach_plan.proofs.takers.find_takers.Goals as goal
 
 pub is_covered-requires-clause-goal : goal.is_covered-requires-clause-goal

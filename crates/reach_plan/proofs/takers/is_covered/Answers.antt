@@ -2,10 +2,10 @@
 use Rattle.std.proofs.Common.{◌+◌, ◌≡◌, ◌∙◌, [], arith, ap, length, sym, subst}
 use Rattle.std.specs.Prelude.{IsSome}
 use Rattle.encode_task.specs.Slots.{Encoded}
-use Rattle.slot_board.proofs.BoardSlots.{same_chain}
 use Rattle.dd_sets.proofs.RoomSteps.{room_wider}
-use Rattle.reach_plan.proofs.PlanSteps.{decided_by, full_at, left_at, first_pass}
-use Rattle.reach_plan.proofs.SearchSteps.{ends_at}
+use Rattle.preimage.proofs.FrameSteps.{same_chain}
+use Rattle.slot_board.proofs.Endings.{ends_at, ends_full}
+use Rattle.reach_plan.proofs.PlanSteps.{decided_by, left_at, first_pass}
 use Rattle.reach_plan.proofs.SmallSets.{wide_enough}
 use Rattle.reach_plan.proofs.takers.is_covered.Goals as goal
 
@@ -55,7 +55,7 @@ returns-clause-full c full task made width wide =
     let opened = c.in_ok-board.ensures.opened task made (c.args.actions + 12) width wide.wide [] in
     room_wider c.args.enc.now.sets (4 + (c.args.actions + 12) + 8) (c.args.actions + 24) 4 16 (omega arith) (omega arith)
     (c.close.ensures.room c.args.enc.now.sets width _ _
-    (full_at start c.search_back-covered.new.enc c.search_back-covered.new.board.slots.items _ c.search_back-covered.result (c.search_back-covered.ensures start opened wide) full))
+    (ends_full start c.search_back-covered.new.enc c.search_back-covered.new.board.slots.items _ c.search_back-covered.result (c.search_back-covered.ensures start opened wide) full))
 
 pub returns-clause-slots : goal.returns-clause-slots
 returns-clause-slots c =

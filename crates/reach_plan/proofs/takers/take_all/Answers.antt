@@ -5,7 +5,7 @@ use Rattle.std.specs.List.{list_all}
 use Rattle.dd_sets.specs.declared.errors.SetErr.TheVariants.{Full}
 use Rattle.dd_sets.proofs.RoomSteps.{room_wider}
 use Rattle.encode_task.specs.Slots.{Encoded}
-use Rattle.slot_board.proofs.BoardSlots.{same_chain}
+use Rattle.preimage.proofs.FrameSteps.{same_chain}
 use Rattle.reach_plan.specs.Steps.{is_step_of}
 use Rattle.reach_plan.proofs.PlanSteps.{may_retrace, second_pass, takers_held}
 use Rattle.reach_plan.proofs.SmallSets.{wide_enough}

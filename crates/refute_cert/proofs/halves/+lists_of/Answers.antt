@@ -3,11 +3,12 @@ use Rattle.std.proofs.Common.{◌≡◌, ◌<◌, ◌++◌, ◌∙◌, length, a
 use Rattle.dd_nodes.specs.Subfunctions.{Function}
 use Rattle.dd_sets.specs.Frames.{OwnsAnswer}
 use Rattle.dd_sets.proofs.OwnedLemmas.{both}
+use Rattle.encode_task.proofs.HalfLemmas.{halves_some}
 use Rattle.encode_task.proofs.PartLemmas.{answer_slot}
 use Rattle.plan_certs.specs.Named.{IsSetOf, cube_of}
 use Rattle.plan_rules.specs.Plans.{IsCubeOf}
 use Rattle.plan_rules.proofs.MappedItems.{mapped_item}
-use Rattle.refute_cert.proofs.HalfLemmas.{back_in_task, both_halves, cubes_are, front_in_task, halves_some}
+use Rattle.refute_cert.proofs.HalfLemmas.{back_in_task, both_halves, cubes_are, front_in_task}
 use Rattle.refute_cert.proofs.halves.+lists_of.Goals as goal
 
 pub lists_of_cube-requires : goal.lists_of_cube-requires

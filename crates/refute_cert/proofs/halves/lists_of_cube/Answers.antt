@@ -2,8 +2,8 @@
 use Rattle.std.proofs.Common.{[], ◌∷◌, subst, take}
 use Rattle.dd_nodes.specs.Subfunctions.{Function}
 use Rattle.dd_sets.specs.Frames.{Owns}
+use Rattle.encode_task.specs.TaskSets.{cube_set}
 use Rattle.encode_task.proofs.PartLemmas.{answer_slot}
-use Rattle.refute_cert.specs.Sets.{cube_set}
 use Rattle.refute_cert.proofs.HalfLemmas.{cube_more_at}
 use Rattle.refute_cert.proofs.halves.lists_of_cube.Goals as goal
 

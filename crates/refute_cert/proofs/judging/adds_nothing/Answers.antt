@@ -1,5 +1,5 @@
 use Rattle.std.proofs.lemmas.Bool.{false≢true}
-use Rattle.board_steps.proofs.StepLemmas.{ends_with}
+use Rattle.slot_board.proofs.Endings.{ends_with}
 use Rattle.refute_cert.proofs.judging.adds_nothing.Goals as goal
 
 pub returns-in-Weak : goal.returns-in-Weak

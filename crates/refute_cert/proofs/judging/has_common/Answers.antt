@@ -1,8 +1,8 @@
 use Rattle.std.proofs.Common.{◌≡◌, ◌∙◌, arith, length}
 use Rattle.std.proofs.lemmas.Result.{err_from_is_err_and}
 use Rattle.slot_board.proofs.BoardSlots.{went}
+use Rattle.slot_board.proofs.Endings.{passed_on, wants_memory}
 use Rattle.refute_cert.proofs.JudgeLemmas.{common_answer, common_done, common_program, run_can, run_left}
-use Rattle.board_steps.proofs.StepLemmas.{passed_on, wants_memory}
 use Rattle.refute_cert.proofs.KnownSets.{of_union, shows_union}
 use Rattle.refute_cert.proofs.judging.has_common.Goals as goal
 

@@ -3,7 +3,7 @@ use Rattle.std.proofs.lemmas.Result.{err_from_is_err_and}
 use Rattle.dd_sets.specs.LiveSets.{nothing}
 use Rattle.dd_nodes.specs.Subfunctions.{Function}
 use Rattle.slot_board.proofs.BoardSlots.{went}
-use Rattle.board_steps.proofs.StepLemmas.{passed_on}
+use Rattle.slot_board.proofs.Endings.{passed_on}
 use Rattle.refute_cert.proofs.judging.has_nothing_new.Goals as goal
 
 pub returns-in_err-put_new : goal.returns-in_err-put_new

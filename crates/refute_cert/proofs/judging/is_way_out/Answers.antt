@@ -1,7 +1,7 @@
 use Rattle.std.proofs.lemmas.Result.{err_from_is_err_and}
 use Rattle.slot_board.proofs.BoardSlots.{action_within, went}
+use Rattle.slot_board.proofs.Endings.{ends_with, passed_on}
 use Rattle.refute_cert.proofs.CubeLoops.{way_cubes}
-use Rattle.board_steps.proofs.StepLemmas.{ends_with, passed_on}
 use Rattle.refute_cert.proofs.judging.is_way_out.Goals as goal
 
 pub make_way_out-requires-clause-ready : goal.make_way_out-requires-clause-ready

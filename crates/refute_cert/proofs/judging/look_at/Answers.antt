@@ -2,7 +2,7 @@ use Rattle.std.proofs.Common.{◌≡◌, arith, length}
 use Rattle.std.proofs.lemmas.Result.{err_from_is_err_and}
 use Rattle.plan_certs.specs.Named.{set_of}
 use Rattle.slot_board.proofs.BoardSlots.{same_actions, went}
-use Rattle.board_steps.proofs.StepLemmas.{found_of, passed_on}
+use Rattle.slot_board.proofs.Endings.{found_of, passed_on}
 use Rattle.refute_cert.proofs.KeptLemmas.{passed_over, union_same}
 use Rattle.refute_cert.proofs.ShownLemmas.{states_small, union_is}
 use Rattle.refute_cert.proofs.judging.look_at.Goals as goal

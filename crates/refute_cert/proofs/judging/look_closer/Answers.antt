@@ -1,7 +1,7 @@
 use Rattle.std.proofs.Common.{◌∙◌, sym, true≢false}
 use Rattle.std.proofs.lemmas.Result.{err_from_is_err_and}
 use Rattle.slot_board.proofs.BoardSlots.{went}
-use Rattle.board_steps.proofs.StepLemmas.{found_of, passed_on}
+use Rattle.slot_board.proofs.Endings.{found_of, passed_on}
 use Rattle.refute_cert.proofs.judging.look_closer.Goals as goal
 
 pub returns-in_err-some_is_way_out : goal.returns-in_err-some_is_way_out

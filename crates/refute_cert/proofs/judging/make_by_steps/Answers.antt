@@ -1,11 +1,11 @@
 use Rattle.std.proofs.Common.{◌≡◌, ◌∙◌, ap, subst, sym}
 use Rattle.dd_sets.specs.declared.slots.SetId.{SetId}
 use Rattle.plan_certs.specs.Named.{set_of as cubes_in}
+use Rattle.slot_board.proofs.Endings.{wants_memory}
 use Rattle.refute_cert.specs.Programs.{set_steps}
 use Rattle.board_steps.specs.Steps.{CanMakeAll}
 use Rattle.std.proofs.lemmas.Result.{err_from_is_err_and}
 use Rattle.refute_cert.proofs.JudgeLemmas.{run_can, run_left, set_done, set_program}
-use Rattle.board_steps.proofs.StepLemmas.{wants_memory}
 use Rattle.refute_cert.proofs.KnownSets.{of_union, shows_union}
 use Rattle.refute_cert.proofs.judging.make_by_steps.Goals as goal
 

@@ -2,10 +2,10 @@ use Rattle.std.proofs.Common.{◌≡◌, ◌∙◌, ap}
 use Rattle.std.proofs.lemmas.Result.{err_from_is_err_and}
 use Rattle.dd_sets.specs.declared.slots.SetId.{SetId}
 use Rattle.encode_task.specs.Slots.{exec_slot}
+use Rattle.slot_board.proofs.Endings.{wants_memory}
 use Rattle.refute_cert.specs.Programs.{way_out_steps}
 use Rattle.refute_cert.specs.Sets.{states_in}
 use Rattle.refute_cert.proofs.JudgeLemmas.{run_can, run_left, way_done, way_program}
-use Rattle.board_steps.proofs.StepLemmas.{wants_memory}
 use Rattle.refute_cert.proofs.KnownSets.{of_set, shows_set}
 use Rattle.refute_cert.proofs.judging.make_way_out.Goals as goal
 

@@ -4,10 +4,10 @@ use Rattle.std.specs.List.{list_any, range_with_len}
 use Rattle.plan_certs.specs.Named.{set_of}
 use Rattle.list_laws.proofs.Elements.{Contains-range_with_len, list_any-from}
 use Rattle.slot_board.proofs.BoardSlots.{made_at, same_actions}
+use Rattle.slot_board.proofs.Endings.{found_of, passed_on}
 use Rattle.task_core.specs.Tasks.{action_count}
 use Rattle.refute_cert.specs.Sets.{leaves_by}
 use Rattle.refute_cert.proofs.CubeLoops.{actions_more}
-use Rattle.board_steps.proofs.StepLemmas.{found_of, passed_on}
 use Rattle.refute_cert.proofs.judging.some_is_way_out.Goals as goal
 
 pub loop-a-init : goal.loop-a-init

@@ -2,10 +2,11 @@ use Rattle.std.proofs.Common.{◌≡◌, ◌<◌, ◌∙◌, [], ◌∷◌, ap, 
 use Rattle.std.proofs.lemmas.Result.{err_from_is_err_and}
 use Rattle.task_core.specs.Cubes.{Cube}
 use Rattle.task_core.specs.Tasks.{fluent_count}
+use Rattle.encode_task.specs.TaskSets.{cube_set}
+use Rattle.slot_board.proofs.Endings.{found_of, passed_on}
 use Rattle.refute_cert.specs.Sizes.{CubesFit}
-use Rattle.refute_cert.specs.Sets.{cube_set, meets}
+use Rattle.refute_cert.specs.Sets.{meets}
 use Rattle.refute_cert.proofs.CubeLoops.{cube_fits, cubes_ended, cubes_found, cubes_more}
-use Rattle.board_steps.proofs.StepLemmas.{found_of, passed_on}
 use Rattle.refute_cert.proofs.judging.some_matches_left.Goals as goal
 
 pub loop-cube-init : goal.loop-cube-init

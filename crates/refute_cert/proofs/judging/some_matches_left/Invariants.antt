@@ -2,9 +2,10 @@ use Rattle.std.proofs.Common.{◌≡◌, drop, map}
 use Rattle.std.specs.List.{list_any}
 use Rattle.dd_nodes.specs.Subfunctions.{Function}
 use Rattle.plan_certs.specs.Named.{cube_of, set_of}
+use Rattle.encode_task.specs.TaskSets.{cube_set}
 use Rattle.slot_board.specs.Board.{Start}
 use Rattle.task_core.specs.Tasks.{fluent_count}
-use Rattle.refute_cert.specs.Sets.{cube_set, meets}
+use Rattle.refute_cert.specs.Sets.{meets}
 use Rattle.refute_cert.specs.Sizes.{CubesFit, HasLeft}
 use Rattle.refute_cert.proofs.judging.some_matches_left.Given as goal
 

@@ -1,9 +1,9 @@
 use Rattle.std.proofs.Common.{◌≡◌, ◌∙◌, arith, length, refl, sym}
 use Rattle.std.proofs.lemmas.Result.{err_from_is_err_and}
 use Rattle.slot_board.proofs.BoardSlots.{same_actions}
+use Rattle.slot_board.proofs.Endings.{found_of, passed_on}
 use Rattle.refute_cert.proofs.LoopLemmas.{looked_all, looked_found, looked_more, next_fits}
 use Rattle.board_steps.proofs.MakeLemmas.{drop_item, drop_none}
-use Rattle.board_steps.proofs.StepLemmas.{found_of, passed_on}
 use Rattle.refute_cert.proofs.judging.some_set_is_left.Goals as goal
 
 pub loop-set-init : goal.loop-set-init

@@ -2,7 +2,7 @@ use Rattle.std.proofs.Common.{◌≡◌, ◌∙◌, arith, length, map, sym}
 use Rattle.std.proofs.lemmas.Result.{err_from_is_err_and}
 use Rattle.plan_certs.specs.Named.{set_of}
 use Rattle.slot_board.proofs.BoardSlots.{same_actions, went}
-use Rattle.board_steps.proofs.StepLemmas.{ends_with, found_of, passed_on}
+use Rattle.slot_board.proofs.Endings.{ends_with, found_of, passed_on}
 use Rattle.refute_cert.proofs.UnionLemmas.{judged_goal, judged_initial, judged_rest, same_goal}
 use Rattle.refute_cert.proofs.verdict.judge.Goals as goal
 

@@ -1,9 +1,9 @@
 use Rattle.std.proofs.Common.{◌≡◌, ◌∙◌, ap, arith, if◌then◌else◌, length, sym}
 use Rattle.std.proofs.lemmas.Result.{err_from_is_err_and}
 use Rattle.slot_board.proofs.BoardSlots.{same_actions, went}
+use Rattle.slot_board.proofs.Endings.{found_of, passed_on}
 use Rattle.refute_cert.specs.declared.verdict.Flaw.TheVariants.{Action}
 use Rattle.refute_cert.specs.declared.verdict.Judged.TheVariants.{Accepted, Rejected}
-use Rattle.board_steps.proofs.StepLemmas.{found_of, passed_on}
 use Rattle.refute_cert.proofs.KeptLemmas.{nothing_kept}
 use Rattle.refute_cert.proofs.verdict.judge_actions.Goals as goal
 

@@ -4,14 +4,15 @@ use Rattle.std.specs.Prelude.{IsSome}
 use Rattle.dd_sets.proofs.NoRoomLemmas.{no_room_tight}
 use Rattle.dd_sets.proofs.RoomSteps.{room_wider}
 use Rattle.encode_task.specs.Slots.{Encoded}
+use Rattle.encode_task.proofs.MadeLemmas.{goal_there}
 use Rattle.plan_certs.specs.Named.{plain_certificate, set_of}
-use Rattle.preimage.proofs.FrameSteps.{made_now}
+use Rattle.preimage.proofs.FrameSteps.{made_now, same_chain}
+use Rattle.slot_board.proofs.Endings.{ends_at, ends_full, ends_ok}
 use Rattle.refute_cert.specs.Judgements.{IsVerdict, judgement}
 use Rattle.refute_cert.specs.Sizes.{JudgeFits}
-use Rattle.refute_cert.proofs.FitLemmas.{at_end, board_of, full_at, goal_there, judge_fits, ok_with, start_of}
+use Rattle.refute_cert.proofs.FitLemmas.{board_of, judge_fits, start_of}
 use Rattle.refute_cert.proofs.Sizes.{large_fits, room_by_sets}
 use Rattle.refute_cert.proofs.VerdictLemmas.{verdict_is}
-use Rattle.slot_board.proofs.BoardSlots.{same_chain}
 use Rattle.task_core.specs.Tasks.{action_count, fluent_count, system_of}
 use Rattle.refute_cert.proofs.verdict.refute.Goals as goal
 
@@ -45,7 +46,7 @@ close-requires c =
     let start = start_of c.args.task.now c.args.enc.now c.requires.made (2 ^ fluent_count c.args.task.now + 1) (large_fits c.args.certificate.now.class c.args.task.now (map set_of c.args.certificate.now.sets.items)).wide in
     let opened = c.in_ok-board.ensures.opened c.args.task.now c.requires.made 0 (2 ^ fluent_count c.args.task.now + 1) (large_fits c.args.certificate.now.class c.args.task.now (map set_of c.args.certificate.now.sets.items)).wide (2 ∷ 4 ∷ []) in
     let fits = subst (JudgeFits start class) (sym eq) (judge_fits start class sets (board_of c.args.task.now c.args.enc.now c.requires.made (2 ^ fluent_count c.args.task.now + 1) (large_fits c.args.certificate.now.class c.args.task.now (map set_of c.args.certificate.now.sets.items)).wide) c.requires.in_task (large_fits c.args.certificate.now.class c.args.task.now (map set_of c.args.certificate.now.sets.items))) in
-    (c.args.enc.now.sets, (at_end start c.judge-judged.new.enc c.judge-judged.new.board.slots.items _ c.judge-judged.result (λ judged done. done.0) (c.judge-judged.ensures start opened.at fits)).working)
+    (c.args.enc.now.sets, (ends_at start c.judge-judged.new.enc c.judge-judged.new.board.slots.items _ c.judge-judged.result (λ judged done. done.0) (c.judge-judged.ensures start opened.at fits)).working)
 
 pub returns-clause-verdict : goal.returns-clause-verdict
 returns-clause-verdict c =
@@ -55,7 +56,7 @@ returns-clause-verdict c =
     let start = start_of c.args.task.now c.args.enc.now c.requires.made (2 ^ fluent_count c.args.task.now + 1) (large_fits c.args.certificate.now.class c.args.task.now (map set_of c.args.certificate.now.sets.items)).wide in
     let opened = c.in_ok-board.ensures.opened c.args.task.now c.requires.made 0 (2 ^ fluent_count c.args.task.now + 1) (large_fits c.args.certificate.now.class c.args.task.now (map set_of c.args.certificate.now.sets.items)).wide (2 ∷ 4 ∷ []) in
     let fits = subst (JudgeFits start class) (sym eq) (judge_fits start class sets (board_of c.args.task.now c.args.enc.now c.requires.made (2 ^ fluent_count c.args.task.now + 1) (large_fits c.args.certificate.now.class c.args.task.now (map set_of c.args.certificate.now.sets.items)).wide) c.requires.in_task (large_fits c.args.certificate.now.class c.args.task.now (map set_of c.args.certificate.now.sets.items))) in
-    ok_with start c.judge-judged.new.enc c.judge-judged.new.board.slots.items _ _ c.judge-judged.result
+    ends_ok start c.judge-judged.new.enc c.judge-judged.new.board.slots.items _ _ c.judge-judged.result
     (λ judged done. subst (IsVerdict (system_of c.args.task.now) (plain_certificate c.args.certificate.now)) (sym (done.1 ∙ ap (judgement class c.args.task.now) eq)) (verdict_is c.args.task.now (plain_certificate c.args.certificate.now) c.requires.in_task c.requires.goal))
     (c.judge-judged.ensures start opened.at fits)
 
@@ -69,7 +70,7 @@ returns-clause-full c full =
     let fits = subst (JudgeFits start class) (sym eq) (judge_fits start class sets (board_of c.args.task.now c.args.enc.now c.requires.made (2 ^ fluent_count c.args.task.now + 1) (large_fits c.args.certificate.now.class c.args.task.now (map set_of c.args.certificate.now.sets.items)).wide) c.requires.in_task (large_fits c.args.certificate.now.class c.args.task.now (map set_of c.args.certificate.now.sets.items))) in
     no_room_tight (2 ^ fluent_count c.args.task.now + 1) c.args.enc.now.sets c.close.new.enc.sets 24 6
     (room_wider c.args.enc.now.sets (5 + 0 + 8) 24 6 6 (omega arith) (omega arith)
-    (c.close.ensures.room c.args.enc.now.sets (2 ^ fluent_count c.args.task.now + 1) _ _ (full_at start c.judge-judged.new.enc c.judge-judged.new.board.slots.items _ c.judge-judged.result (c.judge-judged.ensures start opened.at fits) full)))
+    (c.close.ensures.room c.args.enc.now.sets (2 ^ fluent_count c.args.task.now + 1) _ _ (ends_full start c.judge-judged.new.enc c.judge-judged.new.board.slots.items _ c.judge-judged.result (c.judge-judged.ensures start opened.at fits) full)))
 
 pub returns-clause-at_limit : goal.returns-clause-at_limit
 returns-clause-at_limit c full =
@@ -79,7 +80,7 @@ returns-clause-at_limit c full =
     let start = start_of c.args.task.now c.args.enc.now c.requires.made (2 ^ fluent_count c.args.task.now + 1) (large_fits c.args.certificate.now.class c.args.task.now (map set_of c.args.certificate.now.sets.items)).wide in
     let opened = c.in_ok-board.ensures.opened c.args.task.now c.requires.made 0 (2 ^ fluent_count c.args.task.now + 1) (large_fits c.args.certificate.now.class c.args.task.now (map set_of c.args.certificate.now.sets.items)).wide (2 ∷ 4 ∷ []) in
     let fits = subst (JudgeFits start class) (sym eq) (judge_fits start class sets (board_of c.args.task.now c.args.enc.now c.requires.made (2 ^ fluent_count c.args.task.now + 1) (large_fits c.args.certificate.now.class c.args.task.now (map set_of c.args.certificate.now.sets.items)).wide) c.requires.in_task (large_fits c.args.certificate.now.class c.args.task.now (map set_of c.args.certificate.now.sets.items))) in
-    (c.close.ensures.room c.args.enc.now.sets (2 ^ fluent_count c.args.task.now + 1) _ _ (full_at start c.judge-judged.new.enc c.judge-judged.new.board.slots.items _ c.judge-judged.result (c.judge-judged.ensures start opened.at fits) full)).at_limit
+    (c.close.ensures.room c.args.enc.now.sets (2 ^ fluent_count c.args.task.now + 1) _ _ (ends_full start c.judge-judged.new.enc c.judge-judged.new.board.slots.items _ c.judge-judged.result (c.judge-judged.ensures start opened.at fits) full)).at_limit
 
 pub returns-clause-full_by_sets : goal.returns-clause-full_by_sets
 returns-clause-full_by_sets c full order w wide =
@@ -92,7 +93,7 @@ returns-clause-full_by_sets c full order w wide =
     let opened = c.in_ok-board.ensures.opened c.args.task.now c.requires.made 0 (r) sizes.wide (2 ∷ 4 ∷ []) in
     let fits = subst (JudgeFits start class) (sym eq) (judge_fits start class sets (board_of c.args.task.now c.args.enc.now c.requires.made (r) sizes.wide) c.requires.in_task sizes) in
     room_wider c.args.enc.now.sets (5 + 0 + 8) 13 6 6 (omega arith) (omega arith)
-    (c.close.ensures.room c.args.enc.now.sets r _ _ (full_at start c.judge-judged.new.enc c.judge-judged.new.board.slots.items _ c.judge-judged.result (c.judge-judged.ensures start opened.at fits) full)))
+    (c.close.ensures.room c.args.enc.now.sets r _ _ (ends_full start c.judge-judged.new.enc c.judge-judged.new.board.slots.items _ c.judge-judged.result (c.judge-judged.ensures start opened.at fits) full)))
     order
 
 pub returns-clause-slots : goal.returns-clause-slots
@@ -103,7 +104,7 @@ returns-clause-slots c =
     let start = start_of c.args.task.now c.args.enc.now c.requires.made (2 ^ fluent_count c.args.task.now + 1) (large_fits c.args.certificate.now.class c.args.task.now (map set_of c.args.certificate.now.sets.items)).wide in
     let opened = c.in_ok-board.ensures.opened c.args.task.now c.requires.made 0 (2 ^ fluent_count c.args.task.now + 1) (large_fits c.args.certificate.now.class c.args.task.now (map set_of c.args.certificate.now.sets.items)).wide (2 ∷ 4 ∷ []) in
     let fits = subst (JudgeFits start class) (sym eq) (judge_fits start class sets (board_of c.args.task.now c.args.enc.now c.requires.made (2 ^ fluent_count c.args.task.now + 1) (large_fits c.args.certificate.now.class c.args.task.now (map set_of c.args.certificate.now.sets.items)).wide) c.requires.in_task (large_fits c.args.certificate.now.class c.args.task.now (map set_of c.args.certificate.now.sets.items))) in
-    c.close.ensures.frame c.args.enc.now.sets (at_end start c.judge-judged.new.enc c.judge-judged.new.board.slots.items _ c.judge-judged.result (λ judged done. done.0) (c.judge-judged.ensures start opened.at fits)).working
+    c.close.ensures.frame c.args.enc.now.sets (ends_at start c.judge-judged.new.enc c.judge-judged.new.board.slots.items _ c.judge-judged.result (λ judged done. done.0) (c.judge-judged.ensures start opened.at fits)).working
 
 pub returns-clause-same_slots : goal.returns-clause-same_slots
 returns-clause-same_slots c =
@@ -113,7 +114,7 @@ returns-clause-same_slots c =
     let start = start_of c.args.task.now c.args.enc.now c.requires.made (2 ^ fluent_count c.args.task.now + 1) (large_fits c.args.certificate.now.class c.args.task.now (map set_of c.args.certificate.now.sets.items)).wide in
     let opened = c.in_ok-board.ensures.opened c.args.task.now c.requires.made 0 (2 ^ fluent_count c.args.task.now + 1) (large_fits c.args.certificate.now.class c.args.task.now (map set_of c.args.certificate.now.sets.items)).wide (2 ∷ 4 ∷ []) in
     let fits = subst (JudgeFits start class) (sym eq) (judge_fits start class sets (board_of c.args.task.now c.args.enc.now c.requires.made (2 ^ fluent_count c.args.task.now + 1) (large_fits c.args.certificate.now.class c.args.task.now (map set_of c.args.certificate.now.sets.items)).wide) c.requires.in_task (large_fits c.args.certificate.now.class c.args.task.now (map set_of c.args.certificate.now.sets.items))) in
-    same_chain c.args.enc.now c.judge-judged.new.enc c.close.new.enc (at_end start c.judge-judged.new.enc c.judge-judged.new.board.slots.items _ c.judge-judged.result (λ judged done. done.0) (c.judge-judged.ensures start opened.at fits)).same c.close.ensures.same_slots
+    same_chain c.args.enc.now c.judge-judged.new.enc c.close.new.enc (ends_at start c.judge-judged.new.enc c.judge-judged.new.board.slots.items _ c.judge-judged.result (λ judged done. done.0) (c.judge-judged.ensures start opened.at fits)).same c.close.ensures.same_slots
 
 pub returns-clause-made : goal.returns-clause-made
 returns-clause-made c task made =
@@ -123,4 +124,4 @@ returns-clause-made c task made =
     let start = start_of c.args.task.now c.args.enc.now c.requires.made (2 ^ fluent_count c.args.task.now + 1) (large_fits c.args.certificate.now.class c.args.task.now (map set_of c.args.certificate.now.sets.items)).wide in
     let opened = c.in_ok-board.ensures.opened c.args.task.now c.requires.made 0 (2 ^ fluent_count c.args.task.now + 1) (large_fits c.args.certificate.now.class c.args.task.now (map set_of c.args.certificate.now.sets.items)).wide (2 ∷ 4 ∷ []) in
     let fits = subst (JudgeFits start class) (sym eq) (judge_fits start class sets (board_of c.args.task.now c.args.enc.now c.requires.made (2 ^ fluent_count c.args.task.now + 1) (large_fits c.args.certificate.now.class c.args.task.now (map set_of c.args.certificate.now.sets.items)).wide) c.requires.in_task (large_fits c.args.certificate.now.class c.args.task.now (map set_of c.args.certificate.now.sets.items))) in
-    made_now task c.args.enc.now c.close.new.enc (same_chain c.args.enc.now c.judge-judged.new.enc c.close.new.enc (at_end start c.judge-judged.new.enc c.judge-judged.new.board.slots.items _ c.judge-judged.result (λ judged done. done.0) (c.judge-judged.ensures start opened.at fits)).same c.close.ensures.same_slots) (c.close.ensures.frame c.args.enc.now.sets (at_end start c.judge-judged.new.enc c.judge-judged.new.board.slots.items _ c.judge-judged.result (λ judged done. done.0) (c.judge-judged.ensures start opened.at fits)).working).kept made
+    made_now task c.args.enc.now c.close.new.enc (same_chain c.args.enc.now c.judge-judged.new.enc c.close.new.enc (ends_at start c.judge-judged.new.enc c.judge-judged.new.board.slots.items _ c.judge-judged.result (λ judged done. done.0) (c.judge-judged.ensures start opened.at fits)).same c.close.ensures.same_slots) (c.close.ensures.frame c.args.enc.now.sets (ends_at start c.judge-judged.new.enc c.judge-judged.new.board.slots.items _ c.judge-judged.result (λ judged done. done.0) (c.judge-judged.ensures start opened.at fits)).working).kept made

@@ -1,5 +1,6 @@
 use Rattle.std.proofs.Common.{◌≡◌, ◌+◌, arith, length}
-use Rattle.slot_board.proofs.BoardSlots.{on_ok, same_chain}
+use Rattle.preimage.proofs.FrameSteps.{same_chain}
+use Rattle.slot_board.proofs.BoardSlots.{on_ok}
 use Rattle.slot_board.proofs.board.Board.fill.Goals as goal
 
 pub add-requires : goal.add-requires
