@@ -11,7 +11,6 @@ use Rattle.preimage.specs.WorkingSets.{IsMadeByRound, first_every}
 use Rattle.preimage.specs.WorkingSets.IsMadeByRound.{itself}
 use Rattle.slot_board.specs.Board as board
 use Rattle.slot_board.specs.Board.{Scene, set_at}
-use Rattle.plan_theory.specs.SetWords.{anywhere}
 use Rattle.plan_theory.specs.UntilChains.{SetStage, UntilSets, guarded_from, until_met_count, until_win}
 use Rattle.plan_theory.specs.LayerPlans.{is_action}
 use Rattle.plan_theory.specs.Safe.{safe_action, safe_round, safe_set}
@@ -45,6 +44,7 @@ use Rattle.patrol_plan.proofs.SizeSteps.{placed_small, rough_left, round_fits_sa
 use Rattle.patrol_plan.proofs.SceneSteps.{long_enough}
 use Rattle.patrol_plan.proofs.StageLemmas.{first_same, near_same}
 use Rattle.patrol_plan.proofs.WinSteps.{drop_none, drop_some}
+use Rattle.plan_theory.specs.GuardedSets.{anywhere}
 
 -- stages are counted from 1 or from 0
 guarded_from_one : (c : ℕ) (stages : List SetStage) → guarded_from (suc c) stages ≡ drop c stages

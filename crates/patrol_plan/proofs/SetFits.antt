@@ -12,7 +12,6 @@ use Rattle.preimage.proofs.SizeLemmas.{every_fits}
 use Rattle.preimage.specs.WorkingSets.{IsMadeByRound, first_every, hits_at, some_below}
 use Rattle.preimage.specs.WorkingSets.IsMadeByRound.{hit, itself, joined, part}
 use Rattle.plan_theory.specs.Layers.{must_lead}
-use Rattle.plan_theory.specs.SetWords.{anywhere}
 use Rattle.task_core.specs.Actions.{after_value}
 use Rattle.task_core.specs.Cubes.{SetOfVectors}
 use Rattle.task_core.specs.Systems.{IsVector, System}
@@ -28,6 +27,7 @@ use Rattle.patrol_plan.specs.declared.rounds.Way.TheVariants.{Growing, Shrinking
 use Rattle.patrol_plan.proofs.Guards.{must_inside}
 use Rattle.patrol_plan.proofs.RoundSteps.{any_more}
 use Rattle.patrol_plan.proofs.SizeSteps.{small_states}
+use Rattle.plan_theory.specs.GuardedSets.{anywhere}
 
 -- a set of states depends on the first values alone
 same_values : (p q : ℕ → Bool) (first n : ℕ) → ((u : ℕ) → first ≤ u → u < first + n → p u ≡ q u) → map p (range_with_len first n) ≡ map q (range_with_len first n)

@@ -21,7 +21,6 @@ use Rattle.list_laws.proofs.Elements.{list_all-at, list_all-from}
 use Rattle.plan_theory.proofs.RoundSteps.{held}
 use Rattle.plan_theory.specs.Patrols.{covers_patrol, patrol_set, visit_set, visited}
 use Rattle.plan_theory.specs.Safe.{some_must_lead}
-use Rattle.plan_theory.specs.SetWords.{anywhere}
 use Rattle.plan_theory.specs.StageSets.{near}
 use Rattle.task_core.specs.Conditions.{holds}
 use Rattle.task_core.specs.Cubes.{SetOfVectors}
@@ -48,6 +47,7 @@ use Rattle.patrol_plan.proofs.SizeSteps.{placed_small, fits_small, round_fits_sa
 use Rattle.patrol_plan.proofs.StageLemmas.{near_same}
 use Rattle.patrol_plan.proofs.TakenSteps.{takers_within}
 use Rattle.patrol_plan.proofs.WinSteps.{space_holds}
+use Rattle.plan_theory.specs.GuardedSets.{anywhere}
 
 -- the first of some lists
 pub all_more : {X : Type 0} (f : X → Bool) (xs : List X) (i : ℕ) (other : X) → i < length xs → (list_all f (take i xs) && f (get_or xs i other)) ≡ list_all f (take (suc i) xs)

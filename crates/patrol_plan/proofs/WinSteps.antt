@@ -10,7 +10,6 @@ use Rattle.encode_task.specs.Slots.{Encoded}
 use Rattle.encode_task.specs.TaskSets.{space_set}
 use Rattle.slot_board.proofs.BoardSlots.{made_at}
 use Rattle.slot_board.specs.Board.{Scene, set_at}
-use Rattle.plan_theory.specs.SetWords.{anywhere}
 use Rattle.plan_theory.specs.UntilChains.{SetStage, UntilSets, until_met, until_win}
 use Rattle.plan_theory.specs.Safe.{safe_set}
 use Rattle.task_core.specs.Conditions.{IsConditionOver, holds, ids_below}
@@ -30,6 +29,7 @@ use Rattle.patrol_plan.specs.declared.rounds.Way.TheVariants.{Growing, Shrinking
 use Rattle.patrol_plan.proofs.SceneSteps.{changed_chain, changed_wider, copied_states, long_enough, met_states, moved_changed, moved_here, moved_other, moved_worked, same_all, same_length, worked_changed, worked_out}
 use Rattle.patrol_plan.proofs.KeptSteps.{safe_kept}
 use Rattle.patrol_plan.proofs.GuardSteps.{guarded_set_same, safe_set_anywhere, set_as}
+use Rattle.plan_theory.specs.GuardedSets.{anywhere}
 
 -- where a condition is to be kept: among the states
 pub space_holds : (task : Task) (enc : Encoded) (space : SetId) → MadeOf task enc → space ≡ enc.space → Holds enc.sets space (space_set task)

@@ -7,7 +7,6 @@ use Rattle.std.specs.List.{list_all}
 use Rattle.plan_theory.specs.LayerPlans.{is_action}
 use Rattle.plan_theory.specs.Patrols.{covers_patrol, patrol_round, patrol_set, visit_near, visit_set}
 use Rattle.plan_theory.specs.PatrolPrinted.{patrol_action}
-use Rattle.plan_theory.specs.SetWords.{anywhere}
 use Rattle.dd_nodes.specs.Subfunctions.{Function}
 use Rattle.dd_sets.specs.Rooms.{Small}
 use Rattle.encode_task.specs.TaskSets.{initial_set, space_set}
@@ -19,6 +18,7 @@ use Rattle.task_core.specs.declared.conditions.Cond.{Cond}
 use Rattle.task_core.specs.declared.tasks.Task.{Task}
 use Rattle.patrol_plan.specs.Chains.{visit_sets}
 use Rattle.patrol_plan.specs.WorkingSets.{IsMadeInside, function_of}
+use Rattle.plan_theory.specs.GuardedSets.{anywhere}
 
 -- visit i of some
 abbrev pub visit_at : List SetOfVectors → ℕ → SetOfVectors

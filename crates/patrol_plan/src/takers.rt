@@ -1,6 +1,5 @@
 //! Which states take which action, in each context.
 
-ghost use Rattle.plan_theory.specs.SetWords.{anywhere};
 ghost use Rattle.std.specs.Prelude.{◌≡◌, ℕ, suc, ◌≤◌, ◌+◌, ◌<◌, List, ◌∷◌, length};
 ghost use Rattle.ctl_syntax.specs.Conditions.{states_of};
 ghost use Rattle.slot_board.specs.Board as board_specs;
@@ -16,6 +15,7 @@ ghost use Rattle.slot_board.specs.Board.{Scene};
 ghost use Rattle.slot_board.specs.declared.steps.Step.{Step as Noted};
 ghost use Rattle.patrol_plan.specs.declared.rounds.Way.TheVariants.{Growing};
 ghost use Rattle.task_core.specs.Conditions.{IsConditionOver};
+ghost use Rattle.plan_theory.specs.GuardedSets.{anywhere};
 
 use crate::places::{GUARD, HITS, NEAR, NEW, NEXT, REST, met_at, takers_at, win_at};
 use crate::rounds::lead_inside;

@@ -1,4 +1,3 @@
-use Rattle.plan_theory.specs.SetWords.{anywhere}
 use Rattle.dd_sets.specs.LiveSets.{everything}
 use Rattle.patrol_plan.specs.Scenes.{board_of, guarded}
 use Rattle.patrol_plan.specs.Sizes.{TurnsFit}
@@ -11,6 +10,7 @@ use Rattle.std.proofs.Common.{◌≡◌, arith, inl, length, subst, sym}
 use Rattle.std.proofs.lemmas.Result.{err_from_is_err_and}
 use Rattle.slot_board.proofs.BoardSlots.{went, left_with, same_actions}
 use Rattle.patrol_plan.proofs.wins.win_end.Goals as goal
+use Rattle.plan_theory.specs.GuardedSets.{anywhere}
 
 pub returns-in_err-keep_states : goal.returns-in_err-keep_states
 returns-in_err-keep_states c start ready fits =
