@@ -1,6 +1,7 @@
 -- The states of the contexts: of the last one, and from one to the one before.
 use Rattle.std.proofs.Common.{◌≡◌, ◌≢◌, ℕ, zero, suc, ◌+◌, ◌-◌, ◌*◌, ◌<◌, ◌≤◌, true, ◌&&◌, List, [], ◌∷◌, drop, length, map, slice_index_or, refl, sym, ap, subst, ◌∙◌, inr, ⊎_elim, arith}
 use Rattle.std.proofs.lemmas.Bool.{cases_eq}
+use Rattle.std.proofs.lemmas.List.{drop_all}
 use Rattle.dd_nodes.specs.Subfunctions.{Function}
 use Rattle.dd_ops.specs.Operations.{and_of}
 use Rattle.dd_sets.specs.LiveSets.{everything, set_of}
@@ -124,13 +125,6 @@ stage_won start x m w k y place stage high within ready h put last won =
           (moved_other start k y place _ won (place + 1) (omega arith) (λ e. absurd (omega arith)) ∙ last.worked.kept (place + 1) (omega arith) (omega arith) ∙ here);
     }
 
--- the stages from a number on
-pub drop_none : {X : Type 0} (xs : List X) (n : ℕ) → length xs ≤ n → drop n xs ≡ []
-drop_none [] zero few = refl
-drop_none [] (suc n) few = refl
-drop_none (x ∷ xs) zero few = absurd (omega arith)
-drop_none (x ∷ xs) (suc n) few = drop_none xs n (omega arith)
-
 pub drop_some : {X Y : Type 0} (f : X → Y) (xs : List X) (n : ℕ) (other : X) → n < length xs → drop n (map f xs) ≡ f (slice_index_or xs n other) ∷ drop (suc n) (map f xs)
 drop_some f [] n other within = absurd (omega arith)
 drop_some f (x ∷ xs) zero other within = refl
@@ -147,7 +141,7 @@ wins_end start x y chain cond long keep h = record {
         (λ v is.
         h.win v is
         ∙ ap (λ (f : SetOfVectors). safe_set (sys_of start) f v) (sym keep)
-        ∙ ap (λ (stages : List SetStage). until_win (sys_of start) chain.keep stages v) (sym (drop_none chain.stages start.stages (omega arith))));
+        ∙ ap (λ (stages : List SetStage). until_win (sys_of start) chain.keep stages v) (sym (drop_all start.stages chain.stages (omega arith))));
     mets = λ j from less. absurd (omega arith);
   };
 }
