@@ -1,3 +1,4 @@
+pub mod CommonWords
 pub mod Deliveries
 pub mod HelpedFrames
 pub mod Kept

@@ -1,3 +1,4 @@
+pub mod CommonWords
 pub mod FaultHelp
 pub mod FaultKinds
 pub mod Helped

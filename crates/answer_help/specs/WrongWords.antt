@@ -12,3 +12,7 @@ pub data WrongWords : Type 0 where
 abbrev pub wrong_text : WrongWords → List ℕ
 wrong_text too_few = codes "too few words" ++ line_feed
 wrong_text (wrong word why) = codes "`" ++ word ++ codes "`: " ++ why ++ line_feed
+
+-- what is wrong with words of a program that says no more of them
+abbrev pub wrong_words : List (List ℕ) → WrongWords
+wrong_words words = too_few

@@ -1,5 +1,9 @@
 //! Which word of a command line is wrong, and why.
 
+ghost use Rattle.answer_help.specs.Values.{wrong_of};
+ghost use Rattle.answer_help.specs.WrongWords.{wrong_words as wrong_in};
+ghost use Rattle.std.specs.Prelude.{◌≡◌, map, string_bytes};
+
 /// Why a word is wrong: it stands where the name of a class, or `ctl`, is wanted.
 pub const NO_KIND: &str = "none of `weak`, `strong`, `cyclic` and `ctl`";
 
@@ -22,4 +26,11 @@ pub enum WrongWords<'a> {
     TooFew,
     /// This word is wrong, for this reason.
     Word { word: &'a str, why: &'static str },
+}
+
+/// What is wrong with words of a program that says no more of them.
+pub fn wrong_words<'a>(words: &'a [String]) -> WrongWords<'a>
+    ensures { wrong_of result ≡ wrong_in (map string_bytes words.now) }
+{
+    WrongWords::TooFew
 }

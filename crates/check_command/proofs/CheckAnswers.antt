@@ -1,5 +1,5 @@
 -- The verdict on a plan of a task is that for the domain and the problem that the task comes from.
-use Rattle.std.proofs.Common.{◌≡◌, ◌⊎◌, ◌↔◌, List, inl, inr, refl, sym, subst, ap, ◌∙◌, None, Some, Option, true, []}
+use Rattle.std.proofs.Common.{◌≡◌, ◌⊎◌, List, inl, inr, refl, sym, subst, ap, ◌∙◌, None, Some, Option, true, []}
 use Rattle.std.specs.Option.{option_map}
 use Rattle.ctl_syntax.specs.Conditions.{condition_value}
 use Rattle.ctl_syntax.specs.Values.{ctl_value}
@@ -16,16 +16,13 @@ use Rattle.pddl_system.specs.Systems.{action_names, fluent_names, system}
 use Rattle.pddl_system.specs.Tasks.{TaskTree, condition_of, task_of}
 use Rattle.pddl_system.specs.Values.{task_value}
 use Rattle.plan_check.specs.Verdicts.{IsVerdict}
-use Rattle.plan_check.specs.ContextVerdicts.{IsContextVerdict, IsTrueAt, IsFreeOfContextReason, HasContextReason}
-use Rattle.plan_check.specs.declared.verdicts.Reason.{Reason}
-use Rattle.plan_check.specs.declared.verdicts.Reason.TheVariants.{Unexecutable, Stuck, Terminal, Cycle, Unreachable, Formula}
+use Rattle.plan_check.specs.ContextVerdicts.{IsContextVerdict, IsTrueAt}
 use Rattle.plan_check.specs.declared.verdicts.Verdict.{Verdict}
-use Rattle.plan_check.specs.declared.verdicts.Verdict.TheVariants.{Yes, No}
+use Rattle.plan_check.proofs.Carried.{verdict_carried}
 use Rattle.plan_io.specs.Held.{Held}
 use Rattle.plan_rules.specs.Denoted.{denoted_contexts}
 use Rattle.plan_rules.specs.Rules.{PlainPlan, table, automaton}
-use Rattle.sexpr_text.specs.declared.forms.Place.{Place}
-use Rattle.task_core.specs.ContextPlans.{Configuration, ContextPlan}
+use Rattle.task_core.specs.ContextPlans.{ContextPlan}
 use Rattle.task_core.specs.Names.{Name}
 use Rattle.task_core.specs.Systems.{System}
 use Rattle.task_core.specs.Tasks.{action_names as names_of_actions, fluent_names as names_of_fluents, initial_states, system_of}
@@ -33,7 +30,7 @@ use Rattle.task_core.specs.declared.tasks.Task.{Task}
 use Rattle.command_base.specs.Answers.{Answer, Refusal, refused, no_memory}
 use Rattle.check_command.specs.CheckCommand.{CheckThen, ExploreThen, IsChecked, IsVerdictOf, ShowsVerdict, VerdictThen}
 use Rattle.command_base.specs.Following.{HasTooManyStates, most_followed}
-use Rattle.command_base.specs.Grounding.{GoalThen, GroundThen, has_goal_for}
+use Rattle.command_base.specs.Grounding.{GroundThen, has_goal_for}
 use Rattle.command_base.specs.InitialStates.{InitialThen, empty_init}
 use Rattle.check_command.specs.Judged.{HasGoalIn, IsTaskVerdict}
 use Rattle.command_base.specs.PlanFiles.{IsFaultyPlan, KindThen, PlacedPlan, SpellsPlaced}
@@ -45,20 +42,7 @@ use Rattle.command_base.proofs.Later.{read_over}
 use Rattle.command_base.proofs.TaskNames.{same_actions, same_fluents}
 use Rattle.command_base.proofs.TooMany.{too_many as too_many_states, too_many_back as too_many_states_back}
 use Rattle.command_base.proofs.TaskGoals.{goal_behind, has_some, has_some_back}
-
--- the same from what follows
-goal_map : (kind : PlanKind) (name : Bytes) (problem : ProblemTree) (P Q : Answer → Type 0) (a : Answer) → (P a → Q a) → GoalThen kind name problem P a → GoalThen kind name problem Q a
-goal_map kind name problem P Q a f (inl why) = inl why
-goal_map kind name problem P Q a f (inr (some, then)) = inr (some, f then)
-
-ground_map : (d : DomainTree) (p : ProblemTree) (P Q : Answer → Type 0) (a : Answer) → (P a → Q a) → GroundThen d p P a → GroundThen d p Q a
-ground_map d p P Q a f (inl why) = inl why
-ground_map d p P Q a f (inr (kept, then)) = inr (kept, f then)
-
-kind_map : (kind : PlanKind) (name : Bytes) (place : Place) (plan : PlainPlan) (P Q : Answer → Type 0) (a : Answer)
-    → (P a → Q a) → KindThen kind name place plan P a → KindThen kind name place plan Q a
-kind_map kind name place plan P Q a f (inl why) = inl why
-kind_map kind name place plan P Q a f (inr (is, then)) = inr (is, f then)
+use Rattle.command_base.proofs.WhatFollows.{goal_map, ground_map, kind_map}
 
 -- what is said from a later state of the shelf holds from the command's start
 checked_over : (held held' : Bytes → Held) (failed failed' : Bytes → Type 0) (asked : CheckWords) (d : DomainTree) (p : ProblemTree) (a : Answer)
@@ -83,28 +67,6 @@ pub too_many_back : (d : DomainTree) (p : ProblemTree) (t : Task) → task_value
 too_many_back d p t is many =
     let back = too_many_states_back d p t is many in
     record { entries = many.entries; first = back.0; more = back.1 }
-
--- a verdict for one property of configurations is that for another that holds at the same ones
-module _ (sys : System) (plan : ContextPlan) (G H : Configuration → Type 0) (same : (x : Configuration) → G x ↔ H x) where
-  free_carried : (reason : Reason) → IsFreeOfContextReason sys plan G reason → IsFreeOfContextReason sys plan H reason
-  free_carried Unexecutable free = free
-  free_carried Stuck free = free
-  free_carried Terminal free = free
-  free_carried Cycle free = free
-  free_carried Unreachable free = free
-  free_carried Formula free = λ x initial. (same x).0 (free x initial)
-
-  reason_carried : (reason : Reason) → HasContextReason sys plan G reason → HasContextReason sys plan H reason
-  reason_carried Unexecutable has = has
-  reason_carried Stuck has = has
-  reason_carried Terminal has = has
-  reason_carried Cycle has = has
-  reason_carried Unreachable has = has
-  reason_carried Formula has = record { start = has.start; initial = has.initial; misses = λ h. has.misses ((same has.start).1 h) }
-
-  verdict_carried : (verdict : Verdict) → IsContextVerdict sys plan G verdict → IsContextVerdict sys plan H verdict
-  verdict_carried (Yes bound) is = record { free = λ reason. free_carried reason (is.free reason); unbounded = is.unbounded }
-  verdict_carried (No reason) is = record { has = reason_carried reason is.has; first = λ earlier before. free_carried earlier (is.first earlier before) }
 
 -- the verdict on a plan of a task is that for the domain and the problem
 context_verdict_for : GroundedGoalsAreTrue → (d : DomainTree) (p : ProblemTree) (sys : System) (formula : Ctl) (plan : ContextPlan) (v : Verdict) → sys ≡ system d p

@@ -1,6 +1,7 @@
 -- The three files and the class decide the answer of `check`.
-use Rattle.std.proofs.Common.{◌≡◌, ◌≢◌, inl, inr, sym, subst, ap, ◌∙◌, Some}
+use Rattle.std.proofs.Common.{◌≡◌, ◌≢◌, inl, inr, sym, subst, ap, ◌∙◌}
 use Rattle.std.proofs.lemmas.Bool.{false≢true}
+use Rattle.std.proofs.lemmas.Option.{same_Some}
 use Rattle.pddl_ast.specs.Trees.{DomainTree, ProblemTree, TemporalTree}
 use Rattle.pddl_system.specs.Systems.{action_names, fluent_names, system}
 use Rattle.plan_io.specs.Held.{Held, Untold}
@@ -26,9 +27,6 @@ use Rattle.command_base.specs.OneReading.{OneReading}
 use Rattle.command_base.proofs.PddlDecides.{both_decides, goal_decides, ground_decides}
 use Rattle.command_base.proofs.PlanDecides.{plan_grammar}
 
-one_goal : (s t : TemporalTree) → Some s ≡ Some t → s ≡ t
-one_goal s t same = cc
-
 -- no plan has two verdicts
 one_of_kind : (kind : PlanKind) (d : DomainTree) (p : ProblemTree) (plan : PlainPlan) (v w : Verdict) → IsVerdictOf kind d p plan v → IsVerdictOf kind d p plan w → v ≡ w
 one_of_kind (of_class class) d p (table written rules) v w of_v of_w = same_verdict (system d p) rules class v w of_v of_w
@@ -36,7 +34,7 @@ one_of_kind (of_class class) d p (automaton contexts rules) v w never of_w = abs
 one_of_kind with_contexts d p (table written rules) v w never of_w = absurd never
 one_of_kind with_contexts d p (automaton contexts rules) v w (g, is, of_v) (h, is', of_w) =
     let plan = denoted_contexts rules in
-    let same : h ≡ g = one_goal h g (sym is' ∙ is) in
+    let same : h ≡ g = same_Some h g (sym is' ∙ is) in
     same_context_verdict (system d p) plan (HasGoal d p plan g) v w of_v
     (subst (λ (t : TemporalTree). IsContextVerdict (system d p) plan (HasGoal d p plan t) w) same of_w)
 

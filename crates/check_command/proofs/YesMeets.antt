@@ -1,5 +1,6 @@
 -- A yes is that of a plan that meets the problem, and a no of one that doesn't.
-use Rattle.std.proofs.Common.{◌≡◌, ℕ, List, ◌↔◌, inl, inr, sym, subst, ◌∙◌, true, Some, Option}
+use Rattle.std.proofs.Common.{◌≡◌, ℕ, List, ◌↔◌, inl, inr, sym, subst, ◌∙◌, true, Option}
+use Rattle.std.proofs.lemmas.Option.{same_Some}
 use Rattle.pddl_ast.specs.Trees.{DomainTree, ProblemTree, TemporalTree}
 use Rattle.pddl_system.specs.Systems.{system}
 use Rattle.plan_check.specs.ContextVerdicts.{MeetsGoal}
@@ -42,9 +43,6 @@ yes_is_met law with_contexts d p (table written rules) bound never = absurd neve
 yes_is_met law with_contexts d p (automaton contexts rules) bound (goal, same, is) =
     contexts_meet d p contexts rules (goal, same, (yes_met (system d p) (denoted_contexts rules) (HasGoal d p (denoted_contexts rules) goal) (Yes bound) is).0 tt)
 
-one_goal : (s t : TemporalTree) → Some s ≡ Some t → s ≡ t
-one_goal s t same = cc
-
 -- and a no is one of a plan that doesn't
 pub no_is_not_met : YesSolves → (kind : PlanKind) (d : DomainTree) (p : ProblemTree) (plan : PlainPlan) (reason : Reason) → IsVerdictOf kind d p plan (No reason) → PlanMeets kind d p plan → ⊥
 no_is_not_met law (of_class class) d p (table written rules) reason is met = (law (system d p) rules class (No reason) is).1 (table_solves class written d p rules met)
@@ -54,4 +52,4 @@ no_is_not_met law with_contexts d p (automaton contexts rules) reason (goal, sam
     let plan = denoted_contexts rules in
     let meets = meaning_meets d p contexts rules met in
     (yes_met (system d p) plan (HasGoal d p plan goal) (No reason) is).1
-    (subst (λ (t : TemporalTree). MeetsGoal (system d p) plan (HasGoal d p plan t)) (one_goal meets.0 goal (sym meets.1 ∙ same)) meets.2)
+    (subst (λ (t : TemporalTree). MeetsGoal (system d p) plan (HasGoal d p plan t)) (same_Some meets.0 goal (sym meets.1 ∙ same)) meets.2)

@@ -1,10 +1,10 @@
 -- Which files were fetched, and which of them decided the answer.
-use Rattle.std.proofs.Common.{◌≡◌, ◌⊎◌, ℕ, List, [], ◌∷◌, inl, inr, refl, subst, ap, None, true}
+use Rattle.std.proofs.Common.{◌≡◌, ◌⊎◌, ℕ, List, [], ◌∷◌, inl, inr, refl, subst, sym, ap, None, true}
 use Rattle.domain_read.specs.Domains.{SpellsDomain}
 use Rattle.pddl_ast.specs.Trees.{DomainTree, ProblemTree}
 use Rattle.pddl_system.specs.Sizes.{first_passed}
 use Rattle.task_core.specs.Names.{Name}
-use Rattle.plan_io.specs.Fetches.{FailedLast, Fetches, FetchesNothing}
+use Rattle.plan_io.specs.Fetches.{FailedLast, Fetches, FetchesNothing, MayFetch}
 use Rattle.plan_io.specs.Held.{Held}
 use Rattle.command_base.specs.Answers.{Answer, no_memory, refused, Refusal}
 use Rattle.command_base.specs.Fetching.{FetchPlan, AsksForPlan, FetchDomain, FetchThen, FetchesBoth, HoldsDomain, RefusesBoth, RefusesPlan, Stops}
@@ -101,3 +101,37 @@ pub plan_stops : (held : Bytes → Held) (failed : Bytes → Type 0) (fluents ac
     → (r ≡ no_memory) ⊎ IsRefusedFile held failed (IsFaultyPlan fluents actions) name r → Stops (RefusesPlan held failed fluents actions name) (refused r)
 plan_stops held failed fluents actions name r (inl memory) = inl (ap refused memory)
 plan_stops held failed fluents actions name r (inr why) = inr (inl (r, refl, why))
+
+-- want of memory may come in place of an answer, after a file that may decide it
+pub fetch_for_memory : {S : Type 0} (fetched : S → Bytes → S → Type 0) (name : Bytes) (Cause : Answer → Type 0) (Needed : Type 0) (Then Then' : S → S → Type 0) (a : Answer) (before after : S)
+    → ((between : S) → Then between after → Then' between after) → FetchThen fetched name (Stops Cause a) Needed Then before after → FetchThen fetched name (Stops Cause (refused no_memory)) Needed Then' before after
+fetch_for_memory fetched name Cause Needed Then Then' a before after next (x, fetch, inl (was, same)) = (x, fetch, inl (inl refl, same))
+fetch_for_memory fetched name Cause Needed Then Then' a before after next (x, fetch, inr (needed, then)) = (x, fetch, inr (needed, next x then))
+
+-- and so after a domain, and after a problem and what `check` asks for
+pub domain_for_memory : {S : Type 0} (held : Bytes → Held) (failed : Bytes → Type 0) (fetched : S → Bytes → S → Type 0) (d : Bytes) (Then Then' : S → S → Type 0) (a : Answer) (before after : S)
+    → ((between : S) → Then between after → Then' between after) → FetchDomain held failed fetched d a Then before after → FetchDomain held failed fetched d (refused no_memory) Then' before after
+domain_for_memory held failed fetched d = fetch_for_memory fetched d (ReadThen held failed d SpellsDomain IsFaultyDomain (λ domain answer. ⊥)) (HoldsDomain held d)
+
+pub check_for_memory : {S : Type 0} (held : Bytes → Held) (failed : Bytes → Type 0) (fetched : S → Bytes → S → Type 0) (asked : CheckWords) (a : Answer) (before after : S)
+    → FetchDomain held failed fetched asked.domain a (FetchPlan held failed fetched asked a) before after → FetchDomain held failed fetched asked.domain (refused no_memory) (FetchPlan held failed fetched asked (refused no_memory)) before after
+check_for_memory held failed fetched asked a before after =
+    domain_for_memory held failed fetched asked.domain (FetchPlan held failed fetched asked a) (FetchPlan held failed fetched asked (refused no_memory)) a before after
+    (λ x. fetch_for_memory fetched asked.problem (ReadBoth held failed asked.domain asked.problem (λ domain problem. GoalThen asked.kind asked.problem problem (GroundThen domain problem (λ answer. ⊥))))
+    (AsksForPlan held asked) (Fetches fetched (asked.plan ∷ [])) (Fetches fetched (asked.plan ∷ [])) a x after (λ y rest. rest))
+
+-- what one fetch keeps true stays true over several
+module _ {S : Type 0} (P : S → Type 0) (fetched : S → Bytes → S → Type 0) (keeps : (before : S) (name : Bytes) (after : S) → fetched before name after → P before → P after) where
+  pub over_fetches : (names : List Bytes) (before after : S) → Fetches fetched names before after → P before → P after
+  over_fetches [] before after same holds = subst P (sym same) holds
+  over_fetches (name ∷ names) before after (between, fetch, rest) holds = over_fetches names between after rest (keeps before name between fetch holds)
+
+  pub over_fetch_then : (name : Bytes) (Decided Needed : Type 0) (Then : S → S → Type 0) (before after : S) → ((between : S) → Then between after → P between → P after)
+      → FetchThen fetched name Decided Needed Then before after → P before → P after
+  over_fetch_then name Decided Needed Then before after over (between, fetch, inl (decided, same)) holds = subst P (sym same) (keeps before name between fetch holds)
+  over_fetch_then name Decided Needed Then before after over (between, fetch, inr (needed, then)) holds = over between then (keeps before name between fetch holds)
+
+  pub over_may_fetch : (Needed : Type 0) (name : Bytes) (Then : S → S → Type 0) (before after : S) → ((between : S) → Then between after → P between → P after)
+      → MayFetch fetched Needed name Then before after → P before → P after
+  over_may_fetch Needed name Then before after over (inl same) holds = subst P (sym same) holds
+  over_may_fetch Needed name Then before after over (inr (needed, between, fetch, then)) holds = over between then (keeps before name between fetch holds)

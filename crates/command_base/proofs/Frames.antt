@@ -27,8 +27,13 @@ pub given_quiet : (before after : ℕ) (found given : Answer) → IsQuietAt foun
 given_quiet before after found given quiet (inl is) = subst (λ (a : Answer). IsQuietAt a before after) (sym is) quiet
 given_quiet before after found given quiet (inr (is, said)) = subst (λ (a : Answer). IsQuietAt a before after) (sym is) (inr tt)
 
--- what was found for the words, and what was given for it; what was fetched for an answer was fetched
--- for want of memory in its place
+-- what was fetched for an answer was fetched for want of memory in its place
+pub given_fetched : {S : Type 0} (Fetched : Answer → S → S → Type 0) (before after : S) (found given : Answer) → (Fetched found before after → Fetched (refused no_memory) before after)
+    → Fetched found before after → IsGivenFor found given → Fetched given before after
+given_fetched Fetched before after found given for_memory was (inl is) = subst (λ (a : Answer). Fetched a before after) (sym is) was
+given_fetched Fetched before after found given for_memory was (inr (is, said)) = subst (λ (a : Answer). Fetched a before after) (sym is) (for_memory was)
+
+-- what was found for the words, and what was given for it
 pub is_run : {S X C : Type 0} (Says : List Bytes → C → Type 0) (IsAnswer : C → Answer → Type 0) (FetchesFiles : C → Answer → S → S → Type 0)
     (held : S → Bytes → Held) (faults : S → ℕ) (run : Run S X)
     → ((command : C) (a : Answer) → FetchesFiles command a run.shelf run.shelf_after → FetchesFiles command (refused no_memory) run.shelf run.shelf_after)
@@ -42,15 +47,9 @@ is_run {S} {X} {C} Says IsAnswer FetchesFiles held faults run for_memory found g
   answer = given;
   cause = given_cause Says IsAnswer run.words found given cause same;
   delivered = delivered;
-  fetches = λ command says. given_fetches command (fetches command says) same;
+  fetches = λ command says. given_fetched (FetchesFiles command) run.shelf run.shelf_after found given (for_memory command found) (fetches command says) same;
   unfetched = unfetched;
   quiet = given_quiet (faults run.shelf) (faults run.shelf_after) found given quiet same;
   kept = kept;
   later = later;
 }
-  where
-    given_fetches : (command : C) → FetchesFiles command found run.shelf run.shelf_after → IsGivenFor found given
-        → FetchesFiles command given run.shelf run.shelf_after
-    given_fetches command was (inl is) = subst (λ (a : Answer). FetchesFiles command a run.shelf run.shelf_after) (sym is) was
-    given_fetches command was (inr (is, said)) =
-        subst (λ (a : Answer). FetchesFiles command a run.shelf run.shelf_after) (sym is) (for_memory command found was)

@@ -5,8 +5,10 @@ pub mod TaskGoals
 pub mod PlanDecides
 pub mod Deciding
 pub mod Fetched
+pub mod PlanFetched
 pub mod Initials
 pub mod Later
+pub mod WhatFollows
 pub mod TaskNames
 pub mod NodeNumerals
 pub mod PddlDecides

@@ -20,7 +20,7 @@ same_class Cyclic Strong same = absurd (omega (arith, ap (λ (w : Bytes). get_or
 same_class Cyclic Cyclic same = refl
 
 -- and so do those of the kinds
-same_kind : (k l : PlanKind) → kind_word k ≡ kind_word l → k ≡ l
+pub same_kind : (k l : PlanKind) → kind_word k ≡ kind_word l → k ≡ l
 same_kind (of_class c) (of_class d) same = ap of_class (same_class c d same)
 same_kind (of_class Weak) with_contexts same = absurd (omega (arith, ap (λ (w : Bytes). get_or w 0 0) same))
 same_kind (of_class Strong) with_contexts same = absurd (omega (arith, ap (λ (w : Bytes). get_or w 0 0) same))

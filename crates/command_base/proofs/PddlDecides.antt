@@ -1,10 +1,11 @@
 -- The two files of a domain and a problem decide the answer, if what follows their reading does.
-use Rattle.std.proofs.Common.{◌≡◌, ◌≢◌, ◌⊎◌, inl, inr, sym, subst, ap, ◌∙◌, Some, None, true}
+use Rattle.std.proofs.Common.{◌≡◌, ◌≢◌, ◌⊎◌, inl, inr, sym, subst, ap, ◌∙◌, None, true}
 use Rattle.std.proofs.lemmas.Bool.{false≢true}
+use Rattle.std.proofs.lemmas.Option.{same_Some}
 use Rattle.plan_io.specs.Held.{Held, Untold}
 use Rattle.pddl_ast.specs.Trees.{DomainTree, ProblemTree}
 use Rattle.domain_read.specs.Domains.{SpellsDomain}
-use Rattle.pddl_system.specs.Sizes.{Limit, first_passed}
+use Rattle.pddl_system.specs.Sizes.{first_passed}
 use Rattle.command_base.specs.Answers.{Answer, Refusal, refused, text_fault, over_limit, no_memory, is_shown}
 use Rattle.command_base.specs.Grounding.{GoalThen, GroundThen, has_goal_for, limit_name}
 use Rattle.command_base.specs.OneReading.{OneReading}
@@ -79,13 +80,10 @@ goal_decides kind name problem Then Then' next a b (inl (none, is)) (inr (some, 
 goal_decides kind name problem Then Then' next a b (inr (some, then)) (inl (none, is)) = absurd (false≢true (sym none ∙ some))
 goal_decides kind name problem Then Then' next a b (inr (some, then)) (inr (some', then')) = next a b then then'
 
-one_limit : (l m : Limit) → Some l ≡ Some m → l ≡ m
-one_limit l m same = cc
-
 pub ground_decides : (domain : DomainTree) (problem : ProblemTree) (Then Then' : Answer → Type 0) → Decides Then Then'
     → Decides (GroundThen domain problem Then) (GroundThen domain problem Then')
 ground_decides domain problem Then Then' next a b (inl (l, passed, is)) (inl (m, passed', is')) =
-    is ∙ ap (λ n. refused (over_limit (limit_name n))) (one_limit l m (sym passed ∙ passed')) ∙ sym is'
+    is ∙ ap (λ n. refused (over_limit (limit_name n))) (same_Some l m (sym passed ∙ passed')) ∙ sym is'
 ground_decides domain problem Then Then' next a b (inl (l, passed, is)) (inr (kept, then)) = absurd (cc (passed, kept))
 ground_decides domain problem Then Then' next a b (inr (kept, then)) (inl (l, passed, is)) = absurd (cc (passed, kept))
 ground_decides domain problem Then Then' next a b (inr (kept, then)) (inr (kept', then')) = next a b then then'

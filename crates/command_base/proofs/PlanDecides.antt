@@ -1,5 +1,6 @@
 -- No text spells two plans, and none that spells a plan is refused.
-use Rattle.std.proofs.Common.{◌≡◌, List, sym, ap, ◌∙◌, Option, Some, unwrap_or}
+use Rattle.std.proofs.Common.{◌≡◌, List, sym, ap, ◌∙◌}
+use Rattle.std.proofs.lemmas.Option.{same_Some}
 use Rattle.plan_rules.specs.Readings.{plan_read}
 use Rattle.plan_rules.specs.Rules.{PlainPlan}
 use Rattle.sexpr_text.specs.declared.forms.Place.{Place}
@@ -11,13 +12,10 @@ use Rattle.command_base.proofs.Deciding.{IsGrammar}
 use Rattle.command_base.specs.OneReading.{OneReading}
 
 -- no text spells two plans, nor one at two places
-one_pair : (x y : PlainPlan × Place) → Some x ≡ Some y → x ≡ y
-one_pair x y same = ap (λ (o : Option (PlainPlan × Place)). unwrap_or o x) same
-
 one_placed : OneReading → (fluents actions : List Name) (bytes : Bytes) (x y : PlacedPlan) → SpellsPlaced fluents actions bytes x → SpellsPlaced fluents actions bytes y → x ≡ y
 one_placed one fluents actions bytes x y (s, spells, none, is) (t, spells', none', is') =
     let trees = one.one_forest bytes s t spells spells' in
-    let pairs = one_pair (x.plan, x.place) (y.plan, y.place) (sym is ∙ (ap (plan_read fluents actions) trees ∙ is')) in
+    let pairs = same_Some (x.plan, x.place) (y.plan, y.place) (sym is ∙ (ap (plan_read fluents actions) trees ∙ is')) in
     ap (λ (pair : PlainPlan × Place). record { plan = pair.0; place = pair.1 }) pairs
 
 pub plan_grammar : OneReading → (fluents actions : List Name) → IsGrammar (SpellsPlaced fluents actions) (IsFaultyPlan fluents actions)

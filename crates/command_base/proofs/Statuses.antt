@@ -8,6 +8,7 @@ use Rattle.command_base.specs.Answers.{Answer, affirmed, denied, refused, no_com
 use Rattle.command_base.specs.Faults.{IsQuietAt, MayHaveFault, NoFault}
 use Rattle.command_base.specs.Delivery.{Seen, IsWhole, IsCut, IsDelivered}
 use Rattle.command_base.specs.Words.{Bytes}
+use Rattle.command_base.proofs.PddlDecides.{not_refused}
 
 abbrev statuses : List ℕ
 statuses = 0 ∷ 1 ∷ 2 ∷ 3 ∷ 4 ∷ 5 ∷ 6 ∷ 7 ∷ 8 ∷ 9 ∷ []
@@ -102,3 +103,22 @@ shown_at (refused no_memory) is = grind arith
 shown_at (refused (full nodes)) is = grind arith
 shown_at (refused (stray_outcome step word outcomes)) is = grind arith
 shown_at (refused (unexecutable step)) is = grind arith
+
+-- what was written at status 5: that the table of nodes is full, where no other answer has that status
+pub written_full : (nodes status : ℕ) (a : Answer) (out out' err err' : Seen) (May Other : Type 0) → IsDelivered a out out' err err' status → status ≡ 5 → (Other → status_of a ≢ 5)
+    → (a ≡ refused no_memory) ⊎ (May × (a ≡ refused (full nodes))) ⊎ Other → May × (err'.written ≡ append_known err.written (text_of (refused (full nodes))))
+written_full nodes status a out out' err err' May Other delivered five not_full = go where
+  whole : (status ≡ status_of a) × IsWhole a out out' err err'
+  whole = whole_delivery a out out' err err' status delivered (λ seven. let e : 5 ≡ 7 = sym five ∙ seven in omega arith)
+
+  code : status_of a ≡ 5
+  code = sym whole.0 ∙ five
+
+  line : a ≡ refused (full nodes) → IsWhole a out out' err err' → err'.written ≡ append_known err.written (text_of (refused (full nodes)))
+  line is (inl showed) = absurd (not_refused (full nodes) a is showed.shown)
+  line is (inr refusal) = refusal.errors.written ∙ ap (λ b. append_known err.written (text_of b)) is
+
+  go : (a ≡ refused no_memory) ⊎ (May × (a ≡ refused (full nodes))) ⊎ Other → May × (err'.written ≡ append_known err.written (text_of (refused (full nodes))))
+  go (inl is) = absurd (let e : 5 ≡ 8 = sym code ∙ ap status_of is in omega arith)
+  go (inr (inl (may, is))) = (may, line is whole.1)
+  go (inr (inr other)) = absurd (not_full other code)

@@ -2,8 +2,7 @@
 use Rattle.std.proofs.Common.{◌≡◌, ◌⊎◌, inl, inr, refl, sym, subst, ap, None, Some, Option, true, false}
 use Rattle.std.specs.Option.{option_map}
 use Rattle.std.specs.Prelude.{IsSome}
-use Rattle.ctl_syntax.specs.Conditions.{CondTree}
-use Rattle.ctl_syntax.specs.Goals.{CtlTree}
+use Rattle.std.proofs.lemmas.Option.{same_Some}
 use Rattle.ctl_syntax.specs.declared.goals.Ctl.{Ctl}
 use Rattle.pddl_ast.specs.Trees.{DomainTree, ProblemTree, TemporalTree}
 use Rattle.pddl_system.specs.CtlGoals.{goal_value, grounded_goal}
@@ -16,14 +15,11 @@ use Rattle.command_base.specs.Grounding.{GoalThen, GroundThen, has_goal_for, lim
 use Rattle.command_base.specs.Words.{Bytes, PlanKind}
 
 -- the goal of the problem that a goal of its task stands for
-one_tree : (s t : CtlTree CondTree) → Some s ≡ Some t → s ≡ t
-one_tree s t same = cc
-
 pub goal_behind : (d : DomainTree) (p : ProblemTree) (formula : Ctl) (goal : Option TemporalTree)
     → Some (goal_value formula) ≡ option_map (grounded_goal (setting d p) (fluents d p)) goal
     → (g : TemporalTree) × (goal ≡ Some g) × (goal_value formula ≡ grounded_goal (setting d p) (fluents d p) g)
 goal_behind d p formula None is = absurd (cc is)
-goal_behind d p formula (Some g) is = (g, refl, one_tree (goal_value formula) (grounded_goal (setting d p) (fluents d p) g) is)
+goal_behind d p formula (Some g) is = (g, refl, same_Some (goal_value formula) (grounded_goal (setting d p) (fluents d p) g) is)
 
 -- a task has a goal for plans of the kind where its problem has one
 pub has_some : {X Y : Type 0} (f : X → Y) (o : Option X) (r : Option Y) → r ≡ option_map f o → IsSome o → IsSome r

@@ -34,5 +34,5 @@ pub use plan_files::read_plan_file;
 pub use program_words::command_words;
 pub use words::{
     CheckWords, Command, DEFAULT_NODES, DrillKind, DrillWords, GroundWords, PlanKind, PlanOptions,
-    PlanWords, RefuteWords, ReplayWords, class_name, plain_plan_words, read_words,
+    PlanWords, RefuteWords, ReplayWords, kind_named, plain_plan_words, read_words,
 };

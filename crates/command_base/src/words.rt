@@ -412,7 +412,7 @@ fn replay_words<'a>(words: &'a [String]) -> Option<ReplayWords<'a>>
 }
 
 /// The kind of plan of this name.
-fn kind_named(word: &str) -> Option<PlanKind>
+pub fn kind_named(word: &str) -> Option<PlanKind>
     ensures { MatchOption result ((kind : AskedKind) → word.now ≡ kind_word kind → ⊥)
         (λ kind. word.now ≡ kind_word (kind_of kind)) }
 {
@@ -440,17 +440,6 @@ fn class_named(word: &str) -> Option<Class>
         return Some(Class::Cyclic);
     }
     None
-}
-
-/// The name of a class.
-pub fn class_name(class: Class) -> &'static str
-    ensures { result.now ≡ class_word class }
-{
-    match class {
-        Class::Weak => "weak",
-        Class::Strong => "strong",
-        Class::Cyclic => "cyclic",
-    }
 }
 
 /// `drill`, and these words after it.

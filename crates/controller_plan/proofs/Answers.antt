@@ -1,13 +1,10 @@
 -- From what follows the reading of both files to the answer, and from the answer to a run.
-use Rattle.std.proofs.Common.{◌≡◌, ◌⊎◌, ◌≤◌, ℕ, List, [], inl, inr, sym, subst, ap, None, true}
-use Rattle.std.specs.Prelude.{IfErr, IfOk, IfSome, Option, Result, Ok, Err, Some, ⊤}
+use Rattle.std.proofs.Common.{◌≡◌, ◌⊎◌, inl, inr, subst, ap, None, true}
+use Rattle.std.specs.Prelude.{IfErr, IfOk, IfSome, Option, Result, Ok, Err, Some}
 use Rattle.pddl_ast.specs.Trees.{DomainTree, ProblemTree}
 use Rattle.pddl_system.specs.Sizes.{first_passed}
-use Rattle.plan_io.specs.Fetches.{FetchesNothing, MayFetch}
 use Rattle.plan_io.specs.Held.{Held}
 use Rattle.command_base.specs.Answers.{Answer, Refusal, denied, full, no_memory, refused}
-use Rattle.command_base.specs.Faults.{IsQuietAt}
-use Rattle.command_base.specs.Fetching.{FetchesBoth, HoldsDomain}
 use Rattle.command_base.specs.Grounding.{has_goal_for}
 use Rattle.command_base.specs.PddlTexts.{HoldBoth, ReadBoth}
 use Rattle.plan_command.specs.PlanCommand.{MayBeTooFew, PlanThen}
@@ -19,18 +16,9 @@ use Rattle.command_base.specs.Values.{answer_of, refusal_of, shown_of}
 use Rattle.command_base.specs.Words.{Bytes}
 use Rattle.command_base.specs.declared.answers.Refusal.{Refusal as CodeRefusal}
 use Rattle.command_base.specs.declared.answers.Shown.{Shown}
-use Rattle.command_base.specs.Frame.{FailedIn}
-use Rattle.command_base.proofs.Frames.{IsGivenFor}
-use Rattle.answer_help.specs.Helped.{IsHelpFor, IsHelpedDelivery}
-use Rattle.answer_help.specs.Keeping.{AreToldAs, KeepsAfter, held_by, kept_in}
-use Rattle.answer_help.specs.declared.keeping.KeepingShelf.{KeepingShelf}
-use Rattle.answer_help.proofs.HelpedFrames.{IsTold, is_helped_run, over_may_fetch, told_fetch}
 use Rattle.controller_plan.specs.Controllers.{AffirmsNothing, ControlThen, IsControlAnswer, IsControlled, IsControllerShown, IsRefuted}
 use Rattle.controller_plan.specs.Judged.{IsControlRefusal}
-use Rattle.controller_words.specs.FairWords.{AskNothing, ControlRequest, SaysRequest, domain_of, problem_of}
-use Rattle.controller_plan.specs.Runs.{ControlRun, FetchesForControl, HasControlCause, HasControlled, IsRequestAnswer}
 use Rattle.controller_words.specs.Words.{ControlWords}
-use Rattle.controller_words.specs.WrongWords.{wrong_control}
 
 -- one of the files is refused
 pub before_control : (held : Bytes → Held) (failed : Bytes → Type 0) (asked : ControlWords) (a : Answer)
@@ -128,36 +116,3 @@ refusal_then asked d p t found refusal is answered =
 pub denial_then : (asked : ControlWords) (d : DomainTree) (p : ProblemTree) (text : Bytes) → PlanThen asked.plan d p (denied text)
     → (denied text ≡ refused no_memory) ⊎ (MayBeTooFew asked.plan d p × (denied text ≡ refused (full asked.plan.options.nodes))) ⊎ ControlThen asked d p (denied text)
 denial_then asked d p text then = of_plan asked d p (denied text) (denied_affirms_nothing text) (inr (inr then))
-
--- what was found for the words, and what was given for it
-pub has_controlled : {S : Type 0} (held : S → Bytes → Held) (faults : S → ℕ) (fetched : S → Bytes → S → Type 0) (run : ControlRun S) (found given : Answer) (help : Bytes)
-    → HasControlCause (held run.shelf) (FailedIn faults fetched run) run.words found
-    → ((asked : ControlRequest) → SaysRequest run.words asked
-    → FetchesBoth (held run.shelf) fetched (domain_of asked) (problem_of asked) FetchesNothing run.shelf run.shelf_after)
-    → (AskNothing run.words → run.shelf_after ≡ run.shelf) → IsQuietAt found (faults run.shelf) (faults run.shelf_after)
-    → ((file : Bytes) → held run.shelf_after file ≡ held run.shelf file) → faults run.shelf ≤ faults run.shelf_after
-    → IsGivenFor found given → IsHelpFor (held run.shelf_after) (wrong_control run.words) given help
-    → IsHelpedDelivery help given run.out run.out_after run.err run.err_after run.status → HasControlled held faults fetched run
-has_controlled held faults fetched run =
-    is_helped_run SaysRequest (IsRequestAnswer (held run.shelf) (FailedIn faults fetched run)) (FetchesForControl (held run.shelf) fetched) wrong_control held faults run
-    (λ asked a did. did)
-
--- what is kept after a run can be what is told
-module _ {S : Type 0} (held : S → Bytes → Held) (failed : Bytes → Type 0) (fetched : S → Bytes → S → Type 0) where
-  over_both : (domain problem : Bytes) (before after : KeepingShelf S) → FetchesBoth (held_by held before) (KeepsAfter held fetched) domain problem FetchesNothing before after
-      → IsTold held before → IsTold held after
-  over_both domain problem before after =
-      over_may_fetch (IsTold held) (KeepsAfter held fetched) (told_fetch held fetched) ⊤ domain (MayFetch (KeepsAfter held fetched) (HoldsDomain (held_by held before) domain) problem FetchesNothing) before after (λ between. over_may_fetch (IsTold held) (KeepsAfter held fetched) (told_fetch held fetched)
-      (HoldsDomain (held_by held before) domain) problem FetchesNothing between after (λ last same told. subst (IsTold held) (sym same) told))
-
-  pub told_after : (words : List Bytes) (answer : Answer) (before after : KeepingShelf S) → kept_in before ≡ []
-      → HasControlCause (held_by held before) failed words answer
-      → ((asked : ControlRequest) → SaysRequest words asked → FetchesBoth (held_by held before) (KeepsAfter held fetched) (domain_of asked) (problem_of asked) FetchesNothing before after)
-      → (AskNothing words → after ≡ before) → IsTold held after
-  told_after words answer before after none cause fetches unfetched = go cause where
-    begun : IsTold held before
-    begun = subst (AreToldAs (held_by held before)) (sym none) tt
-
-    go : HasControlCause (held_by held before) failed words answer → IsTold held after
-    go (inl (nothing, is)) = subst (IsTold held) (sym (unfetched nothing)) begun
-    go (inr (asked, says, why)) = over_both (domain_of asked) (problem_of asked) before after (fetches asked says) begun

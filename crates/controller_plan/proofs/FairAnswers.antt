@@ -1,26 +1,23 @@
 -- Controllers whose actions may be tried again: what is judged to be good is one.
-use Rattle.std.proofs.Common.{◌≡◌, ◌≢◌, ◌≤◌, ◌<◌, ◌⊎◌, ◌∙◌, ℕ, true, List, [], ◌∷◌, map, inl, inr, refl, sym, subst, ap, All, None, Some, arith}
+use Rattle.std.proofs.Common.{◌≡◌, ◌≢◌, ◌≤◌, ◌<◌, ◌⊎◌, ◌∙◌, ℕ, true, List, [], ◌∷◌, inl, inr, refl, sym, subst, ap, All, None, Some, arith}
 use Rattle.std.specs.Prelude.{IfErr, IfOk, IfSome, Option, Result, Ok, Err, codes}
-use Rattle.std.proofs.lemmas.Bool.{le-leb}
 use Rattle.std.proofs.lemmas.List.Elements.{All-cons, All-head, All-nil, All-tail}
-use Rattle.ctl_syntax.specs.Conditions.{CondTree, condition_value}
+use Rattle.std.proofs.lemmas.Option.{same_Some}
 use Rattle.ctl_syntax.specs.ContextGoals.{PlainGoal, plain_patrol, plain_until}
-use Rattle.ctl_syntax.specs.GoalValues.{EachInStage, GoalIsAtMostDeep, GoalNamesBelow, stage_value, tree_of_goal}
-use Rattle.ctl_syntax.specs.Goals.{CtlTree, EachPlain, EachPlainOf, ef, goal_row, map_plain, plain}
-use Rattle.ctl_syntax.specs.Values.{NamesBelow, ctl_value}
+use Rattle.ctl_syntax.specs.GoalValues.{EachInStage, GoalIsAtMostDeep, GoalNamesBelow}
+use Rattle.ctl_syntax.specs.Values.{ctl_value}
 use Rattle.ctl_syntax.specs.declared.context_goals.ContextGoal.{ContextGoal}
 use Rattle.ctl_syntax.specs.declared.context_goals.ContextGoal.TheVariants.{Patrol, Until}
 use Rattle.ctl_syntax.specs.declared.context_goals.UntilStage.{UntilStage}
 use Rattle.ctl_syntax.specs.declared.goals.Ctl.{Ctl}
-use Rattle.ctl_syntax.proofs.ConditionTrees.{below_is, tree_below}
-use Rattle.ctl_syntax.proofs.Parts.{each_mapped, each_weaker}
 use Rattle.fair_plan.specs.Found.{CanBeHad, IsFairPlannersAnswer}
 use Rattle.fair_plan.specs.declared.found.FairFound.{FairFound}
 use Rattle.fair_plan.specs.declared.found.FairFound.TheVariants.{NoPlan, Plan}
-use Rattle.fair_plan.specs.Goals.{IsConditionOver, IsFairGoalOver}
-use Rattle.fair_theory.specs.FairGoals.{both, fair_chain, fair_tree}
-use Rattle.fair_theory.specs.FairPlans.{HasNoFairPlan, IsTrueFairly, sets_of_goal}
+use Rattle.fair_plan.specs.Goals.{IsFairGoalOver}
+use Rattle.fair_theory.specs.FairGoals.{both}
+use Rattle.fair_theory.specs.FairPlans.{HasNoFairPlan, sets_of_goal}
 use Rattle.fair_theory.specs.FairSets.{SetGoal}
+use Rattle.fair_theory.proofs.NamesBelow.{FairGoalsAreTrue, translated_names}
 use Rattle.ground_task.specs.declared.grounding.Grounded.{Grounded}
 use Rattle.pddl_ast.specs.Trees.{DomainTree, FormulaTree, ProblemTree}
 use Rattle.pddl_system.specs.Sizes.{first_passed}
@@ -33,7 +30,7 @@ use Rattle.plan_io.specs.Held.{Held}
 use Rattle.plan_rules.specs.Denoted.{denoted_contexts}
 use Rattle.plan_rules.specs.Rules.{PlainPlan, automaton, table}
 use Rattle.controller_rules.specs.AsRun.{HasNoDeadRule, HasOneMove}
-use Rattle.task_core.specs.Conditions.{depth, ids_below, is_shallow}
+use Rattle.task_core.specs.Conditions.{IsConditionOver, depth, ids_below}
 use Rattle.task_core.specs.Systems.{System}
 use Rattle.task_core.specs.Tasks.{fluent_count, initial_states, system_of}
 use Rattle.task_core.specs.declared.conditions.Cond.{Cond}
@@ -53,9 +50,10 @@ use Rattle.command_base.specs.declared.answers.Refusal.{Refusal as CodeRefusal}
 use Rattle.command_base.specs.declared.answers.Shown.{Shown}
 use Rattle.plan_command.specs.ContextGoals.{part_count}
 use Rattle.plan_command.specs.FoundGoals.{StandsForGoal}
-use Rattle.plan_command.specs.GoalConditions.{HasSomeVisit, count_of, limit_of_goal, sets_of_goal as plan_sets}
+use Rattle.plan_command.specs.GoalConditions.{limit_of_goal, sets_of_goal as plan_sets}
 use Rattle.plan_command.specs.GoalSets.{goal_sets}
 use Rattle.plan_command.specs.PlanCommand.{no_plan_text}
+use Rattle.plan_command.proofs.ContextAnswers.{shallow_within}
 use Rattle.controller_plan.specs.FairControllers.{FairThen, HasLongFairText, IsFairAnswer, IsFairController, IsFairResult, IsFairShown, IsTried, MeetsFairly, fair_goal_of, fair_sets, most_fair_parts}
 use Rattle.controller_plan.specs.FairJudged.{HasLongFairly, IsFairlyFound, IsFairlyMade, IsFairlyRefused, IsFairlyShown, IsTranslated, LacksFairRoom, most_fair_of, with_goal}
 use Rattle.controller_plan.specs.FairSought.{FollowsFairly, IsFairGoal, IsFairMadeRefusal, IsFairShownFor, IsFairTask, wanted_fairly}
@@ -66,53 +64,15 @@ use Rattle.controller_plan.specs.declared.fair_controllers.FairTask.{FairTask}
 use Rattle.controller_plan.specs.declared.made.Wanted.{Wanted}
 use Rattle.controller_plan.specs.Judged.{CanBeJudged, HasLongJudged, IsFoundGood, IsJudged, IsJudgedShown, IsMadeRefusal}
 use Rattle.controller_plan.proofs.Yes.{text_long, text_shown}
+use Rattle.ctl_syntax.specs.GoalSizes.{HasSomeVisit, count_of}
 
--- what is known of goals whose actions may be tried again
-abbrev pub FairGoalsAreTrue : Type 0
-FairGoalsAreTrue = (made : CtlTree Cond) (found : ContextGoal) → map_plain condition_value made ≡ fair_tree (tree_of_goal found) → IsTrueFairly made found
-
--- the goal by which a plan is judged names the fluents that the goal names
-module _ (n : ℕ) where
-  abbrev Below : CondTree → Type 0
-  Below t = tree_below n t ≡ true
-
-  below : (c : Cond) → ids_below n c ≡ true → Below (condition_value c)
-  below c names = sym (below_is n c) ∙ names
-
-  chain_below : (stages : List UntilStage) (keep : Cond) → All (EachInStage (λ (c : Cond). ids_below n c ≡ true)) stages → ids_below n keep ≡ true
-      → EachPlain Below (fair_chain (map stage_value stages) (condition_value keep))
-  chain_below [] keep each kept = below keep kept
-  chain_below (stage ∷ rest) keep each kept =
-      let first = All-head (EachInStage (λ (c : Cond). ids_below n c ≡ true)) stage rest each in
-      let later = chain_below rest keep (All-tail (EachInStage (λ (c : Cond). ids_below n c ≡ true)) stage rest each) kept in
-      let met : EachPlain Below (both (plain (condition_value stage.target)) (fair_chain (map stage_value rest) (condition_value keep))) = (below stage.target first.target, (later, tt)) in
-      ((below stage.guard first.guard, (met, tt)), met)
-
-  visits_below : (visits : List Cond) → All (λ (c : Cond). ids_below n c ≡ true) visits
-      → EachPlainOf Below (goal_row (map (λ (visit : CondTree). ef (plain visit)) (map condition_value visits)))
-  visits_below [] each = tt
-  visits_below (visit ∷ rest) each =
-      (below visit (All-head (λ (c : Cond). ids_below n c ≡ true) visit rest each), visits_below rest (All-tail (λ (c : Cond). ids_below n c ≡ true) visit rest each))
-
-  tree_names : (goal : ContextGoal) → GoalNamesBelow n goal → EachPlain Below (fair_tree (tree_of_goal goal))
-  tree_names (Until chain) names = chain_below chain.stages.items chain.keep names.stages names.keep
-  tree_names (Patrol visits) names = visits_below visits.items names
-
-  pub translated_names : (goal : ContextGoal) (made : Ctl) → IsTranslated goal made → GoalNamesBelow n goal → NamesBelow n (ctl_value made)
-  translated_names goal made is names =
-      each_weaker (λ (c : Cond). Below (condition_value c)) (λ (c : Cond). ids_below n c ≡ true) (λ c h. below_is n c ∙ h) (ctl_value made)
-      (each_mapped condition_value Below (ctl_value made) (subst (EachPlain Below) (sym is) (tree_names goal names)))
-
--- a plan that was judged by it has the goal
-one_goal : (f g : Ctl) → Some f ≡ Some g → g ≡ f
-one_goal f g same = cc
-
+-- a plan that was judged by the goal that stands in its place has the goal
 module _ (law : FairGoalsAreTrue) (t : Task) (goal : ContextGoal) (made : Ctl) (is : IsTranslated goal made) where
   by_verdict : (plan : PlainPlan) (v : Verdict) → IsTaskVerdict with_contexts t (Some made) plan v → SaysYes v → MeetsFairly (system_of t) (sets_of_goal goal) plan
   by_verdict (table written rules) v never says = absurd never
   by_verdict (automaton contexts rules) v (formula, same, verdict) says =
       let plan = denoted_contexts rules in
-      let formula_is = one_goal made formula same in
+      let formula_is = same_Some formula made (sym same) in
       let met = (yes_met (system_of t) plan (IsTrueAt (system_of t) plan (ctl_value formula)) v verdict).0 says in
       record {
         complete = met.complete;
@@ -252,9 +212,6 @@ after_tried held failed asked d p a both (inl memory) = inl memory
 after_tried held failed asked d p a both (inr then) = inr (inr (d, both.holds_domain, inr (p, both.holds_problem, then)))
 
 -- the conditions of a goal are such as a search takes
-shallow_within : (cond : Cond) → depth cond ≤ 200 → is_shallow cond ≡ true
-shallow_within cond deep = le-leb (depth cond) 200 deep
-
 module _ (n : ℕ) where
   abbrev Named : Cond → Type 0
   Named c = ids_below n c ≡ true

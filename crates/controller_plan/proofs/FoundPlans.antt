@@ -3,6 +3,7 @@ use Rattle.std.proofs.Common.{◌≡◌, ◌≢◌, ◌≤◌, ℕ, Bool, inl, i
 use Rattle.std.specs.List.{All}
 use Rattle.std.specs.Option.{option_and_then}
 use Rattle.std.proofs.lemmas.List.{length-map}
+use Rattle.std.proofs.lemmas.Option.{same_Some}
 use Rattle.pddl_ast.specs.Trees.{DomainTree, FormulaTree, ProblemTree, TemporalTree}
 use Rattle.pddl_system.specs.CtlGoals.{ctl_tree}
 use Rattle.pddl_system.specs.Systems.{action_names, fluent_names, system}
@@ -161,10 +162,7 @@ module _ (d : DomainTree) (p : ProblemTree) where
       result_apart certified with_contexts name (inl (none, is)) = absurd (cc is)
       result_apart certified with_contexts name (inr (goal, there, inl (many, is))) = absurd (cc is)
       result_apart certified with_contexts name (inr (goal, there, inr (few, result))) =
-          from_initial certified with_contexts name (λ other is here. subst (λ (g : PlainGoal FormulaTree). part_count g ≤ most_parts g) (same_goal goal other (sym there ∙ here)) few) result
-        where
-          same_goal : (g h : PlainGoal FormulaTree) → Some g ≡ Some h → g ≡ h
-          same_goal g h e = cc
+          from_initial certified with_contexts name (λ other is here. subst (λ (g : PlainGoal FormulaTree). part_count g ≤ most_parts g) (same_Some goal other (sym there ∙ here)) few) result
 
       pub found_is_apart : (asked : PlanWords) → PlanThen asked d p (affirmed text) → IsApartFound asked.kind d p text plan
       found_is_apart asked result = result_apart asked.certified asked.kind asked.problem result

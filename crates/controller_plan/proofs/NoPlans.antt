@@ -5,8 +5,7 @@ use Rattle.pddl_system.specs.Systems.{fluent_names, system}
 use Rattle.pddl_system.proofs.States.{they_have_a_system}
 use Rattle.plan_certs.specs.Certificates.{IsAccepted, PlainCertificate}
 use Rattle.task_core.specs.Names.{Name}
-use Rattle.task_core.specs.Solutions.{HasNoSolution}
-use Rattle.task_core.specs.Systems.{IsSystem, System}
+use Rattle.task_core.specs.Systems.{System}
 use Rattle.task_core.specs.Tasks.{fluent_names as names_of_fluents, system_of}
 use Rattle.task_core.specs.declared.tasks.Task.{Task}
 use Rattle.command_base.specs.Answers.{denied}
@@ -20,14 +19,10 @@ use Rattle.plan_certs.specs.Texts.{certificate_text}
 use Rattle.plan_command.specs.PlanCommand.{HasNoPlan, no_plan_text}
 use Rattle.std.specs.Prelude.{Err, IfOk, Ok, Result}
 use Rattle.std.specs.declared.alloc.AllocError.{AllocError}
-use Rattle.plan_command.proofs.Meetings.{no_table}
+use Rattle.plan_command.proofs.Meetings.{no_table, AcceptedMeansNone}
 use Rattle.controller_plan.specs.Controllers.{IsNoPlanShown, IsRefuted}
 use Rattle.controller_plan.specs.Judged.{IsNoPlanTold}
 use Rattle.controller_words.specs.Words.{ControlWords}
-
--- what is known of certificates
-abbrev pub AcceptedMeansNone : Type 0
-AcceptedMeansNone = (sys : System) (certificate : PlainCertificate) → IsSystem sys → IsAccepted sys certificate → HasNoSolution certificate.class sys
 
 -- what is told of a task is told of the problem
 told_of : (certified : Bool) (kind : PlanKind) (d : DomainTree) (p : ProblemTree) (certificate : PlainCertificate) (text : Text) → kind ≡ of_class certificate.class

@@ -23,11 +23,12 @@ use Rattle.command_base.specs.InitialStates.{InitialThen, empty_init}
 use Rattle.command_base.specs.PddlTexts.{ReadBoth}
 use Rattle.command_base.specs.Reading.{file_limit}
 use Rattle.command_base.specs.Words.{Bytes, with_contexts}
-use Rattle.plan_command.specs.ContextGoals.{context_goal, most_visits, part_count, part_limit}
+use Rattle.plan_command.specs.ContextGoals.{context_goal, part_count, part_limit}
 use Rattle.plan_command.specs.GoalSets.{GoalSets, goal_sets, of_patrol, of_until}
 use Rattle.plan_command.specs.PlanCommand.{no_plan_text}
 use Rattle.controller_plan.specs.Controllers.{IsGuardedFor, IsShownAs, text_for}
 use Rattle.controller_words.specs.FairWords.{FairWords}
+use Rattle.ctl_syntax.specs.GoalSizes.{most_visits}
 
 -- the sets of states of a goal, as one whose actions may be tried again
 abbrev pub fair_sets : GoalSets → SetGoal

@@ -22,9 +22,9 @@ use Rattle.task_core.specs.Tasks.{system_of}
 use Rattle.task_core.specs.declared.tasks.Task.{Task}
 use Rattle.command_base.specs.Answers.{Answer, Refusal, no_memory, over_limit}
 use Rattle.command_base.specs.Words.{with_contexts}
-use Rattle.plan_command.specs.ContextGoals.{most_visits}
 use Rattle.controller_plan.specs.Judged.{HasLongJudged, IsJudgedShown}
 use Rattle.controller_words.specs.declared.shapes.Shape.{Shape}
+use Rattle.ctl_syntax.specs.GoalSizes.{most_visits}
 
 -- how many stages or visits a goal may have
 abbrev pub most_fair_of : ContextGoal → ℕ

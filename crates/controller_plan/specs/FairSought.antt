@@ -18,7 +18,6 @@ use Rattle.command_base.specs.declared.answers.Shown.{Shown}
 use Rattle.command_base.specs.declared.words.PlanKind.TheVariants.{Contexts}
 use Rattle.plan_command.specs.ContextGoals.{context_goal}
 use Rattle.plan_command.specs.FoundGoals.{StandsForGoal}
-use Rattle.plan_command.specs.GoalConditions.{count_of}
 use Rattle.controller_plan.specs.FairControllers.{FairThen}
 use Rattle.controller_plan.specs.FairJudged.{IsFairlyMade, IsFairlyRefused, IsFairlyShown, IsTranslated}
 use Rattle.controller_plan.specs.FairJudged.{most_fair_of, with_goal}
@@ -27,6 +26,7 @@ use Rattle.controller_words.specs.Values.{fair_words_of}
 use Rattle.controller_plan.specs.declared.fair.FairSought.{FairSought}
 use Rattle.controller_plan.specs.declared.fair_controllers.FairTask.{FairTask}
 use Rattle.controller_plan.specs.declared.made.Wanted.{Wanted}
+use Rattle.ctl_syntax.specs.GoalSizes.{count_of}
 
 -- what holds of the words, the domain and the problem
 abbrev pub HoldsFairly : FairSought → (FairWords → DomainTree → ProblemTree → Type 0) → Type 0

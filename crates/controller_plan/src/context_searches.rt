@@ -4,7 +4,7 @@ ghost use Rattle.controller_plan.specs.Followed.{AreReachedWithin, AreSlotsLive,
 ghost use Rattle.ctl_syntax.specs.GoalValues.{GoalIsAtMostDeep, GoalNamesBelow};
 ghost use Rattle.ctl_syntax.specs.Values.{IsAtMostDeep, NamesBelow, ctl_value};
 ghost use Rattle.encode_task.specs.Made.{MadeOf};
-ghost use Rattle.plan_command.specs.GoalConditions.{HasSomeVisit, IsGoalOver, count_of, most_of};
+ghost use Rattle.plan_command.specs.GoalConditions.{IsGoalOver};
 ghost use Rattle.command_base.specs.Words.{IsNodeLimit};
 ghost use Rattle.patrol_plan.specs.Chains.{IsPatrolOver, IsUntilOver};
 ghost use Rattle.patrol_plan.specs.Found.{IfPlan};
@@ -12,6 +12,7 @@ ghost use Rattle.plan_rules.specs.Plans.{IsAutomatonOf};
 ghost use Rattle.plan_rules.specs.Rules.{context_rules_of};
 ghost use Rattle.std.specs.Prelude.{◌≡◌, ◌≤◌, IfSome, IsTrue, OnOk};
 ghost use Rattle.task_core.specs.Tasks.{action_count, fluent_count};
+ghost use Rattle.ctl_syntax.specs.GoalSizes.{HasSomeVisit, count_of, most_of};
 
 use crate::followed::{Followed, TakerSets};
 use crate::searches::{Stop, begun, follow_plan};

@@ -21,10 +21,11 @@ ghost use Rattle.pddl_ast.specs.Fits.{FitsDomain, FitsProblem};
 ghost use Rattle.pddl_ast.specs.Values.{domain_value, problem_value};
 ghost use Rattle.pddl_system.specs.CtlGoals.{ctl_goal_of, goal_value};
 ghost use Rattle.pddl_system.specs.Names.{NamesAreWords};
-ghost use Rattle.plan_command.specs.GoalConditions.{count_of, limit_of_goal};
+ghost use Rattle.plan_command.specs.GoalConditions.{limit_of_goal};
 ghost use Rattle.plan_io.specs.Fetches.{FailedLast, FetchesNothing};
 ghost use Rattle.std.specs.Prelude.{◌≡◌, ◌≤◌, ◌⊎◌, ◌↔◌, IfNone, IfOk, IfSome, IsTrue, Some};
 ghost use Rattle.task_core.specs.Tasks.{fluent_count};
+ghost use Rattle.ctl_syntax.specs.GoalSizes.{count_of};
 
 use crate::fair_controllers::{FairTask, fair_tried};
 use command_base::{Limit, PlanKind, Refusal, Shown, check_goal, goal_in, ground_both, read_both};

@@ -1,52 +1,27 @@
 -- The text of a controller spells its plan.
-use Rattle.std.proofs.Common.{◌≡◌, ◌<◌, ◌≤◌, ◌^◌, ◌++◌, ◌∙◌, ℕ, suc, List, [], ◌∷◌, None, length, get_or, codes, refl, ap, sym, subst, arith, append_assoc, lit<}
-use Rattle.std.specs.Prelude.{Option, Some, decimal, if◌then◌else◌, is_some, unwrap_or}
+use Rattle.std.proofs.Common.{◌<◌, ◌≤◌, ◌^◌, ◌++◌, ℕ, suc, List, [], ◌∷◌, None, length, get_or, codes, refl, sym, subst, arith, lit<}
+use Rattle.std.specs.Prelude.{decimal}
 use Rattle.std.specs.List.{All}
-use Rattle.std.specs.Option.{option_map_or}
-use Rattle.sexpr_text.specs.declared.faults.FaultKind.TheVariants.{BadForm, BadNumber}
-use Rattle.sexpr_text.specs.declared.forms.Span.{Span}
-use Rattle.sexpr_text.specs.Flaws.{flaw_at, fault_of_passes}
-use Rattle.sexpr_text.specs.Forest.{Forest, word, group}
-use Rattle.sexpr_text.specs.Parts.{flaws_of_groups, each_group}
 use Rattle.sexpr_text.specs.Rows as row
-use Rattle.sexpr_text.specs.Rows.{Row, row_of}
-use Rattle.sexpr_text.specs.Spelling.{SpellsTrees}
-use Rattle.sexpr_text.proofs.FlawLaws.{passes-none, passes-end}
+use Rattle.sexpr_text.specs.Rows.{Row}
 use Rattle.task_core.specs.declared.classes.Class.{Class}
-use Rattle.task_core.specs.declared.classes.Class.TheVariants.{Weak, Strong, Cyclic}
 use Rattle.task_core.specs.Names.{IsWord, Name, name_bytes, name_of}
 use Rattle.task_core.specs.Tasks.{action_count, action_names, fluent_count, fluent_names}
 use Rattle.task_core.specs.declared.tasks.Task.{Task}
 use Rattle.plan_document.specs.Faithful.{IsOneNext, IsToldInFull, IsToldRule}
 use Rattle.std.proofs.lemmas.List.{get_or_default, length-map}
-use Rattle.plan_rules.specs.Items.{of_word}
 use Rattle.plan_rules.specs.Plans.{most_contexts, IsAutomatonOf, IsRuleOf, IsContextOf, IsContextRuleOf, IsNextOf, IsPlainPlanOf, IsPlanOf}
-use Rattle.plan_rules.specs.Readings as read
 use Rattle.plan_rules.specs.Readings.{AreSpellable, SpellsPlain}
 use Rattle.plan_rules.specs.Rules.{ContextRule, PlainPlan, PlanNext, PlanRule, always, automaton, by_cases, plain_of, table}
 use Rattle.plan_rules.specs.declared.rules.Plan.{Plan}
-use Rattle.plan_rules.specs.Texts.{atom_text, class_word, context_rule_text, cube_text, in_parentheses, line_feed, name_at, next_text, rule_text}
-use Rattle.plan_rules.proofs.Decimals.{decimal-word, number-decimal}
+use Rattle.plan_rules.specs.Texts.{atom_text, class_word, context_rule_text, cube_text, in_parentheses, name_at, next_text, rule_text}
+use Rattle.plan_rules.proofs.Decimals.{decimal-word}
 use Rattle.plan_rules.proofs.Pieces.{Reads, reads_group, reads_none, reads_space, reads_then, reads_word, spelled_whole}
-use Rattle.plan_rules.proofs.Printed.{class_is_word, cube_row, fixed, groups, reads_atom, reads_cube, reads_rule, reads_word_then, rule_row}
-use Rattle.plan_rules.proofs.PrintedContexts.{context_rule_row, next_row}
-use Rattle.plan_rules.proofs.RowRead.{IsRead, first-word, first-group, groups-read, rule-read, context_rule-read}
+use Rattle.plan_rules.proofs.Printed.{class_is_word, cube_row, fixed, groups, reads_atom, reads_cube, reads_rule, reads_word_then, rule_row, table_shape}
+use Rattle.plan_rules.proofs.PrintedContexts.{context_rule_row, next_row, automaton_shape, rule_shape}
+use Rattle.plan_rules.proofs.Spelled.{kind_row, from-row}
 use Rattle.controller_rules.specs.Texts.{controller_text, noted_text}
 use Rattle.controller_rules.proofs.Comments.{reads_noted}
-
-table_shape : (w z : List ℕ) → codes "(plan table " ++ w ++ line_feed ++ z ++ codes ")" ++ line_feed ≡ in_parentheses (codes "plan" ++ (32 ∷ (codes "table" ++ (32 ∷ (w ++ (10 ∷ z)))))) ++ 10 ∷ []
-table_shape w z = simp append_assoc
-
-automaton_shape : (w z : List ℕ) → codes "(plan automaton " ++ w ++ line_feed ++ z ++ codes ")" ++ line_feed ≡ in_parentheses (codes "plan" ++ (32 ∷ (codes "automaton" ++ (32 ∷ (w ++ (10 ∷ z)))))) ++ 10 ∷ []
-automaton_shape w z = simp append_assoc
-
-rule_shape : (n x y z : List ℕ) → codes "  (rule " ++ n ++ codes " " ++ x ++ codes " " ++ y ++ codes " " ++ z ++ codes ")" ++ line_feed ≡ 32 ∷ 32 ∷ (in_parentheses (codes "rule" ++ (32 ∷ (n ++ (32 ∷ (x ++ (32 ∷ (y ++ (32 ∷ z)))))))) ++ 10 ∷ [])
-rule_shape n x y z = simp append_assoc
-
--- the row of a plan's list after the word `plan`
-abbrev kind_row : PlainPlan → List Name → List Name → Row
-kind_row (table class rules) fluents actions = row.word (codes "table") (row.word (class_word class) (groups (rule_row fluents actions) rules))
-kind_row (automaton contexts rules) fluents actions = row.word (codes "automaton") (row.word (decimal contexts) (groups (context_rule_row fluents actions) rules))
 
 -- a plan's list, in pieces of at most so many parentheses
 reads_list : (d : ℕ) (kind w z : List ℕ) (lines : Row) → IsWord kind → IsWord w → Reads z (suc d) lines
@@ -131,48 +106,6 @@ reads_automaton fluents actions contexts rules steps names is told small =
     (reads_noted (IsGoodRule (length fluents) (length actions) contexts) (context_rule_text fluents actions) (context_rule_row fluents actions) 4 None rules steps
     (λ rule good. reads_context_rule fluents actions contexts 0 rule few names good.of_plan good.told) (λ _ _. refl)
     (λ k d inside. record { of_plan = is.each k d inside; told = told k d inside }) small))
-
-class-named : (span : Span) (class : Class) → read.class_named (of_word span (class_word class)) ≡ Some class
-class-named span Weak = refl
-class-named span Strong = refl
-class-named span Cyclic = refl
-
-plan-read : (fluents actions : List Name) (p : PlainPlan) → AreSpellable fluents actions → IsPlainPlanOf (length fluents) (length actions) p → (span : Span) (f : Forest) → row_of f ≡ kind_row p fluents actions
-    → IsRead (read.plan_flaws fluents actions span f) (read.plan_tree fluents actions f) p
-plan-read fluents actions (table class rules) names all span f e =
-    let a = first-word f (codes "table") (row.word (class_word class) (groups (rule_row fluents actions) rules)) e in
-    let b = first-word a.rest (class_word class) (groups (rule_row fluents actions) rules) a.row in
-    let lines = groups-read (IsRuleOf (length fluents) (length actions)) (rule_row fluents actions) (read.table_rule_flaws fluents actions) (read.table_rule_tree fluents actions)
-    (rule-read fluents actions names.fluents_are names.actions_are) rules all b.rest b.row in
-    let shape : f ≡ word a.span (codes "table") (word b.span (class_word class) b.rest) = a.is ∙ ap (word a.span (codes "table")) b.is in
-    subst (λ (t : Forest). IsRead (read.plan_flaws fluents actions span t) (read.plan_tree fluents actions t) (table class rules)) (sym shape)
-    (subst (λ (o : Option Class). IsRead (if is_some o then flaws_of_groups (read.table_rule_flaws fluents actions) b.rest else flaw_at b.span BadForm ∷ [])
-    (table (unwrap_or o Weak) (each_group (read.table_rule_tree fluents actions) b.rest)) (table class rules)) (sym (class-named b.span class))
-    (record { none = lines.none; same = ap (table class) lines.same }))
-plan-read fluents actions (automaton contexts rules) names is span f e =
-    let a = first-word f (codes "automaton") (row.word (decimal contexts) (groups (context_rule_row fluents actions) rules)) e in
-    let b = first-word a.rest (decimal contexts) (groups (context_rule_row fluents actions) rules) a.row in
-    let small : contexts ≤ most_contexts = is.number.last in
-    let lines = groups-read (IsContextRuleOf (length fluents) (length actions) contexts) (context_rule_row fluents actions) (read.context_rule_flaws fluents actions contexts) (read.context_rule_tree fluents actions contexts)
-    (context_rule-read fluents actions contexts names.fluents_are names.actions_are small) rules is.each b.rest b.row in
-    let shape : f ≡ word a.span (codes "automaton") (word b.span (decimal contexts) b.rest) = a.is ∙ ap (word a.span (codes "automaton")) b.is in
-    subst (λ (t : Forest). IsRead (read.plan_flaws fluents actions span t) (read.plan_tree fluents actions t) (automaton contexts rules)) (sym shape)
-    (subst (λ (o : Option ℕ). IsRead (option_map_or (λ n. flaws_of_groups (read.context_rule_flaws fluents actions n) b.rest) o (flaw_at b.span BadNumber ∷ []))
-    (read.contexts_tree fluents actions (unwrap_or o 0) b.rest) (automaton contexts rules)) (sym (number-decimal most_contexts contexts (omega arith) is.number))
-    (record { none = lines.none; same = ap (automaton contexts) lines.same }))
-
--- a text whose forms are the list of a plan
-from-row : (fluents actions : List Name) (p : PlainPlan) (b : List ℕ) (t : Forest) → AreSpellable fluents actions → IsPlainPlanOf (length fluents) (length actions) p
-    → SpellsTrees b t → row_of t ≡ row.group (row.word (codes "plan") (kind_row p fluents actions)) row.nil → SpellsPlain fluents actions b p
-from-row fluents actions p b t names is s e =
-    let a = first-group t (row.word (codes "plan") (kind_row p fluents actions)) row.nil e in
-    let w = first-word a.parts (codes "plan") (kind_row p fluents actions) a.inner in
-    let reading = plan-read fluents actions p names is a.span w.rest w.row in
-    let shape : t ≡ group a.span (word w.span (codes "plan") w.rest) a.rest = a.is ∙ ap (λ (q : Forest). group a.span q a.rest) w.is in
-    let none : read.text_flaws fluents actions t ≡ [] = ap (read.text_flaws fluents actions) shape ∙ reading.none in
-    let same : read.plan_read fluents actions t ≡ Some (p, a.span.place) =
-    ap (read.plan_read fluents actions) shape ∙ ap (λ (q : PlainPlan). Some (q, a.span.place)) reading.same in
-    (a.span.place, (t, s, ap (λ flaws. fault_of_passes (flaws ∷ [])) none ∙ (passes-none [] ∙ passes-end), same))
 
 pub controller_spells : (fluents actions : List Name) (p : PlainPlan) (steps : List ℕ) → AreSpellable fluents actions → IsPlainPlanOf (length fluents) (length actions) p → IsToldInFull p → All (λ n. n < 2 ^ 64) steps
     → SpellsPlain fluents actions (controller_text fluents actions p steps) p

@@ -1,7 +1,8 @@
 -- No words ask for two controllers.
-use Rattle.std.proofs.Common.{◌≡◌, ◌++◌, ◌∙◌, ℕ, Bool, true, false, List, [], ◌∷◌, length, drop, get_or, Some, inl, inr, refl, sym, ap, arith, codes, subst, append_assoc}
+use Rattle.std.proofs.Common.{◌≡◌, ◌++◌, ◌∙◌, ℕ, Bool, true, false, List, [], ◌∷◌, drop, get_or, Some, inl, inr, refl, sym, ap, arith, codes, subst, append_assoc}
 use Rattle.std.specs.Prelude.{◌==◌, if◌then◌else◌}
 use Rattle.std.proofs.lemmas.List.{append_cancel_right}
+use Rattle.std.proofs.lemmas.Option.{same_Some}
 use Rattle.command_base.specs.Words.{Bytes, PlanKind, PlanOptions, PlanWords, SaysOptions, SaysPlan, cert_words, kind_word, of_class, plan, with_contexts}
 use Rattle.task_core.specs.declared.classes.Class.TheVariants.{Weak, Strong, Cyclic}
 use Rattle.command_base.proofs.OneCommand.{one_command}
@@ -11,7 +12,7 @@ use Rattle.controller_words.specs.Words.{ControlWords, SaysControl, form_words, 
 use Rattle.controller_words.specs.declared.shapes.Form.{Form}
 use Rattle.controller_words.specs.declared.shapes.Form.TheVariants.{Code, Json, Text}
 use Rattle.controller_words.specs.declared.shapes.Shape.{Shape}
-use Rattle.controller_words.proofs.ShapeLists.{shape_back, some_same}
+use Rattle.controller_words.proofs.ShapeLists.{shape_back}
 
 plan_same : (a b : PlanWords) → plan a ≡ plan b → a ≡ b
 plan_same a b is = cc
@@ -106,7 +107,7 @@ one_asked words a b says said =
     let certified : a.plan.certified ≡ b.plan.certified = certified_is words a says ∙ sym (certified_is words b said) in
     let lasts = last_is words a says ∙ ap (λ (c : Bool). after_cert c (drop 3 words)) certified ∙ sym (last_is words b said) in
     let shape : a.shape ≡ b.shape =
-    some_same a.shape b.shape (asks_shape words a says ∙ ap (λ (ws : List Bytes). shape_in (after_nodes ws)) lasts ∙ sym (asks_shape words b said)) in
+    same_Some a.shape b.shape (asks_shape words a says ∙ ap (λ (ws : List Bytes). shape_in (after_nodes ws)) lasts ∙ sym (asks_shape words b said)) in
     let both : says.front ++ shape_words b.shape ≡ said.front ++ shape_words b.shape =
     ap (λ (s : Shape). says.front ++ shape_words s) (sym shape) ∙ sym says.written ∙ said.written in
     let fronts = append_cancel_right says.front said.front (shape_words b.shape) both in

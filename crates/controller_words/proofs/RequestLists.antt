@@ -1,18 +1,16 @@
 -- All words.
-use Rattle.std.proofs.Common.{◌≡◌, ◌⊎◌, ◌++◌, ◌∙◌, ◌<◌, Bool, true, false, List, [], ◌∷◌, Option, None, Some, inl, inr, refl, sym, subst, ap, codes, drop, get_or, length, arith, append_assoc, ℕ}
-use Rattle.std.specs.Prelude.{MatchOption, if◌then◌else◌}
-use Rattle.std.specs.Str.{bytes_eq}
-use Rattle.command_base.specs.Words.{MayBeCertified, PlanKind, PlanWords, SaysPlan, cert_words, kind_word, of_class, with_contexts}
-use Rattle.task_core.specs.declared.classes.Class.TheVariants.{Weak, Strong, Cyclic}
-use Rattle.controller_words.specs.FairWords.{AskNothing, ControlRequest, FairWords, SaysFair, SaysRequest, as_ctl, to_plan, to_try}
-use Rattle.controller_words.specs.Reading.{Bytes, SaysAfter, SaysEnd, kind_in}
+use Rattle.std.proofs.Common.{◌≡◌, ◌++◌, ◌∙◌, Bool, false, List, [], ◌∷◌, Option, refl, sym, subst, ap, codes, drop, get_or, length, arith, append_assoc}
+use Rattle.std.specs.Prelude.{MatchOption}
+use Rattle.command_base.specs.Words.{MayBeCertified, PlanKind, cert_words, kind_word, with_contexts}
+use Rattle.controller_words.specs.FairWords.{AskNothing, FairWords, SaysFair, SaysRequest, as_ctl, to_plan, to_try}
+use Rattle.controller_words.specs.Reading.{Bytes, SaysAfter, SaysEnd}
 use Rattle.controller_words.specs.Values.{IsRequested, control_words_of}
 use Rattle.controller_words.specs.Words.{ControlWords, SaysControl, shape_words}
 use Rattle.controller_words.specs.declared.options.SaidEnd.{SaidEnd}
 use Rattle.controller_words.specs.declared.requests.ControlRequest.{ControlRequest as CodeRequest}
 use Rattle.controller_words.specs.declared.words.ControlWords.{ControlWords as CodeControlWords}
 use Rattle.controller_words.proofs.OneAsked.{first_word, no_fair_kind}
-use Rattle.controller_words.proofs.ShapeLists.{if_some, none_some, same, some_same}
+use Rattle.command_base.proofs.OneCommand.{same_kind}
 
 -- the options that a controller's words end with
 abbrev pub end_of : ControlWords → SaidEnd
@@ -87,56 +85,9 @@ none_after kind words none asked is says = omega (arith, ap (length {A = Bytes})
 pub one_after : (kind : PlanKind) (word : Bytes) (words : List Bytes) → words ≡ [] → (asked : ControlWords) → asked.plan.kind ≡ kind → SaysAfter (word ∷ words) asked → ⊥
 one_after kind word words none asked is says = omega (arith, ap (length {A = Bytes}) none, ap (length {A = Bytes}) says.written)
 
--- a kind is read as it is written
-kind_back : (kind : PlanKind) → kind_in (kind_word kind) ≡ Some kind
-kind_back (of_class Weak) = refl
-kind_back (of_class Strong) = refl
-kind_back (of_class Cyclic) = refl
-kind_back with_contexts = refl
-
--- and written as it is read
-kind_named : (word name : Bytes) (k l : PlanKind) → name ≡ kind_word l → (bytes_eq word name ≡ true) × (Some l ≡ Some k) → word ≡ kind_word k
-kind_named word name k l is both = same word name both.0 ∙ is ∙ ap kind_word (some_same l k both.1)
-
-ctl_told : (word : Bytes) (k : PlanKind) → (if bytes_eq word (codes "ctl") then Some with_contexts else None) ≡ Some k → word ≡ kind_word k
-ctl_told word k is = by_case (if_some (bytes_eq word (codes "ctl")) (Some with_contexts) None k is)
-  where
-    by_case : ((bytes_eq word (codes "ctl") ≡ true) × (Some with_contexts ≡ Some k)) ⊎ (None ≡ Some k) → word ≡ kind_word k
-    by_case (inl both) = kind_named word (codes "ctl") k with_contexts refl both
-    by_case (inr none) = absurd (none_some k none)
-
-abbrev from_cyclic : Bytes → Option PlanKind
-from_cyclic word = if bytes_eq word (codes "cyclic") then Some (of_class Cyclic) else if bytes_eq word (codes "ctl") then Some with_contexts else None
-
-cyclic_told : (word : Bytes) (k : PlanKind) → from_cyclic word ≡ Some k → word ≡ kind_word k
-cyclic_told word k is = by_case (if_some (bytes_eq word (codes "cyclic")) (Some (of_class Cyclic)) (if bytes_eq word (codes "ctl") then Some with_contexts else None) k is)
-  where
-    by_case : ((bytes_eq word (codes "cyclic") ≡ true) × (Some (of_class Cyclic) ≡ Some k)) ⊎ ((if bytes_eq word (codes "ctl") then Some with_contexts else None) ≡ Some k) → word ≡ kind_word k
-    by_case (inl both) = kind_named word (codes "cyclic") k (of_class Cyclic) refl both
-    by_case (inr other) = ctl_told word k other
-
-abbrev from_strong : Bytes → Option PlanKind
-from_strong word = if bytes_eq word (codes "strong") then Some (of_class Strong) else from_cyclic word
-
-strong_told : (word : Bytes) (k : PlanKind) → from_strong word ≡ Some k → word ≡ kind_word k
-strong_told word k is = by_case (if_some (bytes_eq word (codes "strong")) (Some (of_class Strong)) (from_cyclic word) k is)
-  where
-    by_case : ((bytes_eq word (codes "strong") ≡ true) × (Some (of_class Strong) ≡ Some k)) ⊎ (from_cyclic word ≡ Some k) → word ≡ kind_word k
-    by_case (inl both) = kind_named word (codes "strong") k (of_class Strong) refl both
-    by_case (inr other) = cyclic_told word k other
-
-kind_told : (word : Bytes) (k : PlanKind) → kind_in word ≡ Some k → word ≡ kind_word k
-kind_told word k is = by_case (if_some (bytes_eq word (codes "weak")) (Some (of_class Weak)) (from_strong word) k is)
-  where
-    by_case : ((bytes_eq word (codes "weak") ≡ true) × (Some (of_class Weak) ≡ Some k)) ⊎ (from_strong word ≡ Some k) → word ≡ kind_word k
-    by_case (inl both) = kind_named word (codes "weak") k (of_class Weak) refl both
-    by_case (inr other) = strong_told word k other
-
-pub asked_of_kind : (word : Bytes) (rest : List Bytes) (k : PlanKind) (r : CodeRequest) → Some k ≡ kind_in word → IsRequested (kind_word k ∷ rest) r → IsRequested (word ∷ rest) r
-asked_of_kind word rest k r is asked = subst (λ (w : Bytes). IsRequested (w ∷ rest) r) (sym (kind_told word k (sym is))) asked
-
-pub same_kind : (k l : PlanKind) → kind_word k ≡ kind_word l → k ≡ l
-same_kind k l is = some_same k l (sym (kind_back k) ∙ ap kind_in is ∙ kind_back l)
+-- a kind, by its name
+pub asked_of_kind : (word : Bytes) (rest : List Bytes) (k : PlanKind) (r : CodeRequest) → word ≡ kind_word k → IsRequested (kind_word k ∷ rest) r → IsRequested (word ∷ rest) r
+asked_of_kind word rest k r is asked = subst (λ (w : Bytes). IsRequested (w ∷ rest) r) (sym is) asked
 
 -- the words of a kind
 kind_of_word : (word : Bytes) (words : List Bytes) (asked : ControlWords) → SaysControl (word ∷ words) asked → word ≡ kind_word asked.plan.kind
@@ -179,9 +130,8 @@ fair_nothing words none (to_try asked) says =
     none (as_ctl asked) refl (subst (λ (ws : List Bytes). SaysAfter ws (as_ctl asked)) rests (says_after (codes "ctl") says.rest (as_ctl asked) says.says))
 
 -- no kind
-pub no_kind : (word : Bytes) (words : List Bytes) → (word ≡ codes "fair" → ⊥) → None ≡ kind_in word → AskNothing (word ∷ words)
-no_kind word words other none (to_plan asked) says =
-    none_some asked.plan.kind (none ∙ ap kind_in (kind_of_word word words asked says) ∙ kind_back asked.plan.kind)
+pub no_kind : (word : Bytes) (words : List Bytes) → (word ≡ codes "fair" → ⊥) → ((k : PlanKind) → word ≡ kind_word k → ⊥) → AskNothing (word ∷ words)
+no_kind word words other none (to_plan asked) says = none asked.plan.kind (kind_of_word word words asked says)
 no_kind word words other none (to_try asked) says = no_fair word words other asked says
 
 -- no words

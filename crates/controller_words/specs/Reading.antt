@@ -1,28 +1,18 @@
 -- Private: how the words are read, from the first one on.
-use Rattle.std.specs.Prelude.{◌≡◌, ◌++◌, ℕ, Bool, true, false, List, [], ◌∷◌, Option, None, Some, codes}
+use Rattle.std.specs.Prelude.{◌≡◌, ◌++◌, Bool, true, false, List, [], ◌∷◌, Option, None, Some, codes}
 use Rattle.std.specs.Prelude.{decimal, if◌then◌else◌}
 use Rattle.std.specs.Option.{option_map}
 use Rattle.std.specs.Str.{bytes_eq}
 use Rattle.command_base.specs.Words.{IsNodeLimit, MayBeCertified, PlanKind, SaysOptions, cert_words}
-use Rattle.command_base.specs.Words.{of_class, with_contexts}
 pub use Rattle.command_base.specs.Words.{Bytes}
 use Rattle.controller_code.specs.declared.texts.Language.{Language}
 use Rattle.controller_code.specs.declared.texts.Language.TheVariants.{C, Python, Rust}
-use Rattle.task_core.specs.declared.classes.Class.TheVariants.{Cyclic, Strong, Weak}
 use Rattle.controller_words.specs.Words.{ControlWords, shape_words}
 use Rattle.controller_words.specs.declared.options.SaidEnd.{SaidEnd}
 use Rattle.controller_words.specs.declared.options.SaidTail.{SaidTail}
 use Rattle.controller_words.specs.declared.shapes.Form.{Form}
 use Rattle.controller_words.specs.declared.shapes.Form.TheVariants.{Code, Json, Text}
 use Rattle.controller_words.specs.declared.shapes.Shape.{Shape}
-
--- the kind of a name
-abbrev pub kind_in : Bytes → Option PlanKind
-kind_in word =
-    if bytes_eq word (codes "weak") then Some (of_class Weak)
-    else if bytes_eq word (codes "strong") then Some (of_class Strong)
-    else if bytes_eq word (codes "cyclic") then Some (of_class Cyclic)
-    else if bytes_eq word (codes "ctl") then Some with_contexts else None
 
 -- the language of a name
 abbrev pub language_in : Bytes → Option Language

@@ -3,17 +3,11 @@
 use Rattle.std.specs.Prelude.{Bool, ◌||◌, if◌then◌else◌, ℕ, List, [], ◌∷◌, codes}
 use Rattle.std.specs.Str.{bytes_eq}
 use Rattle.command_base.specs.Words.{Bytes}
+use Rattle.answer_help.specs.CommonWords.{names_kind}
 use Rattle.answer_help.specs.WrongWords.{WrongWords, too_few, wrong}
 use Rattle.answer_help.specs.declared.wrong_words.TheConstants.{NO_NODES, NO_OPTION, NO_VALUE}
 use Rattle.controller_words.specs.declared.wrong_words.TheConstants.{NO_CERTIFICATE, NO_CONTROLLER}
 use Rattle.controller_words.specs.declared.wrong_words.TheConstants.{NO_LANGUAGE, WRONG_ORDER}
-
--- the word names a class, or it is `ctl` or `fair`
-abbrev pub names_kind : Bytes → Bool
-names_kind word =
-    bytes_eq word (codes "weak") || bytes_eq word (codes "strong")
-    || bytes_eq word (codes "cyclic") || bytes_eq word (codes "ctl")
-    || bytes_eq word (codes "fair")
 
 -- the word is an option
 abbrev pub is_option : Bytes → Bool

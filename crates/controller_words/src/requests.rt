@@ -7,8 +7,8 @@ ghost use Rattle.std.specs.Prelude.{◌∷◌, codes, map, string_bytes};
 
 use crate::shapes::Shape;
 use crate::split::{Split, first_word};
-use crate::words::{ControlWords, kind_named, words_after};
-use command_base::PlanKind;
+use crate::words::{ControlWords, words_after};
+use command_base::{PlanKind, kind_named};
 
 /// What is asked: a controller whose actions may be tried again, for the domain and the problem in the
 /// files of these names, found in a table for so many nodes, and what beside.

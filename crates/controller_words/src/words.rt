@@ -1,10 +1,9 @@
 //! The words after the kind: which controller is wanted.
 
 ghost use Rattle.command_base.specs.Values.{kind_of};
-ghost use Rattle.controller_words.specs.Reading.{SaysAfter, kind_in};
+ghost use Rattle.controller_words.specs.Reading.{SaysAfter};
 ghost use Rattle.controller_words.specs.Values.{control_words_of};
 ghost use Rattle.controller_words.specs.Words.{ControlWords as AskedControl};
-ghost use Rattle.std.specs.Option.{option_map};
 ghost use Rattle.std.specs.Prelude.{◌≡◌, ◌∷◌, IfSome, MatchOption, map, string_bytes};
 
 use crate::options::end_said;
@@ -18,25 +17,6 @@ use task_core::Class;
 pub struct ControlWords<'a> {
     pub plan: PlanWords<'a>,
     pub shape: Shape,
-}
-
-/// The kind of this name.
-pub(crate) fn kind_named(word: &str) -> Option<PlanKind>
-    ensures { option_map kind_of result ≡ kind_in word.now }
-{
-    if word == "weak" {
-        return Some(PlanKind::Class(Class::Weak));
-    }
-    if word == "strong" {
-        return Some(PlanKind::Class(Class::Strong));
-    }
-    if word == "cyclic" {
-        return Some(PlanKind::Class(Class::Cyclic));
-    }
-    if word == "ctl" {
-        return Some(PlanKind::Contexts);
-    }
-    None
 }
 
 /// What the words after a kind ask: `DOMAIN PROBLEM` and the options.

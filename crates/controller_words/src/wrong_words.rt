@@ -3,7 +3,6 @@
 ghost use Rattle.answer_help.specs.Values.{wrong_of};
 ghost use Rattle.controller_words.specs.WrongWords.{
   is_option as is_an_option,
-  names_kind as names_a_kind,
   option_reason as reason_for,
   wrong_after_all as wrong_after_them,
   wrong_after_kind as wrong_behind_kind,
@@ -19,7 +18,7 @@ ghost use Rattle.controller_words.specs.WrongWords.{
 };
 ghost use Rattle.std.specs.Prelude.{◌≡◌, map, string_bytes};
 
-use answer_help::{NO_NODES, NO_OPTION, NO_VALUE, WrongWords};
+use answer_help::{NO_NODES, NO_OPTION, NO_VALUE, WrongWords, names_kind};
 
 /// Why a word is wrong that stands where a class, `ctl` or `fair` is wanted.
 pub(crate) const NO_CONTROLLER: &str = "none of `weak`, `strong`, `cyclic`, `ctl` and `fair`";
@@ -48,13 +47,6 @@ pub fn wrong_control<'a>(words: &'a [String]) -> WrongWords<'a>
         word: kind,
         why: NO_CONTROLLER,
     }
-}
-
-/// Whether a word names a class, or is `ctl` or `fair`.
-fn names_kind(word: &str) -> bool
-    ensures { result ≡ names_a_kind word.now }
-{
-    word == "weak" || word == "strong" || word == "cyclic" || word == "ctl" || word == "fair"
 }
 
 /// What is wrong with the words after a kind.

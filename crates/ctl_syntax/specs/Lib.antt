@@ -1,5 +1,6 @@
 pub mod Conditions
 pub mod ContextGoals
+pub mod GoalSizes
 pub mod GoalSteps
 pub mod GoalValues
 pub mod Goals

@@ -5,11 +5,8 @@ use Rattle.std.proofs.lemmas.Nat.Gcd.{le_from_IsGcd, dvd_of_mod-eq-zero, mod-eq-
 use Rattle.std.proofs.lemmas.Bool.Decides.{nat_tests}
 use Prim.Native.Nat.{◌∣◌}
 use Rattle.std.specs.List.{list_all}
-use Rattle.std.specs.Str.Parse.{digits_value}
 use Rattle.std.proofs.lemmas.List.{take_all}
 use Rattle.std.proofs.lemmas.Nat.{le-div}
-use Rattle.sexpr_text.specs.Numerals.{is_numeral}
-use Rattle.sexpr_text.proofs.Digits.{number_so_far}
 use Rattle.std.proofs.Math.Nat.{mul-pos, one-le-pow, pow-le-pow_right}
 use Rattle.domain_read.specs.Weights.{greatest, gcd}
 use Rattle.list_laws.proofs.Booleans.{and_first, and_second, true_and_false}
@@ -63,18 +60,6 @@ small_power n le =
 
 pub some_power : (n : ℕ) → 1 ≤ 10 ^ n
 some_power n = one-le-pow n 10 (lit< tt)
-
-some_digits : (ds : List ℕ) → is_numeral ds ≡ true → 1 ≤ length ds
-some_digits [] h = cc
-some_digits (d ∷ ds) h = omega arith
-
--- nine digits write a small number
-pub small_number : (ds : List ℕ) → is_numeral ds ≡ true → digits_value 10 ds < 1000000000
-small_number ds h =
-    let some : 1 ≤ length ds = some_digits ds h in
-    let s = number_so_far ds (length ds - 1) h (omega arith) in
-    let all : take (length ds - 1 + 1) ds ≡ ds = take_all (length ds - 1 + 1) ds (omega arith) in
-    subst (λ xs. digits_value 10 xs < 1000000000) all s.small
 
 -- a multiple is not 0
 pub some_multiple : (m g u : ℕ) → 0 < g → g ≤ m → 1 ≤ u → 1 ≤ m / g * u

@@ -14,15 +14,13 @@ ghost use Rattle.std.specs.Prelude.{
   IfSome,
   Some,
 };
-ghost use Rattle.std.specs.Char.{is_ascii_digit};
-ghost use Rattle.std.specs.List.{list_all, position};
+ghost use Rattle.std.specs.List.{position};
 ghost use Rattle.std.specs.Option.{option_map};
-ghost use Rattle.std.specs.Str.Parse.{digits_value};
 ghost use Rattle.sexpr_text.specs.Forest.{forest_of};
 ghost use Rattle.sexpr_text.specs.Numerals as numerals;
 ghost use Rattle.domain_read.specs.Weights as weights;
 
-use sexpr_text::{Form, View};
+use sexpr_text::{Form, View, numeral_in};
 
 /// A fraction, exactly.
 #[derive(Clone, Copy, Debug)]
@@ -42,38 +40,8 @@ pub enum Mass {
     Over,
 }
 
-/// The length of the longest numeral.
-const MAX_DIGITS: usize = 9;
-
 /// The greatest common denominator that the weights of a list may have.
 const MOST_UNDER: u128 = 1_000_000_000_000_000_000;
-
-// Whether each byte is a decimal digit.
-fn are_digits(text: &[u8]) -> bool
-    ensures { result ≡ list_all is_ascii_digit text.now }
-{
-    text.iter().all(|byte| byte.is_ascii_digit())
-}
-
-// Whether the text is one to nine decimal digits.
-fn is_numeral(text: &[u8]) -> bool
-    ensures { result ≡ numerals.is_numeral text.now }
-{
-    !text.is_empty() && text.len() <= MAX_DIGITS && are_digits(text)
-}
-
-// The number that the digits write.
-fn number(digits: &[u8]) -> u64
-    requires { numerals.is_numeral digits.now ≡ true }
-    ensures value { result ≡ digits_value 10 digits.now }
-    ensures bound { result < 1000000000 }
-{
-    let mut number = 0;
-    for digit in digits {
-        number = number * 10 + u64::from(*digit - b'0');
-    }
-    number
-}
 
 // The number that a text of one to nine decimal digits writes.
 fn numeral(text: &[u8]) -> Option<u64>
@@ -81,11 +49,8 @@ fn numeral(text: &[u8]) -> Option<u64>
     ensures bound { IfSome result (λ n. n < 1000000000) }
     ensures short { IfSome result (λ n. length text.now ≤ 9) }
 {
-    if is_numeral(text) {
-        Some(number(text))
-    } else {
-        None
-    }
+    let number = numeral_in(text)?;
+    Some(u64::from(number))
 }
 
 // The first place of this byte.

@@ -53,7 +53,7 @@ ghost use Rattle.task_core.specs.Tasks.{fluent_count, system_of};
 use check_command::show_verdict;
 use command_base::{
     DEFAULT_NODES, DrillKind, DrillWords, Limit, PlanKind, Refusal, Shown, Text, check_goal,
-    class_name, domain_in, grounded, problem_in, push_count,
+    domain_in, grounded, problem_in, push_count,
 };
 use dd_sets::{SetErr, no_room_is_small, no_room_is_tight, tight_is_monotone};
 use encode_task::{Enc, encode, kept_sets_bound_nodes};
@@ -62,7 +62,7 @@ use pddl_ast::{Domain, Problem};
 use pddl_system::read_names_are_words;
 use plan_check::{Verdict, judge_class};
 use plan_command::find_plan;
-use plan_rules::{Class, Plan, TablePlan};
+use plan_rules::{Class, Plan, TablePlan, word_of};
 use plan_theory::Found;
 use std::alloc::{AllocError, Global};
 use task_core::Task;
@@ -305,7 +305,7 @@ fn class_line(alloc: Global, class: Class, task: &Task, found: Found) -> Result<
 fn missing_line(alloc: Global, class: Class) -> Result<Vec<u8>, AllocError>
     ensures { IfOk result (λ line. line.items ≡ no_plan_line class) }
 {
-    let class = class_name(class);
+    let class = word_of(class);
     Ok(format!(in alloc; "{class} no plan\n")?.into_bytes())
 }
 
@@ -383,7 +383,7 @@ fn judged_line(
 ) -> Result<Vec<u8>, AllocError>
     ensures { IfOk result (λ line. line.items ≡ rules_line class count verdict.now) }
 {
-    let class = class_name(class);
+    let class = word_of(class);
     let mut line = format!(in alloc; "{class} rules {count} ")?.into_bytes();
     line.extend_from_slice(show_verdict(alloc, verdict)?.as_bytes())?;
     Ok(line)

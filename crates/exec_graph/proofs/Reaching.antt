@@ -1,5 +1,6 @@
 -- What a plan may reach, step by step.
-use Rattle.std.proofs.Common.{◌≡◌, List, [], ◌∷◌, ◌++◌, refl, sym, subst}
+use Rattle.std.proofs.Common.{◌≡◌, Contains, List, [], ◌∷◌, ◌++◌, refl, sym, subst}
+use Rattle.task_core.proofs.Paths.{last_onward, path_onward}
 use Rattle.task_core.specs.Vectors.{Vector}
 use Rattle.task_core.specs.Systems.{System, IsState, IsSystem}
 use Rattle.task_core.specs.Tables.{Leads, Table}
@@ -9,30 +10,16 @@ use Rattle.plan_rules.specs.Denoted.{denoted, denoted_contexts}
 use Rattle.plan_rules.specs.Rules.{PlainPlan, table, automaton}
 use Rattle.exec_graph.specs.Executions.{GoesTo, IsReachedBy}
 
--- a path goes on by one step
-path_onward : (sys : System) (pairs : Table) (s : Vector) (rest : List Vector) (t : Vector) → IsPath (Leads sys pairs) s rest → Leads sys pairs (last_of s rest) t
-    → IsPath (Leads sys pairs) s (rest ++ t ∷ [])
-path_onward sys pairs s [] t path leads = (leads, tt)
-path_onward sys pairs s (u ∷ rest) t path leads = (path.0, path_onward sys pairs u rest t path.1 leads)
-
-path_ends : (s : Vector) (rest : List Vector) (t : Vector) → last_of s (rest ++ t ∷ []) ≡ t
-path_ends s [] t = refl
-path_ends s (u ∷ rest) t = path_ends u rest t
-
-run_onward : (sys : System) (plan : ContextPlan) (x : Configuration) (rest : List Configuration) (y : Configuration) → IsPath (Follows sys plan) x rest
-    → Follows sys plan (last_of x rest) y → IsPath (Follows sys plan) x (rest ++ y ∷ [])
-run_onward sys plan x [] y run follows = (follows, tt)
-run_onward sys plan x (z ∷ rest) y run follows = (run.0, run_onward sys plan z rest y run.1 follows)
-
-run_ends : (x : Configuration) (rest : List Configuration) (y : Configuration) → last_of x (rest ++ y ∷ []) ≡ y
-run_ends x [] y = refl
-run_ends x (z ∷ rest) y = run_ends z rest y
-
 -- where an execution may begin, the plan has come
 pub reached_first : (sys : System) (plan : PlainPlan) (x : Configuration) → IsInitial sys x → IsReachedBy sys plan x
 reached_first sys (table class rules) x first =
     (record { start = x.state; initial = first.state; path = record { rest = []; path = tt; ends = refl } }, first.context)
 reached_first sys (automaton contexts rules) x first = record { start = x; initial = first; rest = []; path = tt; ends = refl }
+
+-- wherever it has come, it began in an initial state
+pub begins : (sys : System) (plan : PlainPlan) (x : Configuration) → IsReachedBy sys plan x → (s : Vector) × Contains sys.initial s
+begins sys (table class rules) x reached = (reached.0.start, reached.0.initial)
+begins sys (automaton contexts rules) x reached = (reached.start.state, reached.initial.state)
 
 -- and it goes on from where it has come
 pub reached_next : (sys : System) (plan : PlainPlan) (x y : Configuration) → IsReachedBy sys plan x → GoesTo sys plan x y → IsReachedBy sys plan y
@@ -44,8 +31,8 @@ reached_next sys (table class rules) x y r g =
         initial = r.0.initial;
         path = record {
           rest = p.rest ++ y.state ∷ [];
-          path = path_onward sys pairs r.0.start p.rest y.state p.path (subst (λ s. Leads sys pairs s y.state) (sym p.ends) g.0);
-          ends = path_ends r.0.start p.rest y.state;
+          path = path_onward (Leads sys pairs) r.0.start p.rest y.state p.path (subst (λ s. Leads sys pairs s y.state) (sym p.ends) g.0);
+          ends = last_onward r.0.start p.rest y.state;
         };
       },
       g.1,
@@ -54,8 +41,8 @@ reached_next sys (automaton contexts rules) x y r g = record {
   start = r.start;
   initial = r.initial;
   rest = r.rest ++ y ∷ [];
-  path = run_onward sys (denoted_contexts rules) r.start r.rest y r.path (subst (λ z. Follows sys (denoted_contexts rules) z y) (sym r.ends) g);
-  ends = run_ends r.start r.rest y;
+  path = path_onward (Follows sys (denoted_contexts rules)) r.start r.rest y r.path (subst (λ z. Follows sys (denoted_contexts rules) z y) (sym r.ends) g);
+  ends = last_onward r.start r.rest y;
 }
 
 -- what holds where executions begin, and stays along a step, holds wherever the plan may come

@@ -1,5 +1,5 @@
 -- From an answer to a run.
-use Rattle.std.proofs.Common.{◌≡◌, ◌≤◌, ℕ, Bool, true, false, List, [], ◌∷◌, arith, drop, get_or, inl, inr, length, refl, sym, subst, ap, ◌∙◌, codes}
+use Rattle.std.proofs.Common.{◌≡◌, ◌≤◌, ℕ, Bool, true, false, List, [], ◌∷◌, arith, drop, get_or, inl, inr, refl, sym, subst, ap, ◌∙◌, codes}
 use Rattle.plan_io.specs.Held.{Held}
 use Rattle.check_command.specs.CheckCommand.{FetchesToCheck}
 use Rattle.command_base.specs.Answers.{Answer, no_memory, refused}
@@ -16,10 +16,11 @@ use Rattle.command_base.proofs.OneCommand.{one_command}
 use Rattle.answer_help.specs.Helped.{IsHelpFor, IsHelpedDelivery}
 use Rattle.answer_help.specs.Keeping.{AreToldAs, KeepsAfter, held_by, kept_in}
 use Rattle.answer_help.specs.declared.keeping.KeepingShelf.{KeepingShelf}
+use Rattle.answer_help.proofs.CommonWords.{same_json}
 use Rattle.answer_help.proofs.HelpedFrames.{IsTold, is_helped_run, over_fetch_then, over_fetches, told_fetch}
 use Rattle.explain_plan.specs.Explained.{IsExplainAnswer}
 use Rattle.explain_plan.specs.Runs.{ExplainRun, FetchesToExplain, HasExplainCause, HasExplained}
-use Rattle.explain_plan.specs.Words.{AskNothing, ExplainWords, IsJudge, SaysExplain, json_words, wrong_explain}
+use Rattle.explain_plan.specs.Words.{AskNothing, ExplainWords, IsJudge, SaysExplain, wrong_explain}
 
 -- the words that `check` is asked with for a kind and for files without a name
 abbrev nameless : PlanKind → CheckWords
@@ -45,12 +46,6 @@ same_judge word k l true true j h = (j.contexts refl ∙ sym (h.contexts refl), 
 same_judge word k l false false j h = (same_kind k l (sym j.written ∙ h.written), refl)
 same_judge word k l true false j h = absurd (not_fair l (sym h.written ∙ j.written))
 same_judge word k l false true j h = absurd (not_fair k (sym j.written ∙ h.written))
-
-same_json : (b c : Bool) → json_words b ≡ json_words c → b ≡ c
-same_json true true same = refl
-same_json false false same = refl
-same_json true false same = absurd (omega (arith, ap (length {A = Bytes}) same))
-same_json false true same = absurd (omega (arith, ap (length {A = Bytes}) same))
 
 -- the words ask for one thing at most
 pub one_asked : (words : List Bytes) (v w : ExplainWords) → SaysExplain words v → SaysExplain words w → v ≡ w

@@ -4,6 +4,7 @@ use Rattle.std.proofs.Common.{◌≡◌, ◌⊎◌, Bool, List, inl, inr, refl, 
 use Rattle.std.specs.Option.{option_map}
 use Rattle.ctl_syntax.specs.declared.goals.Ctl.{Ctl}
 use Rattle.exec_graph.specs.Initials.{HasTooManyInitial}
+use Rattle.fair_theory.proofs.NamesBelow.{FairGoalsAreTrue}
 use Rattle.pddl_ast.specs.Trees.{DomainTree, ProblemTree}
 use Rattle.pddl_system.specs.CtlGoals.{ctl_goal_of, goal_value}
 use Rattle.pddl_system.specs.Laws.{GroundedGoalsAreTrue}
@@ -12,43 +13,28 @@ use Rattle.pddl_system.specs.Systems.{action_names, fluent_names, system}
 use Rattle.pddl_system.specs.Tasks.{task_of}
 use Rattle.pddl_system.specs.Values.{task_value}
 use Rattle.plan_io.specs.Held.{Held}
-use Rattle.plan_rules.specs.Rules.{PlainPlan}
-use Rattle.sexpr_text.specs.declared.forms.Place.{Place}
 use Rattle.task_core.specs.Names.{Name}
 use Rattle.task_core.specs.Systems.{System}
 use Rattle.task_core.specs.Tasks.{action_names as names_of_actions, fluent_names as names_of_fluents, initial_states, system_of}
 use Rattle.task_core.specs.declared.tasks.Task.{Task}
 use Rattle.command_base.specs.Answers.{Answer, Refusal, refused, no_memory}
 use Rattle.command_base.specs.Following.{HasTooManyStates, most_followed}
-use Rattle.command_base.specs.Grounding.{GoalThen, GroundThen, has_goal_for}
+use Rattle.command_base.specs.Grounding.{GroundThen, has_goal_for}
 use Rattle.command_base.specs.InitialStates.{InitialThen, empty_init}
 use Rattle.command_base.specs.PlanFiles.{IsFaultyPlan, KindThen, is_of_kind}
 use Rattle.command_base.specs.Reading.{Holds, IsRefusedFile}
-use Rattle.command_base.specs.Words.{Bytes, PlanKind, with_contexts}
+use Rattle.command_base.specs.Words.{Bytes, with_contexts}
 use Rattle.command_base.proofs.Initials.{initial_over}
 use Rattle.command_base.proofs.Later.{read_over}
 use Rattle.command_base.proofs.TaskNames.{same_actions, same_fluents}
+use Rattle.command_base.proofs.WhatFollows.{goal_map, ground_map, kind_map}
 use Rattle.check_command.specs.CheckCommand.{ExploreThen}
 use Rattle.check_command.proofs.CheckAnswers.{explored, too_many, too_many_back}
 use Rattle.explain_plan.specs.Explained.{Explains, ExplainsIn, ExplainedThen, FollowedThen, IsExplained, PlanThen}
 use Rattle.explain_plan.specs.Fairly.{FairThen, GoalForThen, IsGoalFor, IsGoalRefusal}
 use Rattle.explain_plan.specs.Lined.{LinedPlan, SpellsLined}
 use Rattle.explain_plan.specs.Words.{ExplainWords}
-use Rattle.explain_plan.proofs.Fairness.{FairGoalsAreTrue, judged_as}
-
--- the same from what follows
-goal_map : (kind : PlanKind) (name : Bytes) (problem : ProblemTree) (P Q : Answer → Type 0) (a : Answer) → (P a → Q a) → GoalThen kind name problem P a → GoalThen kind name problem Q a
-goal_map kind name problem P Q a f (inl why) = inl why
-goal_map kind name problem P Q a f (inr (some, then)) = inr (some, f then)
-
-ground_map : (d : DomainTree) (p : ProblemTree) (P Q : Answer → Type 0) (a : Answer) → (P a → Q a) → GroundThen d p P a → GroundThen d p Q a
-ground_map d p P Q a f (inl why) = inl why
-ground_map d p P Q a f (inr (kept, then)) = inr (kept, f then)
-
-kind_map : (kind : PlanKind) (name : Bytes) (place : Place) (plan : PlainPlan) (P Q : Answer → Type 0) (a : Answer)
-    → (P a → Q a) → KindThen kind name place plan P a → KindThen kind name place plan Q a
-kind_map kind name place plan P Q a f (inl why) = inl why
-kind_map kind name place plan P Q a f (inr (is, then)) = inr (is, f then)
+use Rattle.explain_plan.proofs.Fairness.{judged_as}
 
 -- what is said from a later state of the shelf holds from the command's start
 explained_over : (held held' : Bytes → Held) (failed failed' : Bytes → Type 0) (asked : ExplainWords) (d : DomainTree) (p : ProblemTree) (a : Answer)

@@ -1,37 +1,29 @@
 -- Plans that are judged by the goal that stands in the place of the problem's, where actions may be tried
 -- again.
-use Rattle.std.proofs.Common.{◌≡◌, ◌≤◌, ◌<◌, ◌⊎◌, ◌↔◌, ◌∙◌, ℕ, Bool, true, false, List, [], ◌∷◌, map, inl, inr, refl, sym, subst, ap, All, None, Some, Option}
+use Rattle.std.proofs.Common.{◌≡◌, ◌≤◌, ◌<◌, ◌⊎◌, ◌↔◌, ◌∙◌, ℕ, Bool, true, false, inl, inr, refl, sym, subst, ap, None, Some, Option}
 use Rattle.std.specs.Prelude.{IfSome, IsTrue}
 use Rattle.std.specs.Option.{option_map}
-use Rattle.std.proofs.lemmas.List.Elements.{All-head, All-tail}
 use Rattle.std.proofs.lemmas.Bool.{cases_lt, false≢true}
 use Rattle.std.proofs.lemmas.Option.{none-some, same_Some}
-use Rattle.ctl_syntax.specs.Conditions.{CondTree, condition_value}
+use Rattle.ctl_syntax.specs.Conditions.{condition_value}
 use Rattle.ctl_syntax.specs.ContextGoals.{PlainGoal}
-use Rattle.ctl_syntax.specs.GoalValues.{EachInStage, GoalNamesBelow, GoalTree, goal_conditions, stage_value, tree_of_goal}
-use Rattle.ctl_syntax.specs.Goals.{CtlTree, EachPlain, EachPlainOf, ef, goal_row, map_plain, plain}
+use Rattle.ctl_syntax.specs.GoalValues.{GoalTree, goal_conditions, tree_of_goal}
+use Rattle.ctl_syntax.specs.Goals.{map_plain}
 use Rattle.ctl_syntax.specs.Values.{NamesBelow, ctl_value}
 use Rattle.ctl_syntax.specs.declared.context_goals.ContextGoal.{ContextGoal}
-use Rattle.ctl_syntax.specs.declared.context_goals.ContextGoal.TheVariants.{Patrol, Until}
-use Rattle.ctl_syntax.specs.declared.context_goals.UntilStage.{UntilStage}
 use Rattle.ctl_syntax.specs.declared.goals.Ctl.{Ctl}
-use Rattle.ctl_syntax.proofs.ConditionTrees.{below_is, tree_below}
-use Rattle.ctl_syntax.proofs.Parts.{each_mapped, each_weaker}
-use Rattle.fair_theory.specs.FairGoals.{both, fair_chain, fair_tree}
-use Rattle.fair_theory.specs.FairPlans.{HasFairly, IsTrueFairly, sets_of_goal}
+use Rattle.fair_theory.specs.FairGoals.{fair_tree}
+use Rattle.fair_theory.specs.FairPlans.{HasFairly, sets_of_goal}
+use Rattle.fair_theory.proofs.NamesBelow.{FairGoalsAreTrue}
 use Rattle.pddl_ast.specs.Trees.{DomainTree, ProblemTree}
 use Rattle.pddl_system.specs.CtlGoals.{ctl_goal_of, goal_value}
 use Rattle.pddl_system.specs.Laws.{GroundedGoalsAreTrue}
 use Rattle.pddl_system.specs.Systems.{system}
-use Rattle.plan_check.specs.ContextVerdicts.{HasContextReason, IsContextVerdict, IsFreeOfContextReason, IsTrueAt}
-use Rattle.plan_check.specs.declared.verdicts.Reason.{Reason}
-use Rattle.plan_check.specs.declared.verdicts.Reason.TheVariants.{Unexecutable, Stuck, Terminal, Cycle, Unreachable, Formula}
+use Rattle.plan_check.specs.ContextVerdicts.{IsContextVerdict, IsTrueAt}
 use Rattle.plan_check.specs.declared.verdicts.Verdict.{Verdict}
-use Rattle.plan_check.specs.declared.verdicts.Verdict.TheVariants.{Yes, No}
+use Rattle.plan_check.proofs.Carried.{verdict_carried}
 use Rattle.plan_rules.specs.Denoted.{denoted_contexts}
 use Rattle.plan_rules.specs.Rules.{PlainPlan, automaton, table}
-use Rattle.task_core.specs.Conditions.{ids_below}
-use Rattle.task_core.specs.ContextPlans.{Configuration, ContextPlan}
 use Rattle.task_core.specs.Systems.{System}
 use Rattle.task_core.specs.Tasks.{fluent_count, system_of}
 use Rattle.task_core.specs.declared.conditions.Cond.{Cond}
@@ -42,64 +34,6 @@ use Rattle.command_base.specs.Answers.{Refusal, no_memory}
 use Rattle.command_base.specs.Words.{Bytes, PlanKind, with_contexts}
 use Rattle.sexpr_text.specs.declared.forms.Place.{Place}
 use Rattle.explain_plan.specs.Fairly.{IsFairGoal, IsGoalFor, IsGoalRefusal, IsJudgedAs, IsVerdictFor}
-
--- what is known of goals whose actions may be tried again
-abbrev pub FairGoalsAreTrue : Type 0
-FairGoalsAreTrue = (made : CtlTree Cond) (found : ContextGoal) → map_plain condition_value made ≡ fair_tree (tree_of_goal found) → IsTrueFairly made found
-
--- the goal by which a plan is judged names the fluents that the goal names
-module _ (n : ℕ) where
-  abbrev Below : CondTree → Type 0
-  Below t = tree_below n t ≡ true
-
-  below : (c : Cond) → ids_below n c ≡ true → Below (condition_value c)
-  below c names = sym (below_is n c) ∙ names
-
-  chain_below : (stages : List UntilStage) (keep : Cond) → All (EachInStage (λ (c : Cond). ids_below n c ≡ true)) stages → ids_below n keep ≡ true
-      → EachPlain Below (fair_chain (map stage_value stages) (condition_value keep))
-  chain_below [] keep each kept = below keep kept
-  chain_below (stage ∷ rest) keep each kept =
-      let first = All-head (EachInStage (λ (c : Cond). ids_below n c ≡ true)) stage rest each in
-      let later = chain_below rest keep (All-tail (EachInStage (λ (c : Cond). ids_below n c ≡ true)) stage rest each) kept in
-      let met : EachPlain Below (both (plain (condition_value stage.target)) (fair_chain (map stage_value rest) (condition_value keep))) = (below stage.target first.target, (later, tt)) in
-      ((below stage.guard first.guard, (met, tt)), met)
-
-  visits_below : (visits : List Cond) → All (λ (c : Cond). ids_below n c ≡ true) visits
-      → EachPlainOf Below (goal_row (map (λ (visit : CondTree). ef (plain visit)) (map condition_value visits)))
-  visits_below [] each = tt
-  visits_below (visit ∷ rest) each =
-      (below visit (All-head (λ (c : Cond). ids_below n c ≡ true) visit rest each), visits_below rest (All-tail (λ (c : Cond). ids_below n c ≡ true) visit rest each))
-
-  tree_names : (goal : ContextGoal) → GoalNamesBelow n goal → EachPlain Below (fair_tree (tree_of_goal goal))
-  tree_names (Until chain) names = chain_below chain.stages.items chain.keep names.stages names.keep
-  tree_names (Patrol visits) names = visits_below visits.items names
-
-  pub translated_names : (goal : ContextGoal) (made : Ctl) → map_plain condition_value (ctl_value made) ≡ fair_tree (tree_of_goal goal) → GoalNamesBelow n goal → NamesBelow n (ctl_value made)
-  translated_names goal made is names =
-      each_weaker (λ (c : Cond). Below (condition_value c)) (λ (c : Cond). ids_below n c ≡ true) (λ c h. below_is n c ∙ h) (ctl_value made)
-      (each_mapped condition_value Below (ctl_value made) (subst (EachPlain Below) (sym is) (tree_names goal names)))
-
--- a verdict for one property of configurations is that for another that holds at the same ones
-module _ (sys : System) (plan : ContextPlan) (G H : Configuration → Type 0) (same : (x : Configuration) → G x ↔ H x) where
-  free_carried : (reason : Reason) → IsFreeOfContextReason sys plan G reason → IsFreeOfContextReason sys plan H reason
-  free_carried Unexecutable free = free
-  free_carried Stuck free = free
-  free_carried Terminal free = free
-  free_carried Cycle free = free
-  free_carried Unreachable free = free
-  free_carried Formula free = λ x initial. (same x).0 (free x initial)
-
-  reason_carried : (reason : Reason) → HasContextReason sys plan G reason → HasContextReason sys plan H reason
-  reason_carried Unexecutable has = has
-  reason_carried Stuck has = has
-  reason_carried Terminal has = has
-  reason_carried Cycle has = has
-  reason_carried Unreachable has = has
-  reason_carried Formula has = record { start = has.start; initial = has.initial; misses = λ h. has.misses ((same has.start).1 h) }
-
-  verdict_carried : (verdict : Verdict) → IsContextVerdict sys plan G verdict → IsContextVerdict sys plan H verdict
-  verdict_carried (Yes bound) is = record { free = λ reason. free_carried reason (is.free reason); unbounded = is.unbounded }
-  verdict_carried (No reason) is = record { has = reason_carried reason is.has; first = λ earlier before. free_carried earlier (is.first earlier before) }
 
 -- the verdict for the goal that stands in the place of one with these parts
 verdict_by : FairGoalsAreTrue → (d : DomainTree) (p : ProblemTree) (t : Task) (parts : ContextGoal) (made : Ctl) (plan : PlainPlan) (v : Verdict) → system_of t ≡ system d p

@@ -1,7 +1,8 @@
 -- Which words ask for what.
 use Rattle.std.proofs.Common.{◌≡◌, ◌<◌, suc, Bool, true, false, List, [], ◌∷◌, arith, codes, drop, get_or, length, sym, subst, ap, ◌∙◌}
 use Rattle.command_base.specs.Words.{Bytes, PlanKind, kind_word}
-use Rattle.explain_plan.specs.Words.{ExplainWords, IsJudge, SaysExplain, json_words}
+use Rattle.answer_help.specs.CommonWords.{json_words}
+use Rattle.explain_plan.specs.Words.{ExplainWords, IsJudge, SaysExplain}
 
 pub no_judge : (word : Bytes) → (word ≡ codes "fair" → ⊥) → ((kind : PlanKind) → word ≡ kind_word kind → ⊥) → (kind : PlanKind) (fair : Bool) → IsJudge word kind fair → ⊥
 no_judge word not none kind true is = not is.written
@@ -27,8 +28,3 @@ pub too_few : (words : List Bytes) → length words < 4 → (asked : ExplainWord
 too_few words few asked says =
     let count : length words ≡ suc (suc (suc (suc (length (json_words asked.json))))) = ap (length {A = Bytes}) says.written in
     omega (arith, few, count)
-
--- the word for a document
-pub not_document : (word : Bytes) → (word ≡ codes "--json" → ⊥) → (json : Bool) → word ∷ [] ≡ json_words json → ⊥
-not_document word not true same = not (ap (λ (ws : List Bytes). get_or ws 0 []) same)
-not_document word not false same = omega (arith, ap (length {A = Bytes}) same)

@@ -1,7 +1,8 @@
 -- The words: which verdict is to be explained and how, and what is wrong with words that ask for none.
-use Rattle.std.specs.Prelude.{◌≡◌, if◌then◌else◌, List, [], ◌∷◌, ◌||◌, Bool, true, false, codes}
+use Rattle.std.specs.Prelude.{◌≡◌, if◌then◌else◌, List, [], ◌∷◌, Bool, true, codes}
 use Rattle.std.specs.Str.{bytes_eq}
 use Rattle.command_base.specs.Words.{Bytes, CheckWords, PlanKind, kind_word, with_contexts}
+use Rattle.answer_help.specs.CommonWords.{json_words, names_kind}
 use Rattle.answer_help.specs.WrongWords.{WrongWords, too_few, wrong}
 use Rattle.answer_help.specs.declared.wrong_words.TheConstants.{ONE_TOO_MANY}
 
@@ -18,11 +19,6 @@ pub record IsJudge (word : Bytes) (kind : PlanKind) (fair : Bool) : Type 0 where
   pub written : word ≡ (if fair then codes "fair" else kind_word kind)
   pub contexts : fair ≡ true → kind ≡ with_contexts
 
--- `--json`, or nothing
-abbrev pub json_words : Bool → List Bytes
-json_words true = codes "--json" ∷ []
-json_words false = []
-
 -- `CLASS DOMAIN PROBLEM PLAN`, `ctl DOMAIN PROBLEM PLAN` or `fair DOMAIN PROBLEM PLAN`, and then `--json`
 -- or nothing
 pub record SaysExplain (words : List Bytes) (asked : ExplainWords) : Type 0 where
@@ -34,12 +30,6 @@ pub record SaysExplain (words : List Bytes) (asked : ExplainWords) : Type 0 wher
 -- the words ask for nothing
 abbrev pub AskNothing : List Bytes → Type 0
 AskNothing words = (asked : ExplainWords) → SaysExplain words asked → ⊥
-
--- whether a word names a class, or is `ctl` or `fair`
-abbrev pub names_kind : Bytes → Bool
-names_kind word =
-    bytes_eq word (codes "weak") || bytes_eq word (codes "strong")
-    || bytes_eq word (codes "cyclic") || bytes_eq word (codes "ctl") || bytes_eq word (codes "fair")
 
 -- why a word is wrong that stands where one of these is wanted
 abbrev pub no_judge : Bytes

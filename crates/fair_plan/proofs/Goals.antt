@@ -18,12 +18,12 @@ use Rattle.board_steps.specs.Steps.{Placed, after_step}
 use Rattle.board_steps.specs.declared.steps.Step.{Step}
 use Rattle.board_steps.specs.declared.steps.Step.TheVariants.{Combine, Copy, Whole}
 use Rattle.board_steps.proofs.StepLemmas.{with_here, with_other}
-use Rattle.task_core.specs.Conditions.{holds}
+use Rattle.task_core.specs.Conditions.{IsConditionOver, holds}
 use Rattle.task_core.specs.Cubes.{SetOfVectors}
 use Rattle.task_core.specs.Vectors.{value_of}
 use Rattle.task_core.specs.declared.conditions.Cond.{Cond}
 use Rattle.fair_plan.specs.Boards.{AreStepsOf, IsAfter, IsThere, Puts, Origin, actions_of, set_in, states_in, sys_of}
-use Rattle.fair_plan.specs.Goals.{IsChainOver, IsConditionOver}
+use Rattle.fair_plan.specs.Goals.{IsChainOver}
 use Rattle.fair_plan.specs.Places.{met_place, pairs_end, win_place}
 use Rattle.fair_plan.specs.Rounds.{AimsAt, Begins, HasVisits}
 use Rattle.fair_plan.proofs.Boards.{low}

@@ -6,9 +6,10 @@ use Rattle.ctl_syntax.specs.GoalValues.{EachInStage, GoalIsAtMostDeep, GoalNames
 use Rattle.ctl_syntax.specs.declared.context_goals.ContextGoal.{ContextGoal}
 use Rattle.ctl_syntax.specs.declared.context_goals.ContextGoal.TheVariants.{Until, Patrol}
 use Rattle.ctl_syntax.specs.declared.context_goals.UntilStage.{UntilStage}
-use Rattle.task_core.specs.Conditions.{depth, ids_below}
+use Rattle.task_core.specs.Conditions.{IsConditionOver, depth, ids_below}
 use Rattle.task_core.specs.declared.conditions.Cond.{Cond}
-use Rattle.fair_plan.specs.Goals.{HasVisit, IsConditionOver, IsFairGoalOver, count_of, most_of}
+use Rattle.fair_plan.specs.Goals.{IsFairGoalOver}
+use Rattle.ctl_syntax.specs.GoalSizes.{HasSomeVisit, count_of, most_of}
 
 all_both : {X : Type 0} (P Q R : X → Type 0) → ((x : X) → P x → Q x → R x) → (xs : List X) → All P xs → All Q xs → All R xs
 all_both P Q R f [] a b = All-nil R
@@ -23,7 +24,7 @@ stage_over n stage names deep = record {
   target = cond_over n stage.target names.target deep.target;
 }
 
-pub goal_over : (n : ℕ) (goal : ContextGoal) → count_of goal ≤ most_of goal → HasVisit goal → GoalNamesBelow n goal → GoalIsAtMostDeep 200 goal → IsFairGoalOver n goal
+pub goal_over : (n : ℕ) (goal : ContextGoal) → count_of goal ≤ most_of goal → HasSomeVisit goal → GoalNamesBelow n goal → GoalIsAtMostDeep 200 goal → IsFairGoalOver n goal
 goal_over n (Until chain) few some names deep = record {
   few = few;
   each = record {

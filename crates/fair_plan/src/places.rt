@@ -1,8 +1,8 @@
 //! The places of a search's board.
 
 ghost use Rattle.std.specs.Prelude.{◌≡◌, ◌+◌, ◌<◌, ◌≤◌};
-ghost use Rattle.fair_plan.specs.Goals.{most_stages};
 ghost use Rattle.fair_plan.specs.Places.{met_place, place_count, takers_place, win_place};
+ghost use Rattle.ctl_syntax.specs.GoalSizes.{most_stages};
 
 use task_core::ActionId;
 

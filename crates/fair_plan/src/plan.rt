@@ -14,7 +14,8 @@ ghost use Rattle.slot_board.specs.Board.{At, Ends};
 ghost use Rattle.task_core.specs.Cubes.{SetOfVectors};
 ghost use Rattle.fair_plan.specs.Boards.{IsThere, Origin, actions_of, sys_of};
 ghost use Rattle.fair_plan.specs.Found.{IsFairPlannersAnswer};
-ghost use Rattle.fair_plan.specs.Goals.{IsFairGoalOver, contexts_of, count_of, most_stages};
+ghost use Rattle.fair_plan.specs.Goals.{IsFairGoalOver, contexts_of};
+ghost use Rattle.ctl_syntax.specs.GoalSizes.{count_of, most_stages};
 
 use crate::found::FairFound;
 use crate::places::{Sizes, places, win_at};

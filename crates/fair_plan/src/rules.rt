@@ -5,8 +5,9 @@ ghost use Rattle.std.specs.Prelude.{◌≡◌, ◌+◌, ◌++◌, ◌<◌, ◌�
 ghost use Rattle.plan_rules.specs.Plans.{IsContextOf};
 ghost use Rattle.plan_rules.specs.Rules.{context_rule_of};
 ghost use Rattle.fair_plan.specs.Boards.{IsThere, Leaves, Origin, states_in};
-ghost use Rattle.fair_plan.specs.Goals.{contexts_of, count_of, most_stages};
+ghost use Rattle.fair_plan.specs.Goals.{contexts_of};
 ghost use Rattle.fair_plan.specs.Rounds.{Lists};
+ghost use Rattle.ctl_syntax.specs.GoalSizes.{count_of, most_stages};
 
 use crate::places::{PART, REST, Sizes, met_at, takers_at, win_at};
 use crate::steps::make;

@@ -9,10 +9,11 @@ ghost use Rattle.fair_theory.specs.FairSets.{IsChainWin, IsFairWin, IsLargestFai
 ghost use Rattle.plan_theory.specs.UntilChains.{SetStage};
 ghost use Rattle.task_core.specs.Cubes.{SetOfVectors};
 ghost use Rattle.fair_plan.specs.Boards.{IsThere, Leaves, Origin, actions_of, states_in, sys_of};
-ghost use Rattle.fair_plan.specs.Goals.{IsChainOver, IsConditionOver, IsFairGoalOver, IsPatrolOver};
-ghost use Rattle.fair_plan.specs.Goals.{count_of};
+ghost use Rattle.fair_plan.specs.Goals.{IsChainOver, IsFairGoalOver, IsPatrolOver};
 ghost use Rattle.fair_plan.specs.Places.{win_place};
 ghost use Rattle.fair_plan.specs.Rounds.{AimsAt, HasVisits};
+ghost use Rattle.ctl_syntax.specs.GoalSizes.{count_of};
+ghost use Rattle.task_core.specs.Conditions.{IsConditionOver};
 
 use crate::fixpoints::{Wanted, find_largest};
 use crate::places::{GUARD, LEFT, StagePlaces, met_at, stage_places, win_at};

@@ -3,9 +3,8 @@
 ghost use Rattle.std.specs.Prelude.{◌<◌, length};
 ghost use Rattle.dd_sets.specs.LiveSets.{everything};
 ghost use Rattle.slot_board.specs.Board.{At};
-ghost use Rattle.task_core.specs.Conditions.{holds};
+ghost use Rattle.task_core.specs.Conditions.{IsConditionOver, holds};
 ghost use Rattle.fair_plan.specs.Boards.{AreStepsOf, IsAfter, IsThere, Leaves, Puts, Origin};
-ghost use Rattle.fair_plan.specs.Goals.{IsConditionOver};
 
 use crate::places::GUARD;
 use board_steps::{Step, make_all};

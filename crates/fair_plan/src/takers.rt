@@ -4,9 +4,10 @@
 ghost use Rattle.std.specs.Prelude.{◌≡◌, ◌+◌, ◌<◌, ◌≤◌, ⊤, length};
 ghost use Rattle.ctl_syntax.specs.GoalValues.{EachInStage};
 ghost use Rattle.fair_plan.specs.Boards.{IsThere, Leaves, Origin};
-ghost use Rattle.fair_plan.specs.Goals.{IsChainOver, IsConditionOver, IsFairGoalOver, count_of};
-ghost use Rattle.fair_plan.specs.Goals.{most_stages};
+ghost use Rattle.fair_plan.specs.Goals.{IsChainOver, IsFairGoalOver};
 ghost use Rattle.fair_plan.specs.Rounds.{Climbs, ClimbsOnce};
+ghost use Rattle.ctl_syntax.specs.GoalSizes.{count_of, most_stages};
+ghost use Rattle.task_core.specs.Conditions.{IsConditionOver};
 
 use crate::fixpoints::{has_rest, pair_all};
 use crate::places::{

@@ -4,3 +4,4 @@ pub mod Recurring
 pub mod FairRuns
 pub mod GoalRows
 pub mod FairTruth
+pub mod NamesBelow

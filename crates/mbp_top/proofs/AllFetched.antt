@@ -1,6 +1,6 @@
 -- Statuses 0, 1, 5 and 9 come once all files of the command were fetched: an answer that was decided
 -- before has another.
-use Rattle.std.proofs.Common.{◌≡◌, ◌⊎◌, ℕ, List, inl, inr, refl, ◌∙◌, ap, subst, arith}
+use Rattle.std.proofs.Common.{◌≡◌, ◌⊎◌, ℕ, List, inl, inr, ◌∙◌, ap, subst, arith}
 use Rattle.pddl_ast.specs.Trees.{DomainTree, ProblemTree}
 use Rattle.plan_io.specs.Fetches.{Fetches}
 use Rattle.plan_io.specs.Held.{Held}
@@ -26,31 +26,8 @@ IsEarly a = (status_of a ≡ 3) ⊎ (status_of a ≡ 4) ⊎ (status_of a ≡ 6) 
 abbrev IsLate : ℕ → Type 0
 IsLate status = (status ≡ 0) ⊎ (status ≡ 1) ⊎ (status ≡ 5) ⊎ (status ≡ 9)
 
-apart : (n m : ℕ) → (n ≡ 3) ⊎ (n ≡ 4) ⊎ (n ≡ 6) ⊎ (n ≡ 8) → IsLate m → n ≡ m → ⊥
-apart n m (inl early) late same = go late where
-  go : IsLate m → ⊥
-  go (inl l) = omega (arith, early, l, same)
-  go (inr (inl l)) = omega (arith, early, l, same)
-  go (inr (inr (inl l))) = omega (arith, early, l, same)
-  go (inr (inr (inr l))) = omega (arith, early, l, same)
-apart n m (inr (inl early)) late same = go late where
-  go : IsLate m → ⊥
-  go (inl l) = omega (arith, early, l, same)
-  go (inr (inl l)) = omega (arith, early, l, same)
-  go (inr (inr (inl l))) = omega (arith, early, l, same)
-  go (inr (inr (inr l))) = omega (arith, early, l, same)
-apart n m (inr (inr (inl early))) late same = go late where
-  go : IsLate m → ⊥
-  go (inl l) = omega (arith, early, l, same)
-  go (inr (inl l)) = omega (arith, early, l, same)
-  go (inr (inr (inl l))) = omega (arith, early, l, same)
-  go (inr (inr (inr l))) = omega (arith, early, l, same)
-apart n m (inr (inr (inr early))) late same = go late where
-  go : IsLate m → ⊥
-  go (inl l) = omega (arith, early, l, same)
-  go (inr (inl l)) = omega (arith, early, l, same)
-  go (inr (inr (inl l))) = omega (arith, early, l, same)
-  go (inr (inr (inr l))) = omega (arith, early, l, same)
+apart : (n : ℕ) → (n ≡ 3) ⊎ (n ≡ 4) ⊎ (n ≡ 6) ⊎ (n ≡ 8) → IsLate n → ⊥
+apart n early late = grind arith
 
 file_early : (held : Bytes → Held) (failed : Bytes → Type 0) (Wrong : Bytes → Bytes → Refusal → Type 0) (name : Bytes) (r : Refusal) (a : Answer)
     → ((bytes : Bytes) → Wrong name bytes r → status_of_refusal r ≡ 3) → a ≡ refused r → IsRefusedFile held failed Wrong name r → IsEarly a
@@ -85,7 +62,7 @@ plan_early held failed fluents actions name a (inr (placed, holds, never)) = abs
 
 module _ {S : Type 0} (held : Bytes → Held) (failed : Bytes → Type 0) (fetched : S → Bytes → S → Type 0) (a : Answer) (late : IsLate (status_of a)) (before after : S) where
   not_early : IsEarly a → ⊥
-  not_early early = apart (status_of a) (status_of a) early late refl
+  not_early early = apart (status_of a) early late
 
   all_fetched : (command : Command) → FetchesFiles held failed fetched command a before after → Fetches fetched (files_of command) before after
   all_fetched (plan asked) (x, first, inl (stops, same)) = absurd (not_early (domain_early held failed asked.domain _ a stops))
@@ -116,10 +93,7 @@ module _ {S : Type 0} (held : Bytes → Held) (failed : Bytes → Type 0) (fetch
 
 module _ {S : Type 0} (held : S → Bytes → Held) (faults : S → ℕ) (fetched : S → Bytes → S → Type 0) (run : Run S) (has : HasRun held faults fetched run) where
   not_seven : IsLate run.status → run.status ≡ 7 → ⊥
-  not_seven (inl is) seven = omega (arith, is, seven)
-  not_seven (inr (inl is)) seven = omega (arith, is, seven)
-  not_seven (inr (inr (inl is))) seven = omega (arith, is, seven)
-  not_seven (inr (inr (inr is))) seven = omega (arith, is, seven)
+  not_seven late seven = grind arith
 
   pub are_all_fetched : AreAllFetched fetched run
   are_all_fetched command says late =

@@ -22,7 +22,7 @@ use Rattle.plan_command.specs.PlanCommand.{HasNoPlan, IsNoPlanText, no_plan_text
 use Rattle.replay_command.specs.ReplayCommand.{Tallies}
 use Rattle.command_base.specs.Words.{Bytes, MayBeCertified, PlanKind, PlanWords, SaysPlan, of_class, with_contexts}
 use Rattle.mbp_top.proofs.PlanWritten.{NoPlanWritten, no_plan_written}
-use Rattle.mbp_top.proofs.RefuteWritten.{AcceptedMeansNone}
+use Rattle.plan_command.proofs.Meetings.{AcceptedMeansNone}
 use Rattle.mbp_top.proofs.DueStatuses.{Done}
 
 abbrev pub PrintedIsAccepted : Type 0

@@ -10,7 +10,7 @@ use Rattle.task_core.specs.declared.classes.Class.{Class}
 use Rattle.task_core.specs.declared.classes.Class.TheVariants.{Weak, Strong, Cyclic}
 use Rattle.command_base.specs.Answers.{Answer, affirmed, full, refused, no_memory, status_of, status_of_refusal, text_of, is_shown}
 use Rattle.command_base.specs.Following.{HasTooManyStates}
-use Rattle.command_base.specs.Delivery.{IsWhole, Seen}
+use Rattle.command_base.specs.Delivery.{Seen}
 use Rattle.drill_command.specs.DrillCommand.{DrillThen, IsClassLine, IsDrillAnswer, IsDrilled, IsNotFollowed, MayDrillRunOut, SpellBoth, TextsThen, drill_text, problem_name}
 use Rattle.command_base.specs.Grounding.{GroundThen}
 use Rattle.replay_command.specs.ReplayCommand.{Tallies}
@@ -18,7 +18,7 @@ use Rattle.command_base.specs.Words.{Bytes, DrillWords, SaysDrill, default_nodes
 use Rattle.mbp_top.proofs.ByCommand.{of_command}
 use Rattle.command_base.proofs.PddlDecides.{not_refused, shown_goal, shown_grounded}
 use Rattle.mbp_top.proofs.DueStatuses.{Done}
-use Rattle.command_base.proofs.Statuses.{shown_at, whole_delivery, written_shown}
+use Rattle.command_base.proofs.Statuses.{shown_at, whole_delivery, written_shown, written_full}
 
 not_followed : (TooMany : Type 0) (sys : System) (class : Class) (a : Answer) → is_shown a ≡ true → IsNotFollowed TooMany class sys a → ⊥
 not_followed TooMany sys class a shown (rules, found, inl (many, is)) = not_refused _ a is shown
@@ -127,18 +127,5 @@ pub full_drill : (held : Bytes → Held) (failed : Bytes → Type 0) (tallies : 
     → Done held failed tallies words before after out out' err err' status a → SaysDrill words asked → status ≡ 5
     → MayDrillRunOut asked × (err'.written ≡ append_known err.written (text_of (refused (full default_nodes))))
 full_drill held failed tallies words before after out out' err err' status a asked d says five =
-    go (of_command held failed tallies words (drill asked) a says d.cause) where
-      whole : (status ≡ status_of a) × IsWhole a out out' err err'
-      whole = whole_delivery a out out' err err' status d.delivered (λ seven. let e : 5 ≡ 7 = sym five ∙ seven in omega arith)
-
-      code : status_of a ≡ 5
-      code = sym whole.0 ∙ five
-
-      line : (a ≡ refused (full default_nodes)) → IsWhole a out out' err err' → err'.written ≡ append_known err.written (text_of (refused (full default_nodes)))
-      line is (inl showed) = absurd (not_refused (full default_nodes) a is showed.shown)
-      line is (inr refusal) = refusal.errors.written ∙ ap (λ b. append_known err.written (text_of b)) is
-
-      go : (a ≡ refused no_memory) ⊎ IsDrillAnswer asked a → MayDrillRunOut asked × (err'.written ≡ append_known err.written (text_of (refused (full default_nodes))))
-      go (inl is) = absurd (let e : 5 ≡ 8 = sym code ∙ ap status_of is in omega arith)
-      go (inr (inl (may, is))) = (may, line is whole.1)
-      go (inr (inr read)) = absurd (texts_not_full asked a read code)
+    written_full default_nodes status a out out' err err' (MayDrillRunOut asked) (TextsThen asked (DrillThen asked) a) d.delivered five (texts_not_full asked a)
+    (of_command held failed tallies words (drill asked) a says d.cause)

@@ -10,7 +10,7 @@ use Rattle.pddl_ast.specs.Trees.{DomainTree, FormulaTree, ProblemTree, TemporalT
 use Rattle.pddl_system.specs.Sizes.{first_passed}
 use Rattle.pddl_system.specs.Systems.{system}
 use Rattle.command_base.specs.Answers.{Answer, Refusal, refused, no_memory, full, status_of, status_of_refusal, text_of, is_shown}
-use Rattle.command_base.specs.Delivery.{IsWhole, Seen}
+use Rattle.command_base.specs.Delivery.{Seen}
 use Rattle.command_base.specs.Grounding.{GroundThen, has_goal_for}
 use Rattle.plan_command.specs.Enough.{IsTightPlan}
 use Rattle.command_base.specs.InitialStates.{empty_init}
@@ -28,7 +28,7 @@ use Rattle.command_base.specs.OneReading.{OneReading}
 use Rattle.command_base.proofs.Initials.{shown_initial, with_initial}
 use Rattle.command_base.proofs.PddlDecides.{ReadFor, both_as, not_refused, shown_both, shown_goal, shown_grounded, with_goal, within_limits}
 use Rattle.mbp_top.proofs.DueStatuses.{Done}
-use Rattle.command_base.proofs.Statuses.{shown_at, undisturbed, whole_delivery, written_shown}
+use Rattle.command_base.proofs.Statuses.{shown_at, undisturbed, whole_delivery, written_shown, written_full}
 
 -- the trees that the files spell, and the answer for them
 pub record PlanFor (held : Bytes → Held) (asked : PlanWords) (answer : Answer) : Type 0 where
@@ -207,21 +207,9 @@ pub record FullWritten (held : Bytes → Held) (asked : PlanWords) (err err' : S
 pub full_written : (held : Bytes → Held) (failed : Bytes → Type 0) (tallies : Tallies) (words : List Bytes) (before after : ℕ) (out out' err err' : Seen) (status : ℕ) (a : Answer) (asked : PlanWords)
     → Done held failed tallies words before after out out' err err' status a → SaysPlan words asked → status ≡ 5 → FullWritten held asked err err'
 full_written held failed tallies words before after out out' err err' status a asked d says five =
-    go (of_command held failed tallies words (plan asked) a says d.cause) where
-      whole : (status ≡ status_of a) × IsWhole a out out' err err'
-      whole = whole_delivery a out out' err err' status d.delivered (λ seven. let e : 5 ≡ 7 = sym five ∙ seven in omega arith)
-
-      code : status_of a ≡ 5
-      code = sym whole.0 ∙ five
-
-      line : (a ≡ refused (full asked.options.nodes)) → IsWhole a out out' err err' → err'.written ≡ append_known err.written (text_of (refused (full asked.options.nodes)))
-      line is (inl showed) = absurd (not_refused (full asked.options.nodes) a is showed.shown)
-      line is (inr refusal) = refusal.errors.written ∙ ap (λ b. append_known err.written (text_of b)) is
-
-      go : (a ≡ refused no_memory) ⊎ IsPlanAnswer held failed asked a → FullWritten held asked err err'
-      go (inl is) = absurd (let e : 5 ≡ 8 = sym code ∙ ap status_of is in omega arith)
-      go (inr (inl (may, is))) = record { may = may; written = line is whole.1 }
-      go (inr (inr read)) = absurd (read_not_full held failed asked a read code)
+    let full = written_full asked.options.nodes status a out out' err err' (MayRunOut held asked) (ReadBoth held failed asked.domain asked.problem (IsPlanned asked) a) d.delivered five
+    (read_not_full held failed asked a) (of_command held failed tallies words (plan asked) a says d.cause) in
+    record { may = full.0; written = full.1 }
 
 -- the nodes are too few for the problem that both files spell, if they are for what is known of
 -- them

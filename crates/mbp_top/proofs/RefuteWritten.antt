@@ -13,9 +13,9 @@ use Rattle.refute_cert.specs.declared.verdict.Flaw.{Flaw}
 use Rattle.refute_cert.specs.declared.verdict.Judged.{Judged}
 use Rattle.refute_cert.specs.declared.verdict.Judged.TheVariants.{Accepted, Rejected}
 use Rattle.task_core.specs.Solutions.{HasNoSolution}
-use Rattle.task_core.specs.Systems.{IsSystem, System}
+use Rattle.task_core.specs.Systems.{System}
 use Rattle.command_base.specs.Answers.{Answer, full, is_shown, no_memory, refused, status_of, status_of_refusal, text_of}
-use Rattle.command_base.specs.Delivery.{IsWhole, Seen}
+use Rattle.command_base.specs.Delivery.{Seen}
 use Rattle.command_base.specs.Grounding.{GroundThen, for_tables, has_goal_for}
 use Rattle.command_base.specs.InitialStates.{empty_init}
 use Rattle.command_base.specs.OneReading.{OneReading}
@@ -29,14 +29,11 @@ use Rattle.mbp_top.proofs.ByCommand.{of_command}
 use Rattle.command_base.proofs.Deciding.{one_tree, read_as}
 use Rattle.command_base.proofs.Initials.{shown_initial, with_initial}
 use Rattle.command_base.proofs.PddlDecides.{ReadFor, both_as, not_refused, shown_both, shown_goal, shown_grounded, with_goal, within_limits}
+use Rattle.plan_command.proofs.Meetings.{AcceptedMeansNone}
 use Rattle.mbp_top.proofs.PlanWritten.{refused_not_full}
 use Rattle.refute_command.proofs.RefuteDecides.{certificate_grammar, not_accepted}
 use Rattle.mbp_top.proofs.DueStatuses.{Done}
-use Rattle.command_base.proofs.Statuses.{shown_at, undisturbed, whole_delivery, written_shown}
-
--- what is known of accepted certificates
-abbrev pub AcceptedMeansNone : Type 0
-AcceptedMeansNone = (sys : System) (certificate : PlainCertificate) → IsSystem sys → IsAccepted sys certificate → HasNoSolution certificate.class sys
+use Rattle.command_base.proofs.Statuses.{shown_at, undisturbed, whole_delivery, written_shown, written_full}
 
 -- the trees and the certificate that the files spell, and the verdict on it
 pub record RefuteFor (held : Bytes → Held) (asked : RefuteWords) (answer : Answer) : Type 0 where
@@ -180,21 +177,9 @@ pub record FullRefutation (held : Bytes → Held) (asked : RefuteWords) (err err
 pub full_refutation : (held : Bytes → Held) (failed : Bytes → Type 0) (tallies : Tallies) (words : List Bytes) (before after : ℕ) (out out' err err' : Seen) (status : ℕ) (a : Answer)
     (asked : RefuteWords) → Done held failed tallies words before after out out' err err' status a → SaysRefute words asked → status ≡ 5 → FullRefutation held asked err err'
 full_refutation held failed tallies words before after out out' err err' status a asked d says five =
-    go (of_command held failed tallies words (refute asked) a says d.cause) where
-      whole : (status ≡ status_of a) × IsWhole a out out' err err'
-      whole = whole_delivery a out out' err err' status d.delivered (λ seven. let e : 5 ≡ 7 = sym five ∙ seven in omega arith)
-
-      code : status_of a ≡ 5
-      code = sym whole.0 ∙ five
-
-      line : (a ≡ refused (full asked.options.nodes)) → IsWhole a out out' err err' → err'.written ≡ append_known err.written (text_of (refused (full asked.options.nodes)))
-      line is (inl showed) = absurd (not_refused (full asked.options.nodes) a is showed.shown)
-      line is (inr refusal) = refusal.errors.written ∙ ap (λ b. append_known err.written (text_of b)) is
-
-      go : (a ≡ refused no_memory) ⊎ IsRefuteAnswer held failed asked a → FullRefutation held asked err err'
-      go (inl is) = absurd (let e : 5 ≡ 8 = sym code ∙ ap status_of is in omega arith)
-      go (inr (inl (may, is))) = record { may = may; written = line is whole.1 }
-      go (inr (inr read)) = absurd (refuted_not_full held failed asked a read code)
+    let full = written_full asked.options.nodes status a out out' err err' (MayRefuteRunOut held asked) (ReadBoth held failed asked.domain asked.problem (IsRefuted held failed asked) a) d.delivered five
+    (refuted_not_full held failed asked a) (of_command held failed tallies words (refute asked) a says d.cause) in
+    record { may = full.0; written = full.1 }
 
 -- the nodes are too few for the certificate that the file spells, if they are for what is known of it
 record MayFor (held : Bytes → Held) (asked : RefuteWords) (d : DomainTree) (p : ProblemTree) : Type 0 where

@@ -34,7 +34,8 @@ use Rattle.mbp_top.proofs.DrillStatuses.{drill_status}
 use Rattle.mbp_top.proofs.DrillWritten.{drill_written, full_drill}
 use Rattle.mbp_top.proofs.GroundWritten.{listing_status, listing_written}
 use Rattle.mbp_top.proofs.PlanWritten.{NoPlanWritten, PlanWritten, full_written, no_plan_written, plan_status, plan_written}
-use Rattle.mbp_top.proofs.RefuteWritten.{AcceptedMeansNone, acceptance_written, full_refutation, refute_status, rejection_written}
+use Rattle.mbp_top.proofs.RefuteWritten.{acceptance_written, full_refutation, refute_status, rejection_written}
+use Rattle.plan_command.proofs.Meetings.{AcceptedMeansNone}
 use Rattle.mbp_top.proofs.ReplayWritten.{run_status, run_written}
 use Rattle.mbp_top.proofs.DueStatuses.{Done, due_status}
 use Rattle.command_base.proofs.Statuses.{cut_delivery, no_failure, of_delivery, quiet_shelf, quiet_sinks, whole_delivery}

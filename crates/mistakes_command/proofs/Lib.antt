@@ -1,6 +1,5 @@
 mod Added
 mod AfterReading
-mod Answers
 mod Hinted
 mod Kept
 mod Reports

@@ -1,9 +1,11 @@
 -- Which words ask for mistakes.
-use Rattle.std.proofs.Common.{◌≡◌, ◌≤◌, ◌-◌, Bool, true, false, List, [], ◌∷◌, map, arith, drop, take, get_or, length, refl, sym, ap, ◌∙◌}
+use Rattle.std.proofs.Common.{◌≡◌, ◌≤◌, ◌-◌, Bool, true, false, List, [], ◌∷◌, map, arith, drop, take, get_or, length, sym, ap, ◌∙◌}
 use Rattle.std.proofs.lemmas.Bool.{false≢true}
 use Rattle.std.proofs.lemmas.List.{take_all}
 use Rattle.command_base.specs.Words.{Bytes}
-use Rattle.mistakes_command.specs.Words.{MistakesWords, SaysMistakes, json_words, names_judge}
+use Rattle.answer_help.specs.CommonWords.{json_words}
+use Rattle.answer_help.proofs.CommonWords.{same_json}
+use Rattle.mistakes_command.specs.Words.{MistakesWords, SaysMistakes, names_judge}
 
 -- a slice of words, by its first two and the rest
 pub first_two : {X Y : Type 0} (f : X → Y) (xs : List X) (a b : X) → 2 ≤ length xs → a ≡ get_or xs 0 a → b ≡ get_or xs 1 b
@@ -28,12 +30,6 @@ module _ (words : List Bytes) (d p : Bytes) (rest : List Bytes) (is : words ≡ 
   pub said : (json : Bool) → names_judge d ≡ false → rest ≡ json_words json
       → SaysMistakes words (record { names = record { domain = d; problem = p }; json = json })
   said json files same = record { files = files; written = is ∙ ap (λ (ws : List Bytes). d ∷ p ∷ ws) same }
-
-same_json : (a b : Bool) → json_words a ≡ json_words b → a ≡ b
-same_json true true is = refl
-same_json false false is = refl
-same_json true false is = absurd (omega (arith, ap (length {A = Bytes}) is))
-same_json false true is = absurd (omega (arith, ap (length {A = Bytes}) is))
 
 -- the words ask for one thing at most
 pub one_asked : (words : List Bytes) (v w : MistakesWords) → SaysMistakes words v → SaysMistakes words w → v ≡ w

@@ -5,10 +5,11 @@ use Rattle.plan_io.specs.Held.{Held}
 use Rattle.command_base.specs.Answers.{Answer}
 use Rattle.command_base.specs.Fetching.{FetchesBoth}
 use Rattle.answer_help.specs.HelpedRuns.{IsHelpedRunOf}
+use Rattle.answer_help.specs.WrongWords.{wrong_words}
 use Rattle.command_base.specs.Frame.{FailedIn, HasCauseOf, Run}
 use Rattle.command_base.specs.Words.{Bytes}
 use Rattle.mistakes_command.specs.Mistakes.{IsMistakesAnswer}
-use Rattle.mistakes_command.specs.Words.{MistakesWords, SaysMistakes, wrong_words}
+use Rattle.mistakes_command.specs.Words.{MistakesWords, SaysMistakes}
 
 -- the words ask for nothing; or they ask for the mistakes, and the answer is the one to that, or want of
 -- memory, which has no further cause

@@ -1,8 +1,7 @@
 -- The words: in which files mistakes are looked for, and how they are shown.
-use Rattle.std.specs.Prelude.{◌≡◌, List, [], ◌∷◌, ◌||◌, Bool, true, false, codes}
-use Rattle.std.specs.Str.{bytes_eq}
+use Rattle.std.specs.Prelude.{◌≡◌, List, ◌∷◌, Bool, false}
 use Rattle.command_base.specs.Words.{Bytes}
-use Rattle.answer_help.specs.WrongWords.{WrongWords, too_few}
+use Rattle.answer_help.specs.CommonWords.{json_words, names_kind}
 use Rattle.mistake_notices.specs.Texts.{PlainFileNames}
 
 -- the names of the files, and whether the answer is to be a JSON document
@@ -13,14 +12,7 @@ pub record MistakesWords : Type 0 where
 -- whether the word says by what a plan is judged. A file of such a name is written with its folder, as
 -- ./weak
 abbrev pub names_judge : Bytes → Bool
-names_judge word =
-    bytes_eq word (codes "weak") || bytes_eq word (codes "strong")
-    || bytes_eq word (codes "cyclic") || bytes_eq word (codes "ctl") || bytes_eq word (codes "fair")
-
--- `--json`, or nothing
-abbrev pub json_words : Bool → List Bytes
-json_words true = codes "--json" ∷ []
-json_words false = []
+names_judge = names_kind
 
 -- `DOMAIN PROBLEM`, and then `--json` or nothing
 pub record SaysMistakes (words : List Bytes) (asked : MistakesWords) : Type 0 where
@@ -30,7 +22,3 @@ pub record SaysMistakes (words : List Bytes) (asked : MistakesWords) : Type 0 wh
 -- the words ask for nothing
 abbrev pub AskNothing : List Bytes → Type 0
 AskNothing words = (asked : MistakesWords) → SaysMistakes words asked → ⊥
-
--- what is wrong with words that ask for nothing
-abbrev pub wrong_words : List Bytes → WrongWords
-wrong_words words = too_few

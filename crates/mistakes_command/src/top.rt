@@ -6,8 +6,7 @@ ghost use Rattle.mistakes_command.specs.Runs.{HasMistakes};
 ghost use Rattle.std.specs.Prelude.{◌≡◌, [], map, string_bytes};
 
 use crate::commands::answer;
-use crate::words::wrong_words;
-use answer_help::{HelpSource, KeepingShelf, deliver_helped};
+use answer_help::{HelpSource, KeepingShelf, deliver_helped, wrong_words};
 use plan_io::{Shelf, Sink};
 use std::alloc::Global;
 

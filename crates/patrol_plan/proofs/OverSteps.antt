@@ -4,10 +4,10 @@ use Rattle.std.proofs.lemmas.List.Elements.{All-get_or}
 use Rattle.ctl_syntax.specs.GoalValues.{EachInStage}
 use Rattle.ctl_syntax.specs.declared.context_goals.UntilChain.{UntilChain}
 use Rattle.ctl_syntax.specs.declared.context_goals.UntilStage.{UntilStage}
-use Rattle.task_core.specs.Conditions.{ids_below, is_shallow}
+use Rattle.task_core.specs.Conditions.{IsConditionOver, ids_below, is_shallow}
 use Rattle.task_core.specs.declared.conditions.Cond.{Cond}
 use Rattle.slot_board.specs.Board.{Scene}
-use Rattle.patrol_plan.specs.Chains.{IsConditionOver, IsPatrolOver, IsUntilOver}
+use Rattle.patrol_plan.specs.Chains.{IsPatrolOver, IsUntilOver}
 use Rattle.patrol_plan.specs.Scenes.{IsAt, Start}
 
 -- a call keeps how many there are

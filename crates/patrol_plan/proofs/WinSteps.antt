@@ -14,8 +14,7 @@ use Rattle.slot_board.specs.Board.{Scene, set_at}
 use Rattle.plan_theory.specs.SetWords.{anywhere}
 use Rattle.plan_theory.specs.UntilChains.{SetStage, UntilSets, until_met, until_win}
 use Rattle.plan_theory.specs.Safe.{safe_set}
-use Rattle.task_core.specs.Conditions.{holds, ids_below}
-use Rattle.patrol_plan.specs.Chains.{IsConditionOver}
+use Rattle.task_core.specs.Conditions.{IsConditionOver, holds, ids_below}
 use Rattle.task_core.specs.Cubes.{SetOfVectors}
 use Rattle.task_core.specs.Tasks.{in_space}
 use Rattle.task_core.specs.Vectors.{Vector, value_of}

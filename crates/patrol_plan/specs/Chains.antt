@@ -3,6 +3,7 @@
 use Rattle.std.specs.Prelude.{◌≡◌, ℕ, ◌≤◌, true, All, List, map, length}
 use Rattle.plan_theory.specs.UntilChains.{UntilSets}
 use Rattle.ctl_syntax.specs.Conditions.{states_of}
+use Rattle.ctl_syntax.specs.GoalSizes.{most_stages, most_visits}
 use Rattle.ctl_syntax.specs.GoalValues.{EachInUntil, stage_sets}
 use Rattle.ctl_syntax.specs.declared.context_goals.UntilChain.{UntilChain}
 use Rattle.task_core.specs.Conditions.{ids_below, is_shallow}
@@ -20,13 +21,6 @@ until_sets chain = record {
 abbrev pub visit_sets : List Cond → List SetOfVectors
 visit_sets conds = map states_of conds
 
--- how many stages an until-chain may have, and how many visits a patrol goal
-abbrev pub most_stages : ℕ
-most_stages = 32
-
-abbrev pub most_visits : ℕ
-most_visits = 8
-
 -- there are few stages, and each condition names the first fluents alone and is at most 200 deep
 pub record IsUntilOver (fluents : ℕ) (chain : UntilChain) : Type 0 where
   pub few : length chain.stages.items ≤ most_stages
@@ -39,8 +33,3 @@ pub record IsPatrolOver (fluents : ℕ) (conds : List Cond) : Type 0 where
   pub few : length conds ≤ most_visits
   pub names : All (λ (cond : Cond). ids_below fluents cond ≡ true) conds
   pub shallow : All (λ (cond : Cond). is_shallow cond ≡ true) conds
-
--- Private: a condition names the first fluents alone, and is at most 200 deep
-pub record IsConditionOver (fluents : ℕ) (cond : Cond) : Type 0 where
-  pub names : ids_below fluents cond ≡ true
-  pub shallow : is_shallow cond ≡ true

@@ -14,7 +14,7 @@ ghost use Rattle.task_core.specs.ContextPlans.{Configuration, IsComplete, IsInit
 ghost use Rattle.task_core.specs.Tasks.{action_count, fluent_count, system_of};
 ghost use Rattle.task_core.specs.declared.conditions.Cond.{Cond as CondOf};
 ghost use Rattle.task_core.specs.declared.tasks.Task.{Task as TaskOf};
-ghost use Rattle.patrol_plan.specs.Chains.{IsPatrolOver, most_visits, visit_sets};
+ghost use Rattle.patrol_plan.specs.Chains.{IsPatrolOver, visit_sets};
 ghost use Rattle.patrol_plan.specs.Found.{IfNoPlan, IfPlan};
 ghost use Rattle.patrol_plan.specs.PatrolAnswers.{IsPatrolAnswer, IsPatrolPlanOf, PatrolEnds};
 ghost use Rattle.patrol_plan.specs.Noted.{NotedLast};
@@ -25,6 +25,7 @@ ghost use Rattle.patrol_plan.specs.Scenes.{HasNothing, IsAt, Left, Start};
 ghost use Rattle.plan_theory.specs.Patrols.{covers_patrol};
 ghost use Rattle.patrol_plan.specs.Scenes.{sys_of};
 ghost use Rattle.std.specs.Prelude.{true};
+ghost use Rattle.ctl_syntax.specs.GoalSizes.{most_visits};
 
 use crate::found::FoundAuto;
 use crate::means::Means;

@@ -6,10 +6,11 @@ ghost use Rattle.plan_theory.specs.PatrolPrinted.{patrol_nexts, patrol_rules, pa
 ghost use Rattle.plan_rules.specs.Rules.{context_rule_of};
 ghost use Rattle.task_core.specs.Tasks.{action_count};
 ghost use Rattle.task_core.specs.declared.conditions.Cond.{Cond as CondOf};
-ghost use Rattle.patrol_plan.specs.Chains.{most_visits, visit_sets};
+ghost use Rattle.patrol_plan.specs.Chains.{visit_sets};
 ghost use Rattle.patrol_plan.specs.PatrolSteps.{GoesOn, HasPatrolTable, ListsPatrol, PutsPart};
 ghost use Rattle.patrol_plan.specs.PatrolSteps.{visit_place};
 ghost use Rattle.patrol_plan.specs.Scenes.{Left, Start, sys_of, takers_place};
+ghost use Rattle.ctl_syntax.specs.GoalSizes.{most_visits};
 
 use crate::places::{HITS, takers_at};
 use crate::rules::{Move, Taken, list_at};

@@ -1,9 +1,9 @@
 //! The places of a search's board.
 
 ghost use Rattle.std.specs.Prelude.{◌≡◌, ◌+◌, ◌<◌, ◌≤◌};
-ghost use Rattle.patrol_plan.specs.Chains.{most_stages};
 ghost use Rattle.patrol_plan.specs.Scenes.{met_place, place_count, rules_place, takers_place};
 ghost use Rattle.patrol_plan.specs.Scenes.{win_place};
+ghost use Rattle.ctl_syntax.specs.GoalSizes.{most_stages};
 
 use task_core::ActionId;
 

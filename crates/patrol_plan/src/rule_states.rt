@@ -2,11 +2,11 @@
 
 ghost use Rattle.std.specs.Prelude.{◌≡◌, ◌+◌, ◌≤◌, length};
 ghost use Rattle.plan_theory.specs.UntilChains.{UntilSets};
-ghost use Rattle.patrol_plan.specs.Chains.{most_stages};
 ghost use Rattle.patrol_plan.specs.Scenes.{IsReady, Left, Start};
 ghost use Rattle.patrol_plan.specs.Sizes.{EverySetIsSmall};
 ghost use Rattle.patrol_plan.specs.Steps.{Chooses};
 ghost use Rattle.patrol_plan.specs.Tables.{HasRuleStates, HasTable};
+ghost use Rattle.ctl_syntax.specs.GoalSizes.{most_stages};
 
 use crate::places::{NEW, takers_at};
 use crate::rules::{Advance, Chain, turn_states};

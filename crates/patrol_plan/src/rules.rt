@@ -8,11 +8,11 @@ ghost use Rattle.plan_theory.specs.UntilChains.{UntilSets};
 ghost use Rattle.plan_theory.specs.UntilPrinted.{until_nexts, until_rules, until_states};
 ghost use Rattle.plan_rules.specs.Rules.{ContextRule, context_rule_of};
 ghost use Rattle.task_core.specs.Tasks.{action_count, fluent_count};
-ghost use Rattle.patrol_plan.specs.Chains.{most_stages};
 ghost use Rattle.patrol_plan.specs.Scenes.{IsReady, Left, Start, states_at, sys_of, takers_place};
 ghost use Rattle.patrol_plan.specs.Listing.{Lists, ListsStages, ListsTurning};
 ghost use Rattle.patrol_plan.specs.Steps.{HasRest, HasTakers};
 ghost use Rattle.patrol_plan.specs.Tables.{HasTable, HasTurning};
+ghost use Rattle.ctl_syntax.specs.GoalSizes.{most_stages};
 
 use crate::places::{HITS, NEW, REST, met_at, takers_at, win_at};
 use dd_sets::SetErr;

@@ -5,7 +5,7 @@ ghost use Rattle.std.specs.Prelude.{◌≡◌, ℕ, suc, ◌≤◌, ◌+◌, ◌
 ghost use Rattle.ctl_syntax.specs.Conditions.{states_of};
 ghost use Rattle.slot_board.specs.Board as board_specs;
 ghost use Rattle.task_core.specs.Tasks.{action_count};
-ghost use Rattle.patrol_plan.specs.Chains.{IsConditionOver, IsUntilOver, until_sets};
+ghost use Rattle.patrol_plan.specs.Chains.{IsUntilOver, until_sets};
 ghost use Rattle.patrol_plan.specs.Scenes.{IsAt, IsGuarded, Left, Start, board_of, guarded};
 ghost use Rattle.patrol_plan.specs.Scenes.{states_at};
 ghost use Rattle.patrol_plan.specs.Sizes.{ClimbFits, ClimbsFit, SearchFits, ShareFits};
@@ -15,6 +15,7 @@ ghost use Rattle.patrol_plan.specs.Steps.{HasTakers, Shared};
 ghost use Rattle.slot_board.specs.Board.{Scene};
 ghost use Rattle.slot_board.specs.declared.steps.Step.{Step as Noted};
 ghost use Rattle.patrol_plan.specs.declared.rounds.Way.TheVariants.{Growing};
+ghost use Rattle.task_core.specs.Conditions.{IsConditionOver};
 
 use crate::places::{GUARD, HITS, NEAR, NEW, NEXT, REST, met_at, takers_at, win_at};
 use crate::rounds::lead_inside;

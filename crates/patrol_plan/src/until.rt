@@ -17,13 +17,14 @@ ghost use Rattle.task_core.specs.ContextPlans.{Configuration, IsComplete, IsInit
 ghost use Rattle.task_core.specs.Tasks.{action_count, fluent_count, system_of};
 ghost use Rattle.task_core.specs.declared.tasks.Task.{Task as TaskOf};
 ghost use Rattle.patrol_plan.specs.Answers.{Ends, IsAnswer, IsPlanOf};
-ghost use Rattle.patrol_plan.specs.Chains.{IsUntilOver, most_stages, until_sets};
+ghost use Rattle.patrol_plan.specs.Chains.{IsUntilOver, until_sets};
 ghost use Rattle.patrol_plan.specs.Found.{IfNoPlan, IfPlan};
 ghost use Rattle.patrol_plan.specs.Scenes.{HasNothing, IsAt, Left, Start};
 ghost use Rattle.patrol_plan.specs.Scenes.{board_of};
 ghost use Rattle.patrol_plan.specs.Sizes.{SearchFits};
 ghost use Rattle.patrol_plan.specs.Tables.{HasTable, start_of};
 ghost use Rattle.patrol_plan.specs.WorkingSets.{BoundsUntilSets};
+ghost use Rattle.ctl_syntax.specs.GoalSizes.{most_stages};
 
 use crate::found::FoundAuto;
 use crate::means::Means;

@@ -5,7 +5,7 @@ ghost use Rattle.plan_theory.specs.Patrols.{covers_patrol};
 ghost use Rattle.patrol_plan.specs.Chains.{visit_sets};
 ghost use Rattle.task_core.specs.Tasks.{action_count};
 ghost use Rattle.task_core.specs.declared.conditions.Cond.{Cond as CondOf};
-ghost use Rattle.patrol_plan.specs.Chains.{IsConditionOver, IsPatrolOver, most_visits};
+ghost use Rattle.patrol_plan.specs.Chains.{IsPatrolOver};
 ghost use Rattle.patrol_plan.specs.PatrolSizes.{PatrolFits};
 ghost use Rattle.patrol_plan.specs.Noted.{AreStepsFrom, FoundNotes, NotedLast, NotedVisits};
 ghost use Rattle.patrol_plan.specs.PatrolSizes.{made_in, within_round};
@@ -16,6 +16,8 @@ ghost use Rattle.patrol_plan.specs.PatrolSteps.{IsLeft};
 ghost use Rattle.slot_board.specs.Board.{Ends};
 ghost use Rattle.patrol_plan.specs.PatrolSteps.{visit_place};
 ghost use Rattle.patrol_plan.specs.Scenes.{HasNothing, Left, Start, board_of, sys_of, takers_place};
+ghost use Rattle.ctl_syntax.specs.GoalSizes.{most_visits};
+ghost use Rattle.task_core.specs.Conditions.{IsConditionOver};
 
 use crate::means::Means;
 use crate::patrol_rules::Patrol;

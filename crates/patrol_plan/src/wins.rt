@@ -1,7 +1,7 @@
 //! The states of the contexts, from the last one back.
 
 ghost use Rattle.std.specs.Prelude.{◌≡◌, ◌≤◌, ◌+◌, ◌<◌, ◌++◌, [], ◌∷◌, length, IfErr, OnOk};
-ghost use Rattle.patrol_plan.specs.Chains.{IsConditionOver, IsUntilOver, until_sets};
+ghost use Rattle.patrol_plan.specs.Chains.{IsUntilOver, until_sets};
 ghost use Rattle.slot_board.specs.Board as board_specs;
 ghost use Rattle.ctl_syntax.specs.Conditions.{states_of};
 ghost use Rattle.slot_board.specs.Board.{Ends};
@@ -10,6 +10,7 @@ ghost use Rattle.patrol_plan.specs.Scenes.{IsAt, IsReady, Left, Start, board_of,
 ghost use Rattle.patrol_plan.specs.Scenes.{states_at};
 ghost use Rattle.patrol_plan.specs.Sizes.{EndFits, IsSmall, SearchFits, StageFits};
 ghost use Rattle.patrol_plan.specs.Steps.{EndWon, HasKept, HasWins, StageMet, StageWon, met_by};
+ghost use Rattle.task_core.specs.Conditions.{IsConditionOver};
 
 use crate::means::Means;
 use crate::places::{GUARD, NEAR, win_at};

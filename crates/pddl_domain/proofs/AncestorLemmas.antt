@@ -11,7 +11,7 @@ use Rattle.std.proofs.lemmas.Grind.{get_or-set_at}
 use Rattle.std.proofs.lemmas.Simd.{splat_is_map}
 use Rattle.std.proofs.lemmas.Bool.Decides.{nat_tests}
 use Rattle.pddl_domain.proofs.Pigeonhole.{repeats, same_or_not}
-use Rattle.list_laws.proofs.Booleans.{same_truth}
+use Rattle.list_laws.proofs.Booleans.{or_false, or_true, same_truth}
 
 -- two functions that agree below n
 pub map_range_agree : {X : Type 0} (f g : ℕ → X) (a n : ℕ) → ((k : ℕ) → a ≤ k → k < a + n → f k ≡ g k) → map f (range_with_len a n) ≡ map g (range_with_len a n)
@@ -86,14 +86,6 @@ one_more_of n ts i t inside small is = same_lists (set (which_of n (take i ts)) 
   where
     stands : List ℕ → ℕ → Bool
     stands xs k = list_any (λ s. s == k) xs
-
-    or_true : (b : Bool) → (b || true) ≡ true
-    or_true true = refl
-    or_true false = refl
-
-    or_false : (b : Bool) → (b || false) ≡ b
-    or_false true = refl
-    or_false false = refl
 
 -- a chain that comes back after some steps comes back after any number of such rounds
 pub rounds : (ps : List ℕ) (p t : ℕ) → ancestor ps p t ≡ t → (k : ℕ) → ancestor ps (k * p) t ≡ t

@@ -10,7 +10,7 @@ use Rattle.sexpr_text.specs.declared.faults.FaultKind.TheVariants.{BadForm, Doub
 use Rattle.sexpr_text.specs.Forest.{Forest, nothing, word, group}
 use Rattle.sexpr_text.specs.Formed.{IsRising}
 use Rattle.sexpr_text.specs.Flaws.{Flaw, flaw_at, IsInOrder}
-use Rattle.sexpr_text.specs.Parts.{is_name}
+use Rattle.sexpr_text.specs.Parts.{is_name, is_one}
 use Rattle.sexpr_text.proofs.FlawLaws.{in_order-from, in_order-up_to, in_order-append}
 use Rattle.pddl_ast.specs.declared.typed_lists.Declares.{Declares}
 use Rattle.pddl_ast.specs.declared.typed_lists.Declares.TheVariants.{Types, Objects, Variables, PredicateVariables}
@@ -26,7 +26,7 @@ use Rattle.pddl_domain.specs.declared.sections.Seen.{Seen}
 use Rattle.pddl_domain.specs.declared.actions.Key.{Key}
 use Rattle.pddl_domain.specs.declared.actions.Key.TheVariants.{Parameters, Precondition, Effect, Other as OtherKey}
 use Rattle.pddl_ast.specs.Definitions.{no_define}
-use Rattle.pddl_domain.specs.Sections.{definition, section_kind, seen_after, is_one, kind_flaws, sections_flaws, none_came, sections_of}
+use Rattle.pddl_domain.specs.Sections.{definition, section_kind, seen_after, kind_flaws, sections_flaws, none_came, sections_of}
 use Rattle.pddl_domain.specs.Types.{type_names, type_parents, is_looping, word_loop_flaws, loop_flaws_from}
 use Rattle.pddl_domain.specs.Constants.{predicate_name_flaws, variables_flaws, predicate_flaws, with_first_word, predicates_flaws}
 use Rattle.pddl_domain.specs.Invariant.{invariant_flaws}

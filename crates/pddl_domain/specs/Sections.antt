@@ -9,7 +9,7 @@ use Rattle.sexpr_text.specs.declared.faults.FaultKind.TheVariants.{BadForm, Left
 use Rattle.sexpr_text.specs.Forest.{Forest, nothing, word, group}
 use Rattle.sexpr_text.specs.Flaws.{Flaw, flaw_at}
 use Rattle.sexpr_text.specs.Parts.{after_first, begins_with, first_group_with, is_definition}
-use Rattle.sexpr_text.specs.Parts.{is_nothing}
+use Rattle.sexpr_text.specs.Parts.{is_one}
 use Rattle.pddl_ast.specs.Definitions.{title_of, no_define}
 use Rattle.pddl_domain.specs.declared.sections.Seen.{Seen}
 use Rattle.pddl_domain.specs.declared.sections.Section.{Section}
@@ -69,12 +69,6 @@ seen_after seen Constants = record seen { constants = true }
 seen_after seen Predicates = record seen { predicates = true }
 seen_after seen Invariant = record seen { invariant = true }
 seen_after seen _ = seen
-
--- whether there is exactly one form
-abbrev pub is_one : Forest → Bool
-is_one nothing = false
-is_one (word span text rest) = is_nothing rest
-is_one (group span parts rest) = is_nothing rest
 
 -- whether a section of this kind may not have these forms after its word: `:invariant` has exactly
 -- one

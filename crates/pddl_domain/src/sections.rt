@@ -10,7 +10,7 @@ ghost use Rattle.pddl_domain.specs.Sections as specs;
 use pddl_ast::{HeadedList, no_define, title_of};
 use sexpr_text::{
     FaultKind, Form, Head, ReadErr, Text, View, fault_at, first_definition, first_group, head_of,
-    is_nothing,
+    is_one,
 };
 use std::alloc::Global;
 
@@ -144,17 +144,6 @@ pub fn section_named<'a>(sections: &'a [Form], word: &[u8]) -> &'a [Form]
             Head::Nothing => &[],
         },
         None => &[],
-    }
-}
-
-/// Whether there is exactly one form.
-fn is_one(row: &[Form]) -> bool
-    ensures { result ≡ specs.is_one (forest_of row.now) }
-{
-    match head_of(row) {
-        Head::Nothing => false,
-        Head::Word(_, _, rest) => is_nothing(rest),
-        Head::Group(_, _, rest) => is_nothing(rest),
     }
 }
 

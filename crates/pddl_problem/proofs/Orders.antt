@@ -10,7 +10,7 @@ use Rattle.sexpr_text.specs.Flaws.{Flaw, flaw_at, IsInOrder}
 use Rattle.sexpr_text.specs.Forest.{Forest, nothing, word, group}
 use Rattle.sexpr_text.specs.Formed.{IsRising}
 use Rattle.sexpr_text.specs.Ordered.{AreGroupFlaws}
-use Rattle.sexpr_text.specs.Parts.{is_nothing, flaws_of_groups}
+use Rattle.sexpr_text.specs.Parts.{is_nothing, is_one, flaws_of_groups}
 use Rattle.sexpr_text.proofs.FlawLaws.{in_order-from, in_order-up_to, in_order-append}
 use Rattle.sexpr_text.proofs.GroupLaws.{rising-bounds, groups-in_order}
 use Rattle.pddl_ast.specs.declared.keywords.Keyword.{Keyword}
@@ -21,7 +21,7 @@ use Rattle.pddl_ast.specs.Atoms.{ground_atom_flaws}
 use Rattle.pddl_problem.specs.declared.sections.Heading.{Heading}
 use Rattle.pddl_problem.specs.declared.sections.Heading.TheVariants.{Domain, Objects, Init, Goal, CtlGoal, PassedOver, Other as OtherHeading}
 use Rattle.pddl_problem.specs.declared.sections.Seen.{Seen}
-use Rattle.pddl_problem.specs.Sections.{heading_of, is_one, is_one_name, flaw_if, section_flaws, list_flaws, saw_list, sections_flaws}
+use Rattle.pddl_problem.specs.Sections.{heading_of, is_one_name, flaw_if, section_flaws, list_flaws, saw_list, sections_flaws}
 use Rattle.pddl_problem.specs.Init.{atom_form, atom_under, form_flaws, under_flaws, bad_form, left_out, part_flaws_by, part_flaws, alternative_flaws_by, alternative_flaws, entry_flaws_by, entry_flaws, init_flaws}
 use Rattle.pddl_problem.specs.Problems.{domain_flaws, goal_flaws, ctl_flaws, missing_flaws}
 use Rattle.pddl_ast.specs.Formulas.{formula_flaws}

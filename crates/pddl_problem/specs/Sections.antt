@@ -7,7 +7,7 @@ use Rattle.sexpr_text.specs.declared.forms.Span.{Span}
 use Rattle.sexpr_text.specs.declared.faults.FaultKind.{FaultKind}
 use Rattle.sexpr_text.specs.declared.faults.FaultKind.TheVariants.{BadForm, GoalTwice, LeftOut}
 use Rattle.sexpr_text.specs.Forest.{Forest, nothing, word, group}
-use Rattle.sexpr_text.specs.Parts.{is_nothing, is_name, begins_with, after_word, first_group_with}
+use Rattle.sexpr_text.specs.Parts.{is_nothing, is_name, is_one, begins_with, after_word, first_group_with}
 use Rattle.sexpr_text.specs.Flaws.{Flaw, flaw_at}
 use Rattle.pddl_problem.specs.declared.sections.Heading.{Heading}
 use Rattle.pddl_problem.specs.declared.sections.Heading.TheVariants.{Domain, Objects, Init, Goal}
@@ -30,12 +30,6 @@ heading_of w =
     else if bytes_eq w (codes ":ctl-goal") then CtlGoal
     else if is_passed_over w then PassedOver
     else Other
-
--- whether there is exactly one form
-abbrev pub is_one : Forest → Bool
-is_one nothing = false
-is_one (word span text rest) = is_nothing rest
-is_one (group span parts rest) = is_nothing rest
 
 -- whether there is exactly one form, a name
 abbrev pub is_one_name : Forest → Bool

@@ -10,7 +10,7 @@ ghost use Rattle.pddl_problem.specs.Sections as sections;
 use crate::faults::left_out;
 use sexpr_text::{
     FaultKind, Form, Head, ReadErr, Span, Text, View, after_word, fault_at, first_group, head_of,
-    is_name, is_nothing,
+    is_name, is_nothing, is_one,
 };
 use std::alloc::Global;
 
@@ -54,17 +54,6 @@ pub(crate) fn heading_of(word: &Text) -> Heading
         Heading::PassedOver
     } else {
         Heading::Other
-    }
-}
-
-/// Whether there is exactly one form.
-fn is_one(row: &[Form]) -> bool
-    ensures { result ≡ sections.is_one (forest_of row.now) }
-{
-    match head_of(row) {
-        Head::Nothing => false,
-        Head::Word(_, _, rest) => is_nothing(rest),
-        Head::Group(_, _, rest) => is_nothing(rest),
     }
 }
 

@@ -7,6 +7,7 @@ use Rattle.std.proofs.lemmas.List.Elements.{All-cons, All-nil}
 use Rattle.std.proofs.lemmas.List.Kept.{AllPairs-cons}
 use Rattle.std.proofs.lemmas.List.{length-append}
 use Rattle.std.proofs.lemmas.Option.{none-some, same_Some}
+use Rattle.list_laws.proofs.Distinct as distinct
 
 -- x is an element
 abbrev pub Among : {X : Type 0} → X → List X → Type 0
@@ -228,33 +229,10 @@ Apart-from_AllPairs (x ∷ xs) h = (fresh, Apart-from_AllPairs xs (λ i j d belo
     fresh : Among x xs → ⊥
     fresh k = let at = Contains-from_Among xs x k in let within = at.1 in h 0 (suc at.0) x (omega arith) (omega arith) (sym at.2)
 
--- an element, with what stands before and after it
-pub record Around {X : Type 0} (x : X) (xs : List X) : Type 0 where
-  pub front : List X
-  pub back : List X
-  pub is : xs ≡ front ++ x ∷ back
-
-around : {X : Type 0} (x : X) (xs : List X) → Among x xs → Around x xs
-around x [] h = absurd h
-around x (y ∷ xs) (inl e) = record { front = []; back = xs; is = ap (λ z. z ∷ xs) e }
-around x (y ∷ xs) (inr h) = let rest = around x xs h in record { front = y ∷ rest.front; back = rest.back; is = ap (λ zs. y ∷ zs) rest.is }
-
 -- different elements of a list are no more than it has
 pub Apart-few : {X : Type 0} (xs ys : List X) → Apart xs → ((x : X) → Among x xs → Among x ys) → length xs ≤ length ys
-Apart-few [] ys apart there = omega arith
-Apart-few {X} (x ∷ xs) ys apart there =
-    let at = around x ys (there x (inl refl)) in
-    let fewer = Apart-few xs (at.front ++ at.back) apart.1 (λ z k. elsewhere at.front at.back z k (subst (λ zs. Among z zs) at.is (there z (inr k)))) in
-    let all_of_them : length ys ≡ length at.front + suc (length at.back) = ap length at.is ∙ length-append at.front (x ∷ at.back) in
-    let others = length-append at.front at.back in
-    omega arith
+Apart-few {X} xs ys apart there = distinct.Apart-few xs ys (all_differ xs apart) (λ x c. Contains-from_Among ys x (there x (Among-from_Contains xs x c)))
   where
-    elsewhere : (front back : List X) (z : X) → Among z xs → Among z (front ++ x ∷ back) → Among z (front ++ back)
-    elsewhere front back z k l =
-        elim (Among-append_cases z front (x ∷ back) l) as (λ _. Among z (front ++ back)) [
-          | inl m ↦ Among-append_left z front back m
-          | inr m ↦ elim m as (λ _. Among z (front ++ back)) [
-            | inl e ↦ absurd (apart.0 (subst (λ w. Among w xs) (sym e) k))
-            | inr n ↦ Among-append_right z front back n
-          ]
-        ]
+    all_differ : (zs : List X) → Apart zs → distinct.Apart zs
+    all_differ [] h = tt
+    all_differ (z ∷ zs) h = (λ c. h.0 (Among-from_Contains zs z c), all_differ zs h.1)

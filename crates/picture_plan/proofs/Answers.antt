@@ -1,7 +1,8 @@
 -- From what follows the reading of both files to the answer, and from the answer to a run.
-use Rattle.std.proofs.Common.{◌≡◌, codes, ◌≢◌, ◌⊎◌, ◌≤◌, ℕ, List, [], ◌∷◌, Contains, get_or, length, map, inl, inr, refl, sym, subst, ap, ◌∙◌, arith, None, drop}
-use Rattle.exec_graph.specs.Executions.{IsReachedBy, ReachesMoreThan}
+use Rattle.std.proofs.Common.{◌≡◌, ◌≢◌, ◌⊎◌, List, [], ◌∷◌, Contains, get_or, length, map, inl, inr, refl, sym, subst, ap, ◌∙◌, arith, None, drop}
+use Rattle.exec_graph.specs.Executions.{ReachesMoreThan}
 use Rattle.exec_graph.specs.Initials.{HasTooManyInitial}
+use Rattle.exec_graph.proofs.Reaching.{begins, reached_first}
 use Rattle.pddl_ast.specs.Trees.{DomainTree, ProblemTree}
 use Rattle.pddl_system.specs.Sizes.{first_passed}
 use Rattle.pddl_system.specs.Systems.{action_names, fluent_names, system}
@@ -9,54 +10,40 @@ use Rattle.pddl_system.specs.Tasks.{task_of}
 use Rattle.pddl_system.specs.Values.{task_value}
 use Rattle.plan_io.specs.Held.{Held}
 use Rattle.plan_picture.specs.Pictures.{IsPictureOf, PlainNode, configurations}
-use Rattle.plan_rules.specs.Rules.{PlainPlan, table, automaton}
+use Rattle.plan_rules.specs.Rules.{PlainPlan}
 use Rattle.task_core.specs.ContextPlans.{Configuration, first_context}
 use Rattle.task_core.specs.Names.{Name}
 use Rattle.task_core.specs.Systems.{System}
 use Rattle.task_core.specs.Tasks.{action_names as names_of_actions, fluent_names as names_of_fluents, initial_states, system_of}
 use Rattle.task_core.specs.Vectors.{Vector}
 use Rattle.task_core.specs.declared.tasks.Task.{Task}
-use Rattle.command_base.specs.Answers.{Answer, Refusal, no_memory, refused}
-use Rattle.command_base.specs.Faults.{IsQuietAt}
+use Rattle.command_base.specs.Answers.{Answer, no_memory, refused}
 use Rattle.command_base.specs.Following.{HasTooManyStates, most_followed}
 use Rattle.command_base.specs.InitialStates.{empty_init}
 use Rattle.command_base.specs.PlanFiles.{IsFaultyPlan, PlacedPlan, SpellsPlaced}
 use Rattle.command_base.specs.Reading.{ReadThen}
 use Rattle.command_base.specs.Words.{Bytes}
 use Rattle.command_base.proofs.TooMany.{too_many as too_many_states, too_many_back as too_many_states_back}
-use Rattle.command_base.proofs.Frames.{IsGivenFor}
-use Rattle.command_base.specs.Frame.{FailedIn}
-use Rattle.picture_plan.specs.Fetching.{FetchesToPicture}
 use Rattle.command_base.proofs.Initials.{initial_over}
 use Rattle.command_base.proofs.Later.{read_over}
 use Rattle.command_base.proofs.TaskNames.{same_actions, same_fluents}
-use Rattle.picture_plan.specs.Pictures.{DrawnOf, DrawnThen, IsFaultyExplanation, IsPictureAnswer, IsPictured, RunThen, ShowsPicture, TaskThen, most_for}
-use Rattle.picture_plan.specs.Runs.{HasPictureCause, HasPictured, PictureRun}
-use Rattle.picture_plan.specs.Words.{AskNothing, PictureForm, PictureWords, SaysPicture, as_graph, as_graph_with, as_page, as_page_with, as_rules, form_said, wrong_picture}
+use Rattle.command_base.proofs.WhatFollows.{then_map}
+use Rattle.picture_plan.specs.Pictures.{DrawnOf, DrawnThen, IsFaultyExplanation, IsPictured, RunThen, ShowsPicture, TaskThen, most_for}
+use Rattle.picture_plan.specs.Words.{PictureForm, PictureWords, SaysPicture, as_graph, as_graph_with, as_page, as_page_with, as_rules, form_said}
 use Rattle.plan_page.specs.Explanations.{PlainExplanation, TellsExplanation}
 use Rattle.std.specs.Prelude.{Option, Some}
 use Rattle.std.proofs.lemmas.Option.{same_Some}
-use Rattle.picture_plan.proofs.PictureFetched.{over_picture, picture_for_memory}
-use Rattle.answer_help.specs.Helped.{IsHelpFor, IsHelpedDelivery}
-use Rattle.answer_help.specs.Keeping.{AreToldAs, KeepsAfter, held_by, kept_in}
-use Rattle.answer_help.specs.declared.keeping.KeepingShelf.{KeepingShelf}
-use Rattle.answer_help.proofs.HelpedFrames.{IsTold, is_helped_run, told_fetch}
 
--- what follows the reading of a file, or of a run
-read_map : {X : Type 0} (held : Bytes → Held) (failed : Bytes → Type 0) (name : Bytes) (Spells : Bytes → X → Type 0) (Wrong : Bytes → Bytes → Refusal → Type 0)
-    (Then Then' : X → Answer → Type 0) (a : Answer) → ((x : X) → Then x a → Then' x a) → ReadThen held failed name Spells Wrong Then a → ReadThen held failed name Spells Wrong Then' a
-read_map held failed name Spells Wrong Then Then' a over (inl why) = inl why
-read_map held failed name Spells Wrong Then Then' a over (inr (x, holds, then)) = inr (x, holds, over x then)
-
+-- what follows the reading of a run
 run_map : (held : Bytes → Held) (failed : Bytes → Type 0) (form : PictureForm) (Then Then' : Option PlainExplanation → Answer → Type 0) (a : Answer)
     → ((explanation : Option PlainExplanation) → Then explanation a → Then' explanation a) → RunThen held failed form Then a → RunThen held failed form Then' a
 run_map held failed as_graph Then Then' a over then = over None then
 run_map held failed (as_graph_with file) Then Then' a over then =
-    read_map held failed file TellsExplanation IsFaultyExplanation (λ (e : PlainExplanation). Then (Some e)) (λ (e : PlainExplanation). Then' (Some e)) a (λ e. over (Some e)) then
+    then_map held failed file TellsExplanation IsFaultyExplanation (λ (e : PlainExplanation). Then (Some e)) (λ (e : PlainExplanation). Then' (Some e)) a (λ e. over (Some e)) then
 run_map held failed as_rules Then Then' a over then = over None then
 run_map held failed as_page Then Then' a over then = over None then
 run_map held failed (as_page_with file) Then Then' a over then =
-    read_map held failed file TellsExplanation IsFaultyExplanation (λ (e : PlainExplanation). Then (Some e)) (λ (e : PlainExplanation). Then' (Some e)) a (λ e. over (Some e)) then
+    then_map held failed file TellsExplanation IsFaultyExplanation (λ (e : PlainExplanation). Then (Some e)) (λ (e : PlainExplanation). Then' (Some e)) a (λ e. over (Some e)) then
 
 -- what is said from a later state of the shelf holds from the start
 pub run_later : (held held' : Bytes → Held) (failed failed' : Bytes → Type 0) (form : PictureForm) (Then : Option PlainExplanation → Answer → Type 0) (a : Answer)
@@ -85,7 +72,7 @@ pictured_later held held' failed failed' asked d p a same over (inr (inr (within
     let Wrong = IsFaultyPlan (fluent_names d p) (action_names d p) in
     inr (inr (
       within,
-      read_map held failed asked.plan Spells Wrong (λ placed. RunThen held' failed' asked.form (DrawnThen asked d p placed)) (λ placed. RunThen held failed asked.form (DrawnThen asked d p placed)) a
+      then_map held failed asked.plan Spells Wrong (λ placed. RunThen held' failed' asked.form (DrawnThen asked d p placed)) (λ placed. RunThen held failed asked.form (DrawnThen asked d p placed)) a
           (λ placed. run_later held held' failed failed' asked.form (DrawnThen asked d p placed) a same over)
           (read_over held held' failed failed' asked.plan Spells Wrong (λ placed. RunThen held' failed' asked.form (DrawnThen asked d p placed)) a same (over asked.plan) then),
     ))
@@ -122,24 +109,13 @@ task_answer held failed asked d p t a is system_is within (inl memory) = inl mem
 task_answer held failed asked d p t a is system_is within (inr then) =
     let Then : PlacedPlan → Answer → Type 0 = λ placed. RunThen held failed asked.form (DrawnThen asked d p placed) in
     let drawn : ReadThen held failed asked.plan (SpellsPlaced (names_of_fluents t) (names_of_actions t)) (IsFaultyPlan (names_of_fluents t) (names_of_actions t)) Then a =
-    read_map held failed asked.plan (SpellsPlaced (names_of_fluents t) (names_of_actions t)) (IsFaultyPlan (names_of_fluents t) (names_of_actions t))
+    then_map held failed asked.plan (SpellsPlaced (names_of_fluents t) (names_of_actions t)) (IsFaultyPlan (names_of_fluents t) (names_of_actions t))
     (λ placed. RunThen held failed asked.form (DrawnOf asked p t placed.plan)) Then a
     (λ placed. run_map held failed asked.form (DrawnOf asked p t placed.plan) (DrawnThen asked d p placed) a (λ run. drawn_for asked d p t placed run a is system_is)) then in
     let fluents_named = subst (λ (ns : List Name). ReadThen held failed asked.plan (SpellsPlaced ns (names_of_actions t)) (IsFaultyPlan ns (names_of_actions t)) Then a) (same_fluents d p t is) drawn in
     inr (inr (within, subst (λ (ns : List Name). ReadThen held failed asked.plan (SpellsPlaced (fluent_names d p) ns) (IsFaultyPlan (fluent_names d p) ns) Then a) (same_actions d p t is) fluents_named))
 
 -- a picture has nodes exactly where there is an initial state
-reached_first : (sys : System) (plan : PlainPlan) (s : Vector) → Contains sys.initial s → IsReachedBy sys plan (record { state = s; context = first_context })
-reached_first sys (table class rules) s listed =
-    (record { start = s; initial = listed; path = record { rest = []; path = tt; ends = refl } }, refl)
-reached_first sys (automaton contexts rules) s listed = record {
-  start = record { state = s; context = first_context };
-  initial = record { state = listed; context = refl };
-  rest = [];
-  path = tt;
-  ends = refl;
-}
-
 pub shows_nothing : (sys : System) (plan : PlainPlan) (nodes : List PlainNode) → IsPictureOf sys plan nodes → nodes ≡ [] → sys.initial ≡ []
 shows_nothing sys plan nodes is none = go sys.initial refl where
   go : (states : List Vector) → sys.initial ≡ states → states ≡ []
@@ -147,13 +123,9 @@ shows_nothing sys plan nodes is none = go sys.initial refl where
   go (s ∷ rest) same =
       let listed : Contains sys.initial s = subst (λ (vs : List Vector). Contains vs s) (sym same) (0, omega arith, refl) in
       let x : Configuration = record { state = s; context = first_context } in
-      let node = (is.reached x).1 (reached_first sys plan s listed) in
+      let node = (is.reached x).1 (reached_first sys plan x (record { state = listed; context = refl })) in
       let nowhere : Contains (configurations []) x = subst (λ (ns : List PlainNode). Contains (configurations ns) x) none node in
       absurd (let within = nowhere.1 in omega (arith, within))
-
-begins : (sys : System) (plan : PlainPlan) (x : Configuration) → IsReachedBy sys plan x → (s : Vector) × Contains sys.initial s
-begins sys (table class rules) x reached = (reached.0.start, reached.0.initial)
-begins sys (automaton contexts rules) x reached = (reached.start.state, reached.initial.state)
 
 pub shows_some : (sys : System) (plan : PlainPlan) (nodes : List PlainNode) → IsPictureOf sys plan nodes → nodes ≢ [] → sys.initial ≢ []
 shows_some sys plan [] is some none = some refl
@@ -180,31 +152,3 @@ one_asked words v w says says' =
     let rests : says.rest ≡ says'.rest = ap (drop 3) both in
     let forms : v.form ≡ w.form = same_Some v.form w.form (sym says.ends ∙ ap form_said rests ∙ says'.ends) in
     λ i. record { domain = domains i; problem = problems i; plan = plans i; form = forms i }
-
--- what was found for the words, and what was given for it
-module _ {S : Type 0} (held : S → Bytes → Held) (faults : S → ℕ) (fetched : S → Bytes → S → Type 0) (run : PictureRun S) where
-  pub has_pictured : (found given : Answer) (help : Bytes) → HasPictureCause (held run.shelf) (FailedIn faults fetched run) run.words found
-      → ((asked : PictureWords) → SaysPicture run.words asked → FetchesToPicture (held run.shelf) (FailedIn faults fetched run) fetched asked found run.shelf run.shelf_after)
-      → (AskNothing run.words → run.shelf_after ≡ run.shelf) → IsQuietAt found (faults run.shelf) (faults run.shelf_after)
-      → ((file : Bytes) → held run.shelf_after file ≡ held run.shelf file) → faults run.shelf ≤ faults run.shelf_after
-      → IsGivenFor found given → IsHelpFor (held run.shelf_after) (wrong_picture run.words) given help
-      → IsHelpedDelivery help given run.out run.out_after run.err run.err_after run.status → HasPictured held faults fetched run
-  has_pictured =
-      is_helped_run SaysPicture (IsPictureAnswer (held run.shelf) (FailedIn faults fetched run))
-      (FetchesToPicture (held run.shelf) (FailedIn faults fetched run) fetched) wrong_picture held faults run
-      (λ asked a was. picture_for_memory (held run.shelf) (FailedIn faults fetched run) fetched asked a run.shelf run.shelf_after was)
-
--- what is kept after a run can be what is told
-module _ {S : Type 0} (held : S → Bytes → Held) (failed : Bytes → Type 0) (fetched : S → Bytes → S → Type 0) where
-  pub told_after : (words : List Bytes) (answer : Answer) (before after : KeepingShelf S) → kept_in before ≡ []
-      → HasPictureCause (held_by held before) failed words answer
-      → ((asked : PictureWords) → SaysPicture words asked → FetchesToPicture (held_by held before) failed (KeepsAfter held fetched) asked answer before after)
-      → (AskNothing words → after ≡ before) → IsTold held after
-  told_after words answer before after none cause fetches unfetched = go cause where
-    begun : IsTold held before
-    begun = subst (AreToldAs (held_by held before)) (sym none) tt
-
-    go : HasPictureCause (held_by held before) failed words answer → IsTold held after
-    go (inl (nothing, is)) = subst (IsTold held) (sym (unfetched nothing)) begun
-    go (inr (asked, says, why)) =
-        over_picture (IsTold held) (held_by held before) failed (KeepsAfter held fetched) (told_fetch held fetched) asked answer before after (fetches asked says) begun

@@ -5,6 +5,7 @@ use Rattle.std.specs.List.{Contains, filter, flat_map, list_any, range_with_len}
 use Rattle.std.proofs.lemmas.Bool.{false≢true, and_parts}
 use Rattle.std.proofs.lemmas.List.{length-append, length-map}
 use Rattle.std.proofs.lemmas.List.Elements.{Contains-append_cases}
+use Rattle.task_core.proofs.Paths.{last_append, path_append}
 use Rattle.task_core.specs.Vectors.{Vector, all_vectors}
 use Rattle.task_core.specs.Systems.{System, HasOutcome}
 use Rattle.task_core.specs.Tables.{IsTerminal, Leads, Table}
@@ -13,20 +14,11 @@ use Rattle.task_core.specs.Solutions.{HasNoCycle, IsReached}
 use Rattle.task_core.specs.ContextPlans.{Configuration, first_context}
 use Rattle.task_core.specs.declared.classes.Class.{Class}
 use Rattle.task_core.proofs.Vectors.{Contains-map_image, Contains-filter_cases}
-use Rattle.plan_rules.specs.Rules.{PlanRule, table}
+use Rattle.plan_rules.specs.Rules.{PlainPlan, PlanRule, table}
 use Rattle.plan_rules.specs.Denoted.{advises, can_execute, denoted, denoted_at}
 use Rattle.exec_graph.specs.Graphs.{IsGraphOf, PlainGraph}
 use Rattle.plan_check.specs.Walks.{ComesRound, HasWalk, IsLongestWalk, IsWalk, last_number}
 use Rattle.plan_check.specs.Verdicts.{HasExecution, IsLongest, MayComeRound}
-
--- paths put together
-path_append : (sys : System) (pairs : Table) (s : Vector) (xs ys : List Vector) → IsPath (Leads sys pairs) s xs → IsPath (Leads sys pairs) (last_of s xs) ys → IsPath (Leads sys pairs) s (xs ++ ys)
-path_append sys pairs s [] ys a b = b
-path_append sys pairs s (x ∷ xs) ys a b = (a.0, path_append sys pairs x xs ys a.1 b)
-
-last_append : (s : Vector) (xs ys : List Vector) → last_of s (xs ++ ys) ≡ last_of (last_of s xs) ys
-last_append s [] ys = refl
-last_append s (x ∷ xs) ys = last_append x xs ys
 
 -- a state that follows one which the table may reach
 reached_next : (sys : System) (pairs : Table) (s t : Vector) → IsReached sys pairs s → Leads sys pairs s t → IsReached sys pairs t
@@ -36,7 +28,7 @@ reached_next sys pairs s t r leads =
       initial = r.initial;
       path = record {
         rest = r.path.rest ++ t ∷ [];
-        path = path_append sys pairs r.start r.path.rest (t ∷ []) r.path.path (subst (λ u. Leads sys pairs u t) (sym r.path.ends) leads, tt);
+        path = path_append (Leads sys pairs) r.start r.path.rest (t ∷ []) r.path.path (subst (λ u. Leads sys pairs u t) (sym r.path.ends) leads, tt);
         ends = last_append r.start r.path.rest (t ∷ []);
       };
     }
@@ -59,6 +51,11 @@ pair_outcome sys rules s a c =
     let passes = Contains-filter_cases test (range_with_len 0 sys.actions) image.from image.within in
     let can = (and_parts (advises rules v image.from) (can_execute sys v image.from) passes.1).1 in
     subst (λ (p : Vector × ℕ). (t : Vector) × HasOutcome sys p.0 p.1 t) image.is (some_element (sys.next v image.from) can)
+
+-- a walk ends at a number of the graph
+pub last_node : (sys : System) (plan : PlainPlan) (graph : PlainGraph) → IsGraphOf sys plan graph → (i : ℕ) (rest : List ℕ) → i < graph.size → IsWalk graph.next i rest → last_number i rest < graph.size
+last_node sys plan graph h i [] l w = l
+last_node sys plan graph h i (j ∷ rest) l w = last_node sys plan graph h j rest (h.next_below i j l w.0) w.1
 
 module _ (sys : System) (word : Class) (rules : List PlanRule) (graph : PlainGraph) (h : IsGraphOf sys (table word rules) graph) where
   -- the state of a number
@@ -102,10 +99,6 @@ module _ (sys : System) (word : Class) (rules : List PlanRule) (graph : PlainGra
   pub last_of_path : (i : ℕ) (rest : List ℕ) → last_of (state i) (map state rest) ≡ state (last_number i rest)
   last_of_path i [] = refl
   last_of_path i (j ∷ rest) = last_of_path j rest
-
-  pub last_node : (i : ℕ) (rest : List ℕ) → i < graph.size → IsWalk graph.next i rest → last_number i rest < graph.size
-  last_node i [] l w = l
-  last_node i (j ∷ rest) l w = last_node j rest (h.next_below i j l w.0) w.1
 
   -- paths are walks
   pub record IsWalkOf (i : ℕ) (rest : List Vector) : Type 0 where
@@ -180,7 +173,7 @@ module _ (sys : System) (word : Class) (rules : List PlanRule) (graph : PlainGra
         follower = j;
         rest = more.numbers;
         walk = (step.2, more.walk);
-        round = same_number l i (last_node j more.numbers lj more.walk) li ends;
+        round = same_number l i (last_node sys (table word rules) graph h j more.numbers lj more.walk) li ends;
       })
 
   -- the longest walk is as long as the longest execution
@@ -209,7 +202,7 @@ module _ (sys : System) (word : Class) (rules : List PlanRule) (graph : PlainGra
           start = r.start;
           initial = r.initial;
           rest = r.path.rest ++ map state w.rest;
-          path = path_append sys (denoted sys rules) r.start r.path.rest (map state w.rest) r.path.path (subst (λ u. IsPath (Leads sys (denoted sys rules)) u (map state w.rest)) (sym r.path.ends) path);
+          path = path_append (Leads sys (denoted sys rules)) r.start r.path.rest (map state w.rest) r.path.path (subst (λ u. IsPath (Leads sys (denoted sys rules)) u (map state w.rest)) (sym r.path.ends) path);
           long = refl;
         };
       }

@@ -173,7 +173,7 @@ module _ (task : Task) (goal : Cond) (is : task.goal ≡ Some goal) (graph : Gra
     reaches_end i l end r good =
         let w = walk_of sys word rules (plain_graph n graph) h i r.rest l r.path in
         let e = last_number i w.numbers in
-        let below = last_node sys word rules (plain_graph n graph) h i w.numbers l w.walk in
+        let below = last_node sys (table word rules) (plain_graph n graph) h i w.numbers l w.walk in
         let at : state_at n graph e ≡ end = end_of_walk sys word rules (plain_graph n graph) h i r.rest w ∙ r.ends in
         (leading i l).1 (record { rest = w.numbers; walk = w.walk; ends = (ended e below).1 (good e below at) })
 
@@ -188,7 +188,7 @@ module _ (task : Task) (goal : Cond) (is : task.goal ≡ Some goal) (graph : Gra
     marked_reaches : (i : ℕ) → i < graph_size graph → IsMarked marks i → MayReachGoal sys (denoted sys rules) (state_at n graph i)
     marked_reaches i l m =
         let x = (leading i l).0 m in
-        let below = last_node sys word rules (plain_graph n graph) h i x.rest l x.walk in
+        let below = last_node sys (table word rules) (plain_graph n graph) h i x.rest l x.walk in
         let e = (ended (last_number i x.rest) below).0 x.ends in
         record {
           end = state_at n graph (last_number i x.rest);

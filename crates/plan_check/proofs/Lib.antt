@@ -15,3 +15,4 @@ pub mod EdgeCounts
 pub mod SearchCounts
 pub mod LedSteps
 pub mod GoalCosts
+pub mod Carried

@@ -4,6 +4,7 @@ use Rattle.std.specs.Option.{option_and_then, option_map, option_map_or}
 use Rattle.std.specs.Prelude.{nat_le}
 use Rattle.std.proofs.lemmas.Bool.{le-leb}
 use Rattle.std.proofs.lemmas.List.Elements.{All-weaker}
+use Rattle.std.proofs.lemmas.Option.{same_Some}
 use Rattle.ctl_syntax.specs.Conditions.{CondTree, condition_value}
 use Rattle.ctl_syntax.specs.ContextGoals.{PlainGoal, plain_goal, map_goal}
 use Rattle.ctl_syntax.specs.GoalValues.{EachInStage, GoalIsAtMostDeep, GoalNamesBelow, GoalTree, goal_conditions, tree_of_goal}
@@ -38,7 +39,7 @@ use Rattle.plan_command.specs.Enough.{IsTightForGoal, IsTightPlan}
 use Rattle.task_sets.specs.FullTables.{IsTightToEncode}
 use Rattle.task_sets.specs.NodeRoom.{IsTightLimit}
 use Rattle.plan_command.specs.FoundGoals.{IsGoalMissing, IsGoalResult, IsGoalShown, IsPlanFor, StandsForGoal}
-use Rattle.plan_command.specs.GoalConditions.{HasSomeVisit, IsGoalOver, count_of, grounded_parts, grounded_formula, limit_of_goal, most_of, sets_of_goal}
+use Rattle.plan_command.specs.GoalConditions.{IsGoalOver, grounded_parts, grounded_formula, limit_of_goal, sets_of_goal}
 use Rattle.plan_command.specs.GoalSets.{GoalSets, HasNoGoalPlan, IsGoalPlan, contexts_for, rules_for}
 use Rattle.command_base.specs.Grounded.{IsTaskOf}
 use Rattle.command_base.specs.InitialStates.{empty_init}
@@ -54,18 +55,13 @@ use Rattle.command_base.proofs.TaskNames.{same_actions, same_fluents}
 use Rattle.plan_meets.proofs.Meetings.{contexts_meet}
 use Rattle.plan_command.proofs.Meetings.{no_contexts}
 use Rattle.plan_command.proofs.PlanAnswers.{tight_to_encode}
+use Rattle.ctl_syntax.specs.GoalSizes.{HasSomeVisit, count_of, most_of}
 
 -- what the task's goal and that of the text have in common
 record Pair (d : DomainTree) (p : ProblemTree) (tree : GoalTree) (theirs : Option (PlainGoal FormulaTree)) : Type 0 where
   parts : PlainGoal FormulaTree
   of_text : theirs ≡ Some parts
   same : tree ≡ grounded_parts d p parts
-
-one_tree : (s t : GoalTree) → Some s ≡ Some t → s ≡ t
-one_tree s t same = cc
-
-one_image : (s t : PlainGoal CondTree) → Some s ≡ Some t → s ≡ t
-one_image s t same = cc
 
 pair_of : (d : DomainTree) (p : ProblemTree) (tree : GoalTree) (ours : Option (PlainGoal Cond)) (theirs : Option (PlainGoal FormulaTree)) → Some tree ≡ option_map goal_conditions ours
     → option_map (map_goal condition_value) ours ≡ option_map (map_goal (grounded_formula d p)) theirs → Pair d p tree theirs
@@ -74,8 +70,8 @@ pair_of d p tree (Some conds) None is same = absurd (cc same)
 pair_of d p tree (Some conds) (Some parts) is same = record {
   parts = parts;
   of_text = refl;
-  same = one_tree tree (goal_conditions conds) is
-      ∙ same_tree d p conds parts (one_image (map_goal condition_value conds) (map_goal (grounded_formula d p) parts) same);
+  same = same_Some tree (goal_conditions conds) is
+      ∙ same_tree d p conds parts (same_Some (map_goal condition_value conds) (map_goal (grounded_formula d p) parts) same);
 }
 
 neither : (d : DomainTree) (p : ProblemTree) (ours : Option (PlainGoal Cond)) (theirs : Option (PlainGoal FormulaTree)) → None ≡ option_map goal_conditions ours
@@ -122,9 +118,6 @@ goal_stands law d p goal found stands is =
           (λ has. of_goal.0 (of_text.1 has), λ has. of_text.0 (of_goal.1 has));
     }
 
-one_goal : (s t : TemporalTree) → Some s ≡ Some t → s ≡ t
-one_goal s t same = cc
-
 -- a plan that has the goal's sets meets the problem's goal, and the other way round
 module _ (d : DomainTree) (p : ProblemTree) (goal : ContextGoal) (s : StandsForGoal d p goal) where
   meets : (plan : ContextPlan) → IsGoalPlan (system d p) (sets_of_goal goal) plan → Meets with_contexts d p (contextual plan)
@@ -132,7 +125,7 @@ module _ (d : DomainTree) (p : ProblemTree) (goal : ContextGoal) (s : StandsForG
 
   met_back : (plan : ContextPlan) → Meets with_contexts d p (contextual plan) → IsGoalPlan (system d p) (sets_of_goal goal) plan
   met_back plan (tree, is, met) =
-      let same : tree ≡ s.temporal = one_goal tree s.temporal (sym is ∙ s.temporal_is) in
+      let same : tree ≡ s.temporal = same_Some tree s.temporal (sym is ∙ s.temporal_is) in
       record {
         complete = met.complete;
         has = λ x initial. (s.alike plan x).0 (subst (λ (g : TemporalTree). HasGoal d p plan g x) same (met.has x initial));
@@ -234,7 +227,7 @@ pub refused_goal : (certified : Bool) (name : Bytes) (d : DomainTree) (p : Probl
 refused_goal certified name d p a none is = inl (none, is)
 
 -- the conditions of a goal are such as a search takes
-shallow_within : (cond : Cond) → depth cond ≤ 200 → is_shallow cond ≡ true
+pub shallow_within : (cond : Cond) → depth cond ≤ 200 → is_shallow cond ≡ true
 shallow_within cond deep = le-leb (depth cond) 200 deep
 
 all_shallow : (conds : List Cond) → All (λ (c : Cond). depth c ≤ 200) conds → All (λ (c : Cond). is_shallow c ≡ true) conds

@@ -29,8 +29,8 @@ use Rattle.task_core.specs.declared.conditions.Cond.{Cond}
 use Rattle.task_core.specs.declared.tasks.Task.{Task}
 use Rattle.plan_command.specs.Enough.{BoundsGoalSets}
 use Rattle.plan_command.specs.FoundGoals.{IsGoalSearched}
-use Rattle.plan_command.specs.GoalConditions.{count_of}
 use Rattle.plan_command.specs.GoalSets.{GoalSets, HasNoGoalPlan, HasSets, contexts_for, of_patrol, of_until, rules_for}
+use Rattle.ctl_syntax.specs.GoalSizes.{count_of}
 
 -- a plan is what is looked for, and that there is none
 found_goal : (task : Task) (sets : GoalSets) (count : ℕ) (None : Type 0) (result : Result FoundAuto SetErr) → count ≡ contexts_for sets → (None → HasNoGoalPlan (system_of task) sets)

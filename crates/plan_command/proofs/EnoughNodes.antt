@@ -26,10 +26,10 @@ use Rattle.task_core.specs.declared.classes.Class.{Class}
 use Rattle.task_core.specs.declared.classes.Class.TheVariants.{Cyclic, Strong, Weak}
 use Rattle.task_core.specs.declared.tasks.Task.{Task}
 use Rattle.plan_command.specs.Enough.{BoundsGoalSets, BoundsSets, IsTightForClass, IsTightForGoal, LacksClassRoom, LacksGoalRoom, enough_by_sets}
-use Rattle.plan_command.specs.GoalConditions.{count_of}
 use Rattle.task_sets.proofs.FullTables.{filled_after}
 use Rattle.task_sets.proofs.NodeRooms.{tight_for_sets, tight_for_live}
 use Rattle.task_sets.specs.FullTables.{AreEncoded, IsFilled, IsFullTry, IsTightToEncode}
+use Rattle.ctl_syntax.specs.GoalSizes.{count_of}
 
 pub slots_of_planner : (L A M : ℕ) → L ≤ A * (M + 1) + 5 → L + (3 * A + 32) ≤ A * (M + 0 + 6) + 8 * 0 + 256
 slots_of_planner L A M few =

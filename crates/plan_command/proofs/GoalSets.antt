@@ -21,12 +21,13 @@ use Rattle.plan_theory.specs.UntilChains.{SetStage}
 use Rattle.task_core.specs.Cubes.{SetOfVectors}
 use Rattle.task_core.specs.Vectors.{Vector, value_of}
 use Rattle.task_core.specs.declared.conditions.Cond.{Cond}
-use Rattle.plan_command.specs.ContextGoals.{most_parts, most_stages, most_visits, part_count, part_limit}
+use Rattle.plan_command.specs.ContextGoals.{most_parts, part_count, part_limit}
 use Rattle.plan_command.specs.FoundGoals.{CountsAs}
-use Rattle.plan_command.specs.GoalConditions.{HasSomeVisit, count_of, grounded_parts, grounded_formula, grounded_formulas, grounded_or_true, grounded_stage, limit_of_goal, most_of, sets_of_goal}
+use Rattle.plan_command.specs.GoalConditions.{grounded_parts, grounded_formula, grounded_formulas, grounded_or_true, grounded_stage, limit_of_goal, sets_of_goal}
 use Rattle.plan_command.specs.GoalSets.{GoalSets, all_hold, goal_sets, guarded_stage, of_patrol, of_until, one_holds}
 use Rattle.command_base.specs.Words.{Bytes}
 use Rattle.plan_command.proofs.GoalParts.{HasVisit, map_map, map_same}
+use Rattle.ctl_syntax.specs.GoalSizes.{HasSomeVisit, count_of, most_of, most_stages, most_visits}
 
 all_same : {X : Type 0} (f g : X → Bool) (xs : List X) → ((x : X) → f x ≡ g x) → list_all f xs ≡ list_all g xs
 all_same f g [] same = refl

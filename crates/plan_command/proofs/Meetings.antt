@@ -2,6 +2,7 @@
 use Rattle.std.proofs.Common.{Bool, List, inl, inr, refl, subst}
 use Rattle.pddl_ast.specs.Trees.{DomainTree, ProblemTree}
 use Rattle.pddl_system.specs.Systems.{action_names, fluent_names, system}
+use Rattle.plan_certs.specs.Certificates.{IsAccepted, PlainCertificate}
 use Rattle.plan_check.specs.Verdicts.{CanFollowRules}
 use Rattle.plan_rules.specs.Denoted.{IsExecutable, denoted}
 use Rattle.plan_rules.specs.Rules.{PlanRule, table}
@@ -15,6 +16,10 @@ use Rattle.plan_meets.specs.Meets.{Meets, contextual, pairs}
 use Rattle.plan_command.specs.PlanCommand.{HasNoPlan, IsPlanResult}
 use Rattle.command_base.specs.Words.{of_class, with_contexts}
 use Rattle.plan_meets.proofs.Meetings.{end_is_state, table_meets}
+
+-- what is known of accepted certificates
+abbrev pub AcceptedMeansNone : Type 0
+AcceptedMeansNone = (sys : System) (certificate : PlainCertificate) → IsSystem sys → IsAccepted sys certificate → HasNoSolution certificate.class sys
 
 -- so rules whose actions can be executed wherever they match can be followed
 pub followed : (sys : System) (rules : List PlanRule) → IsSystem sys → IsExecutable sys rules → CanFollowRules sys rules

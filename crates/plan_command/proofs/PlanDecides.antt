@@ -1,5 +1,6 @@
 -- The two files and the class decide the answer of `plan`, unless the table of nodes is full.
 use Rattle.std.proofs.Common.{◌≡◌, ◌≢◌, ℕ, Bool, true, false, ◌<◌, ◌≤◌, ◌++◌, List, inl, inr, sym, subst, ap, ◌∙◌, arith, Some}
+use Rattle.std.proofs.lemmas.Option.{same_Some}
 use Rattle.pddl_ast.specs.Trees.{DomainTree, FormulaTree, ProblemTree}
 use Rattle.plan_io.specs.Held.{Held, Untold}
 use Rattle.pddl_system.specs.Systems.{system, fluent_names, action_names}
@@ -72,12 +73,9 @@ result_decides certified class d p a b (inr m) (inr n) =
     m.shown ∙ (ap denied (one_no_table certified class (system d p) (fluent_names d p) m.text n.text m.written n.written) ∙ sym n.shown)
 
 -- one goal at most
-one_goal : (c e : PlainGoal FormulaTree) → Some c ≡ Some e → c ≡ e
-one_goal c e same = cc
-
 printed_once : (d : DomainTree) (p : ProblemTree) (text other : Bytes) → IsPrintedPlan d p text → IsPrintedPlan d p other → text ≡ other
 printed_once d p text other (c, is, spelled) (e, is', spelled') =
-    spelled ∙ (ap (λ (x : PlainGoal FormulaTree). text_for d p (goal_sets d p x)) (one_goal c e (sym is ∙ is')) ∙ sym spelled')
+    spelled ∙ (ap (λ (x : PlainGoal FormulaTree). text_for d p (goal_sets d p x)) (same_Some c e (sym is ∙ is')) ∙ sym spelled')
 
 context_decides : (certified : Bool) (d : DomainTree) (p : ProblemTree) → Decides (IsPlanResult certified with_contexts d p) (IsPlanResult certified with_contexts d p)
 context_decides certified d p a b (inl f) (inl g) = f.shown ∙ (ap affirmed (printed_once d p f.text g.text f.printed g.printed) ∙ sym g.shown)
@@ -88,7 +86,7 @@ context_decides certified d p a b (inr m) (inr n) = m.shown ∙ (ap denied (m.wr
 -- a goal of few stages or visits is no other of many
 not_many : (c e : PlainGoal FormulaTree) → Some c ≡ Some e → most_parts c < part_count c → part_count e ≤ most_parts e → ⊥
 not_many c e same many few =
-    let less : most_parts e < part_count e = subst (λ (x : PlainGoal FormulaTree). most_parts x < part_count x) (one_goal c e same) many in
+    let less : most_parts e < part_count e = subst (λ (x : PlainGoal FormulaTree). most_parts x < part_count x) (same_Some c e same) many in
     omega (arith, less, few)
 
 goal_parts_decide : (name : Bytes) (p : ProblemTree) (Then : Answer → Type 0) → Decides Then Then → Decides (ContextGoalThen name p (λ goal. Then)) (ContextGoalThen name p (λ goal. Then))
@@ -96,7 +94,7 @@ goal_parts_decide name p Then next a b (inl (none, is)) (inl (none', is')) = is 
 goal_parts_decide name p Then next a b (inl (none, is)) (inr (c, some, why)) = absurd (cc (none, some))
 goal_parts_decide name p Then next a b (inr (c, some, why)) (inl (none, is)) = absurd (cc (none, some))
 goal_parts_decide name p Then next a b (inr (c, some, inl (many, is))) (inr (e, some', inl (many', is'))) =
-    is ∙ (ap (λ (x : PlainGoal FormulaTree). refused (over_limit (part_limit x))) (one_goal c e (sym some ∙ some')) ∙ sym is')
+    is ∙ (ap (λ (x : PlainGoal FormulaTree). refused (over_limit (part_limit x))) (same_Some c e (sym some ∙ some')) ∙ sym is')
 goal_parts_decide name p Then next a b (inr (c, some, inl (many, is))) (inr (e, some', inr (few, then))) = absurd (not_many c e (sym some ∙ some') many few)
 goal_parts_decide name p Then next a b (inr (c, some, inr (few, then))) (inr (e, some', inl (many, is))) = absurd (not_many e c (sym some' ∙ some) many few)
 goal_parts_decide name p Then next a b (inr (c, some, inr (few, then))) (inr (e, some', inr (few', then'))) = next a b then then'

@@ -5,6 +5,7 @@ use Rattle.std.specs.Prelude.{◌≡◌, ◌<◌, ◌≤◌, ◌⊎◌, ℕ, fal
 use Rattle.std.specs.Prelude.{nat_le, Bool}
 use Rattle.std.specs.Option.{option_and_then, option_map_or}
 use Rattle.ctl_syntax.specs.ContextGoals.{PlainGoal, plain_goal, plain_patrol, plain_until}
+use Rattle.ctl_syntax.specs.GoalSizes.{most_stages, most_visits}
 use Rattle.pddl_ast.specs.Trees.{FormulaTree, ProblemTree}
 use Rattle.pddl_system.specs.CtlGoals.{ctl_tree}
 use Rattle.sexpr_text.specs.declared.faults.FaultKind.TheVariants.{NotChain}
@@ -19,13 +20,6 @@ context_goal problem = option_and_then (λ goal. plain_goal (ctl_tree goal)) pro
 abbrev pub part_count : {P : Type 0} → PlainGoal P → ℕ
 part_count (plain_until chain) = length chain.stages
 part_count (plain_patrol visits) = length visits
-
--- the most stages of an until-chain, and the most visits of a patrol goal
-abbrev pub most_stages : ℕ
-most_stages = 32
-
-abbrev pub most_visits : ℕ
-most_visits = 8
 
 abbrev pub most_parts : {P : Type 0} → PlainGoal P → ℕ
 most_parts (plain_until chain) = most_stages

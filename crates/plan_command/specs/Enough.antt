@@ -20,11 +20,12 @@ use Rattle.task_core.specs.declared.classes.Class.TheVariants.{Weak, Strong, Cyc
 use Rattle.task_core.specs.declared.tasks.Task.{Task}
 use Rattle.pddl_system.specs.Systems.{system}
 use Rattle.plan_command.specs.ContextGoals.{stage_count}
-use Rattle.plan_command.specs.GoalConditions.{IsGoalOf, count_of}
+use Rattle.plan_command.specs.GoalConditions.{IsGoalOf}
 use Rattle.command_base.specs.Grounded.{IsTaskOf}
 use Rattle.command_base.specs.Words.{PlanKind, of_class, with_contexts}
 use Rattle.task_sets.specs.FullTables.{IsFull, IsFullForBoth}
 use Rattle.task_sets.specs.NodeRoom.{IsTightLimit}
+use Rattle.ctl_syntax.specs.GoalSizes.{count_of}
 
 -- nodes that are enough where each set that the search makes has at most w of them, the constants
 -- included, however many fluents there are: those of the sets that are kept for the task, of the

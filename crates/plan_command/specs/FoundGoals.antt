@@ -20,13 +20,14 @@ use Rattle.task_core.specs.Tasks.{initial_states, system_of}
 use Rattle.task_core.specs.declared.tasks.Task.{Task}
 use Rattle.command_base.specs.Answers.{Answer, affirmed, denied}
 use Rattle.plan_command.specs.ContextGoals.{context_goal, most_parts, part_count, part_limit}
-use Rattle.plan_command.specs.GoalConditions.{HasSomeVisit, IsGoalOf, count_of, limit_of_goal}
-use Rattle.plan_command.specs.GoalConditions.{most_of, sets_of_goal}
+use Rattle.plan_command.specs.GoalConditions.{IsGoalOf, limit_of_goal}
+use Rattle.plan_command.specs.GoalConditions.{sets_of_goal}
 use Rattle.plan_command.specs.GoalSets.{GoalSets, HasNoGoalPlan, HasSets, IsGoalPlan, contexts_for}
 use Rattle.plan_command.specs.GoalSets.{goal_sets, rules_for}
 use Rattle.plan_command.specs.PlanCommand.{no_plan_text}
 use Rattle.plan_meets.specs.TemporalGoals.{HasGoal}
 use Rattle.command_base.specs.Words.{Bytes}
+use Rattle.ctl_syntax.specs.GoalSizes.{HasSomeVisit, count_of, most_of}
 
 -- Private: the plan is the one that is printed, and has the goal
 pub record IsPlanFor (task : Task) (sets : GoalSets) (plan : AutoPlan) : Type 0 where

@@ -1,6 +1,6 @@
 -- The goals that plans with contexts are looked for, as conditions over the fluents: those of a
 -- problem's goal, and those that the program has.
-use Rattle.std.specs.Prelude.{◌≡◌, ℕ, ◌≤◌, List, [], length, map, Option, Some, codes, ⊤}
+use Rattle.std.specs.Prelude.{◌≡◌, ℕ, List, [], map, Option, Some, codes}
 use Rattle.std.specs.Option.{option_map, option_map_or}
 use Rattle.ctl_syntax.specs.Conditions.{CondTree, all_of, condition_row}
 use Rattle.ctl_syntax.specs.ContextGoals.{PlainGoal, plain_patrol, plain_until}
@@ -13,7 +13,7 @@ use Rattle.pddl_ast.specs.Trees.{DomainTree, FormulaTree, ProblemTree}
 use Rattle.pddl_system.specs.Fluents.{fluents}
 use Rattle.pddl_system.specs.Settings.{setting}
 use Rattle.pddl_system.specs.Tasks.{condition_of}
-use Rattle.plan_command.specs.ContextGoals.{context_goal, most_stages, most_visits}
+use Rattle.plan_command.specs.ContextGoals.{context_goal}
 use Rattle.plan_command.specs.GoalSets.{GoalSets, of_patrol, of_until}
 use Rattle.command_base.specs.Words.{Bytes}
 
@@ -54,24 +54,10 @@ abbrev pub IsGoalOf : DomainTree → ProblemTree → ContextGoal → Type 0
 IsGoalOf domain problem goal =
     Some (tree_of_goal goal) ≡ option_map (grounded_parts domain problem) (context_goal problem)
 
--- how many stages or visits it has
-abbrev pub count_of : ContextGoal → ℕ
-count_of (Until chain) = length chain.stages.items
-count_of (Patrol visits) = length visits.items
-
--- Private: how many it may have, and the name of that limit
-abbrev pub most_of : ContextGoal → ℕ
-most_of (Until chain) = most_stages
-most_of (Patrol visits) = most_visits
-
+-- Private: the name of the limit on its stages or visits
 abbrev pub limit_of_goal : ContextGoal → Bytes
 limit_of_goal (Until chain) = codes "stages"
 limit_of_goal (Patrol visits) = codes "patrol"
-
--- Private: a patrol goal has a visit
-abbrev pub HasSomeVisit : ContextGoal → Type 0
-HasSomeVisit (Until chain) = ⊤
-HasSomeVisit (Patrol visits) = 1 ≤ length visits.items
 
 -- Private: its sets of states
 abbrev pub sets_of_goal : ContextGoal → GoalSets

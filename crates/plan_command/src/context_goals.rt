@@ -2,8 +2,9 @@
 //! have.
 
 ghost use Rattle.command_base.specs.Values.{limit_of};
-ghost use Rattle.plan_command.specs.GoalConditions.{count_of, limit_of_goal, most_of};
+ghost use Rattle.plan_command.specs.GoalConditions.{limit_of_goal};
 ghost use Rattle.std.specs.Prelude.{◌≡◌};
+ghost use Rattle.ctl_syntax.specs.GoalSizes.{count_of, most_of};
 
 use command_base::Limit;
 use ctl_syntax::ContextGoal;

@@ -9,11 +9,12 @@ ghost use Rattle.patrol_plan.specs.PatrolWorkingSets.{BoundsPatrolSets};
 ghost use Rattle.patrol_plan.specs.WorkingSets.{BoundsUntilSets};
 ghost use Rattle.plan_command.specs.Enough.{BoundsGoalSets, IsTightForGoal};
 ghost use Rattle.plan_command.specs.FoundGoals.{IsGoalSearched, IsGoalSearchedFrom};
-ghost use Rattle.plan_command.specs.GoalConditions.{IsGoalOver, count_of, sets_of_goal};
+ghost use Rattle.plan_command.specs.GoalConditions.{IsGoalOver, sets_of_goal};
 ghost use Rattle.plan_command.specs.GoalSets.{of_patrol, of_until};
 ghost use Rattle.std.specs.Prelude.{◌≡◌, ◌+◌, ◌*◌, [], IsErrOf, length, ℕ};
 ghost use Rattle.task_core.specs.Tasks.{action_count, fluent_count, initial_states};
 ghost use Rattle.task_sets.specs.FullTables.{IsTightToEncode};
+ghost use Rattle.ctl_syntax.specs.GoalSizes.{count_of};
 
 use ctl_syntax::{ContextGoal, UntilChain};
 use dd_sets::{SetErr, no_room_is_small, no_room_is_tight, tight_is_monotone};

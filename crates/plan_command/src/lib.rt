@@ -13,5 +13,5 @@ mod plan_command;
 mod planned;
 
 pub use class_search::find_plan;
-pub use plan_command::{find_grounded, plan_files, plan_grounded};
+pub use plan_command::{certified_text, find_grounded, plan_files, plan_grounded};
 pub use planned::Planned;

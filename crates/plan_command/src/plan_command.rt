@@ -233,7 +233,11 @@ fn plan_task(alloc: Global, wanted: &ClassSearch, task: &Task) -> Result<Option<
 }
 
 /// What is shown where there is no plan, with the certificate of that.
-fn certified_text(alloc: Global, certificate: &Certificate, task: &Task) -> Result<Text, AllocError>
+pub fn certified_text(
+    alloc: Global,
+    certificate: &Certificate,
+    task: &Task,
+) -> Result<Text, AllocError>
     requires { IsCertificateOf (fluent_count task.now) certificate.now }
     ensures text { IfOk result (λ text. bytes_of text ≡ no_plan_text
         ++ certificate_text (fluent_names task.now) (plain_certificate certificate.now)) }

@@ -31,7 +31,7 @@ use Rattle.list_laws.proofs.Options.{nil-first, nil-second, in_option}
 pub a_flaw : {P : Type 0} (f : Flaw) → f ∷ [] ≡ [] → P
 a_flaw f e = absurd (let none : ⊥ = cc in none)
 
-in_groups : {X : Type 0} (P : X → Type 0) (flaws : Span → Forest → List Flaw) (tree : Forest → X)
+pub in_groups : {X : Type 0} (P : X → Type 0) (flaws : Span → Forest → List Flaw) (tree : Forest → X)
     → ((span : Span) (parts : Forest) → flaws span parts ≡ [] → P (tree parts)) → (row : Forest) → flaws_of_groups flaws row ≡ [] → All P (each_group tree row)
 in_groups P flaws tree each nothing h = All-nil P
 in_groups P flaws tree each (word span text rest) h = a_flaw (flaw_at span BadForm) (cc)

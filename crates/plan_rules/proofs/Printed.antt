@@ -1,5 +1,6 @@
 -- What is printed of a table plan spells it.
-use Rattle.std.proofs.Common.{◌≡◌, ℕ, suc, ◌<◌, Bool, true, false, ◌&&◌, List, [], ◌∷◌, ◌++◌, map, length, codes, refl, sym, subst, append_assoc}
+use Rattle.std.proofs.Common.{◌≡◌, ℕ, suc, ◌<◌, Bool, true, false, List, [], ◌∷◌, ◌++◌, map, length, codes, refl, sym, subst, append_assoc}
+use Rattle.std.proofs.lemmas.Bool.{and_parts}
 use Rattle.std.specs.Prelude.{if◌then◌else◌}
 use Rattle.std.specs.List.{All, flat_map, list_all}
 use Rattle.std.proofs.lemmas.List.Elements.{All-nil, All-cons, All-head, All-tail}
@@ -16,15 +17,11 @@ use Rattle.task_core.specs.declared.classes.Class.{Class}
 use Rattle.task_core.specs.declared.classes.Class.TheVariants.{Weak, Strong, Cyclic}
 use Rattle.plan_rules.proofs.Pieces.{Stops, Reads, reads_none, reads_space, reads_word, reads_then, reads_group}
 
-both : (v w : Bool) → (v && w) ≡ true → (v ≡ true) × (w ≡ true)
-both true w h = (refl, h)
-both false w h = cc
-
 -- a word of the layout itself, by computing
 plain_bytes : (w : List ℕ) → list_all is_lower_word_byte w ≡ true → All (λ c. is_lower_word_byte c ≡ true) w
 plain_bytes [] h = All-nil (λ c. is_lower_word_byte c ≡ true)
 plain_bytes (c ∷ w) h =
-    let parts = both (is_lower_word_byte c) (list_all is_lower_word_byte w) h in
+    let parts = and_parts (is_lower_word_byte c) (list_all is_lower_word_byte w) h in
     All-cons (λ c. is_lower_word_byte c ≡ true) c w parts.0 (plain_bytes w parts.1)
 
 pub fixed : (c : ℕ) (w : List ℕ) → list_all is_lower_word_byte (c ∷ w) ≡ true → IsWord (c ∷ w)
@@ -135,7 +132,7 @@ class_is_word Weak = fixed 119 (codes "eak") refl
 class_is_word Strong = fixed 115 (codes "trong") refl
 class_is_word Cyclic = fixed 99 (codes "yclic") refl
 
-table_shape : (w z : List ℕ) → codes "(plan table " ++ w ++ line_feed ++ z ++ codes ")" ++ line_feed ≡ in_parentheses (codes "plan" ++ (32 ∷ (codes "table" ++ (32 ∷ (w ++ (10 ∷ z)))))) ++ 10 ∷ []
+pub table_shape : (w z : List ℕ) → codes "(plan table " ++ w ++ line_feed ++ z ++ codes ")" ++ line_feed ≡ in_parentheses (codes "plan" ++ (32 ∷ (codes "table" ++ (32 ∷ (w ++ (10 ∷ z)))))) ++ 10 ∷ []
 table_shape w z = simp append_assoc
 
 abbrev pub table_row : List Name → List Name → Class → List PlanRule → Row

@@ -23,7 +23,7 @@ abbrev pub context_rule_row : List Name → List Name → ContextRule → Row
 context_rule_row fluents actions rule =
     word (codes "rule") (word (decimal rule.context) (group (cube_row fluents rule.cube) (group (words (name_at actions rule.action)) (next_row fluents rule.next))))
 
-context-word : (contexts n : ℕ) → contexts ≤ most_contexts → IsContextOf contexts n → IsWord (decimal n)
+pub context-word : (contexts n : ℕ) → contexts ≤ most_contexts → IsContextOf contexts n → IsWord (decimal n)
 context-word contexts n small is = let high : n ≤ contexts = is.last in decimal-word n (omega arith)
 
 case_shape : (x n : List ℕ) → in_parentheses (x ++ codes " " ++ n) ≡ in_parentheses (x ++ (32 ∷ n))
@@ -47,7 +47,7 @@ reads_next fluents contexts d (by_cases cases) small names all =
     (reads_spaced (IsCaseOf (length fluents) contexts) (case_text fluents) (case_row fluents) (suc (suc (suc (suc d)))) cases
     (λ c is. reads_case fluents contexts d c small names is) all)
 
-rule_shape : (n x y z : List ℕ) → codes "  (rule " ++ n ++ codes " " ++ x ++ codes " " ++ y ++ codes " " ++ z ++ codes ")" ++ line_feed ≡ 32 ∷ 32 ∷ (in_parentheses (codes "rule" ++ (32 ∷ (n ++ (32 ∷ (x ++ (32 ∷ (y ++ (32 ∷ z)))))))) ++ 10 ∷ [])
+pub rule_shape : (n x y z : List ℕ) → codes "  (rule " ++ n ++ codes " " ++ x ++ codes " " ++ y ++ codes " " ++ z ++ codes ")" ++ line_feed ≡ 32 ∷ 32 ∷ (in_parentheses (codes "rule" ++ (32 ∷ (n ++ (32 ∷ (x ++ (32 ∷ (y ++ (32 ∷ z)))))))) ++ 10 ∷ [])
 rule_shape n x y z = simp append_assoc
 
 reads_rule : (fluents actions : List Name) (contexts d : ℕ) (rule : ContextRule) → contexts ≤ most_contexts → AreSpellable fluents actions → IsContextRuleOf (length fluents) (length actions) contexts rule
@@ -82,7 +82,7 @@ reads_rule fluents actions contexts d rule small names is =
     (reads_space 32 (32 ∷ (in_parentheses inner ++ 10 ∷ [])) (suc e) (group row nil) refl
     (reads_space 32 (in_parentheses inner ++ 10 ∷ []) (suc e) (group row nil) refl whole))
 
-automaton_shape : (w z : List ℕ) → codes "(plan automaton " ++ w ++ line_feed ++ z ++ codes ")" ++ line_feed ≡ in_parentheses (codes "plan" ++ (32 ∷ (codes "automaton" ++ (32 ∷ (w ++ (10 ∷ z)))))) ++ 10 ∷ []
+pub automaton_shape : (w z : List ℕ) → codes "(plan automaton " ++ w ++ line_feed ++ z ++ codes ")" ++ line_feed ≡ in_parentheses (codes "plan" ++ (32 ∷ (codes "automaton" ++ (32 ∷ (w ++ (10 ∷ z)))))) ++ 10 ∷ []
 automaton_shape w z = simp append_assoc
 
 abbrev pub automaton_row : List Name → List Name → ℕ → List ContextRule → Row

@@ -42,7 +42,7 @@ class-named span Strong = refl
 class-named span Cyclic = refl
 
 -- the row of a plan's list after the word `plan`
-abbrev kind_row : PlainPlan → List Name → List Name → Row
+abbrev pub kind_row : PlainPlan → List Name → List Name → Row
 kind_row (table class rules) fluents actions = row.word (codes "table") (row.word (class_word class) (groups (rule_row fluents actions) rules))
 kind_row (automaton contexts rules) fluents actions = row.word (codes "automaton") (row.word (decimal contexts) (groups (context_rule_row fluents actions) rules))
 
@@ -71,7 +71,7 @@ plan-read fluents actions (automaton contexts rules) names is span f e =
     (record { none = lines.none; same = ap (automaton contexts) lines.same }))
 
 -- a text whose forms are the list of a plan
-from-row : (fluents actions : List Name) (p : PlainPlan) (b : List ℕ) (t : Forest) → AreSpellable fluents actions → IsPlainPlanOf (length fluents) (length actions) p
+pub from-row : (fluents actions : List Name) (p : PlainPlan) (b : List ℕ) (t : Forest) → AreSpellable fluents actions → IsPlainPlanOf (length fluents) (length actions) p
     → SpellsTrees b t → row_of t ≡ row.group (row.word (codes "plan") (kind_row p fluents actions)) row.nil → SpellsPlain fluents actions b p
 from-row fluents actions p b t names is s e =
     let a = first-group t (row.word (codes "plan") (kind_row p fluents actions)) row.nil e in

@@ -2,8 +2,8 @@
 
 ghost use Rattle.std.specs.Prelude.{◌≡◌, ◌≤◌, ◌<◌, All, IfOk, length, true};
 ghost use Rattle.ctl_syntax.specs.GoalValues.{EachInStage};
-ghost use Rattle.patrol_plan.specs.Chains.{IsConditionOver, IsUntilOver};
-ghost use Rattle.task_core.specs.Conditions.{ids_below, is_shallow};
+ghost use Rattle.patrol_plan.specs.Chains.{IsUntilOver};
+ghost use Rattle.task_core.specs.Conditions.{IsConditionOver, ids_below, is_shallow};
 ghost use Rattle.task_core.specs.Tasks.{fluent_count};
 
 use ctl_syntax::{UntilChain, UntilStage};

@@ -3,8 +3,8 @@
 
 ghost use Rattle.std.specs.Prelude.{◌≡◌, ◌<◌, IfOk, IsSome, true};
 ghost use Rattle.encode_task.specs.Made.{MadeOf};
-ghost use Rattle.patrol_plan.specs.Chains.{IsConditionOver, IsUntilOver};
-ghost use Rattle.task_core.specs.Conditions.{ids_below};
+ghost use Rattle.patrol_plan.specs.Chains.{IsUntilOver};
+ghost use Rattle.task_core.specs.Conditions.{IsConditionOver, ids_below};
 ghost use Rattle.task_core.specs.Tasks.{action_count, fluent_count};
 
 use crate::encode_tests::table;

@@ -19,13 +19,14 @@ use Rattle.command_base.specs.Following.{HasTooManyStates, most_followed}
 use Rattle.command_base.specs.Grounding.{GroundThen, limit_name}
 use Rattle.command_base.specs.InitialStates.{empty_init}
 use Rattle.command_base.specs.PlanFiles.{IsFaultyPlan, PlacedPlan, SpellsPlaced}
-use Rattle.command_base.specs.Reading.{Holds, IsRefusedFile, ReadThen}
+use Rattle.command_base.specs.Reading.{Holds, IsRefusedFile}
 use Rattle.replay_command.specs.ReplayCommand.{FirstThen, IsFaultyRecord, IsFirstState, IsReplay, IsReplayed, NumberThen, RecordThen, ReplayThen, Tallies, trace_under}
 use Rattle.command_base.specs.Words.{Bytes, ReplayWords}
 use Rattle.command_base.proofs.TooMany.{too_many as too_many_states, too_many_back as too_many_states_back}
 use Rattle.command_base.proofs.Initials.{initial_map}
 use Rattle.command_base.proofs.Later.{file_refused, next_answer, read_over}
 use Rattle.command_base.proofs.TaskNames.{same_actions, same_fluents}
+use Rattle.command_base.proofs.WhatFollows.{ground_map, then_map}
 
 -- a task has too many initial states exactly where its domain and problem have
 too_many : (d : DomainTree) (p : ProblemTree) (t : Task) → task_value t ≡ task_of d p → HasTooManyInitial t most_followed → HasTooManyStates d p
@@ -52,11 +53,6 @@ record_later held held' failed failed' tallies name actions TooMany empty sys pl
     inr (record_over held held' failed failed' tallies name actions TooMany empty sys plan a same over is)
 
 -- and so of both files
-then_map : {X : Type 0} (held : Bytes → Held) (failed : Bytes → Type 0) (name : Bytes) (Spells : Bytes → X → Type 0) (Wrong : Bytes → Bytes → Refusal → Type 0) (P Q : X → Answer → Type 0) (a : Answer)
-    → ((x : X) → P x a → Q x a) → ReadThen held failed name Spells Wrong P a → ReadThen held failed name Spells Wrong Q a
-then_map held failed name Spells Wrong P Q a f (inl why) = inl why
-then_map held failed name Spells Wrong P Q a f (inr (x, holds, then)) = inr (x, holds, f x then)
-
 files_over : (held held' : Bytes → Held) (failed failed' : Bytes → Type 0) (tallies : Tallies) (asked : ReplayWords) (fluents actions : List Name) (TooMany : Type 0) (empty : Refusal) (sys : System) (a : Answer)
     → ((file : Bytes) → held' file ≡ held file) → ((file : Bytes) → failed' file → failed file)
     → ReplayThen held' failed' tallies asked fluents actions TooMany empty sys a → ReplayThen held failed tallies asked fluents actions TooMany empty sys a
@@ -67,10 +63,6 @@ files_over held held' failed failed' tallies asked fluents actions TooMany empty
     (λ placed. record_over held held' failed failed' tallies asked.recorded actions TooMany empty sys placed.plan a same (over asked.recorded))
     (read_over held held' failed failed' asked.plan (SpellsPlaced fluents actions) (IsFaultyPlan fluents actions)
     (λ placed. RecordThen held' failed' tallies asked.recorded actions TooMany empty sys placed.plan) a same (over asked.plan) then)
-
-ground_map : (d : DomainTree) (p : ProblemTree) (P Q : Answer → Type 0) (a : Answer) → (P a → Q a) → GroundThen d p P a → GroundThen d p Q a
-ground_map d p P Q a f (inl why) = inl why
-ground_map d p P Q a f (inr (kept, then)) = inr (kept, f then)
 
 pub replay_later : (held held' : Bytes → Held) (failed failed' : Bytes → Type 0) (tallies : Tallies) (asked : ReplayWords) (d : DomainTree) (p : ProblemTree) (a : Answer)
     → ((file : Bytes) → held' file ≡ held file) → ((file : Bytes) → failed' file → failed file)

@@ -1,5 +1,5 @@
 -- The digits of a numeral.
-use Rattle.std.proofs.Common.{◌≡◌, ℕ, zero, suc, ◌+◌, ◌-◌, ◌*◌, ◌^◌, ◌<◌, ◌≤◌, Bool, true, false, ◌&&◌, List, [], ◌∷◌, length, get_or, take, refl, ap, ◌∙◌, arith, lit<, lit≤}
+use Rattle.std.proofs.Common.{◌≡◌, ℕ, zero, suc, ◌+◌, ◌-◌, ◌*◌, ◌^◌, ◌<◌, ◌≤◌, Bool, true, false, ◌&&◌, List, [], ◌∷◌, length, get_or, take, refl, ap, subst, ◌∙◌, arith, lit<, lit≤}
 use Rattle.std.specs.Prelude.{nat_lt, nat_le}
 use Rattle.std.specs.List.{list_all}
 use Rattle.std.specs.Char.{is_ascii_digit, digit_value}
@@ -7,6 +7,7 @@ use Rattle.std.specs.Str.Parse.{AllDigits, digits_value}
 use Rattle.std.proofs.lemmas.Bool.Decides.{nat_tests}
 use Rattle.std.proofs.lemmas.Int.Digits.{digits_value-lt, digits_value_more}
 use Rattle.std.proofs.lemmas.Str.Parse.{digits_value-take-le}
+use Rattle.std.proofs.lemmas.List.{take_all}
 use Rattle.std.proofs.Math.Nat.{pow-le-pow_right}
 use Rattle.sexpr_text.specs.Numerals.{is_numeral}
 use Rattle.list_laws.proofs.Booleans.{and_first, and_second}
@@ -57,3 +58,15 @@ number_so_far ds i h k =
     let power : 10 ^ length ds ≤ 10 ^ 9 = pow-le-pow_right (lit< tt) short in
     let most : 10 ^ 9 ≡ 1000000000 = refl in
     record { next = d; more = e ∙ ap (λ v. digits_value 10 (take i ds) * 10 + v) d.value; small = omega arith }
+
+some_digits : (ds : List ℕ) → is_numeral ds ≡ true → 1 ≤ length ds
+some_digits [] h = cc
+some_digits (d ∷ ds) h = omega arith
+
+-- nine digits write a small number
+pub small_number : (ds : List ℕ) → is_numeral ds ≡ true → digits_value 10 ds < 1000000000
+small_number ds h =
+    let some : 1 ≤ length ds = some_digits ds h in
+    let s = number_so_far ds (length ds - 1) h (omega arith) in
+    let all : take (length ds - 1 + 1) ds ≡ ds = take_all (length ds - 1 + 1) ds (omega arith) in
+    subst (λ xs. digits_value 10 xs < 1000000000) all s.small

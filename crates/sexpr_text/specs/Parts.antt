@@ -14,6 +14,12 @@ is_nothing nothing = true
 is_nothing (word span text rest) = false
 is_nothing (group span parts rest) = false
 
+-- whether there is exactly one form
+abbrev pub is_one : Forest → Bool
+is_one nothing = false
+is_one (word span text rest) = is_nothing rest
+is_one (group span parts rest) = is_nothing rest
+
 -- a word that is the whole row, with its span
 abbrev pub only_word : Forest → Option (Span × List ℕ)
 only_word nothing = None

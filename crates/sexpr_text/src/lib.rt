@@ -30,10 +30,10 @@ pub use flaw_laws::{
 pub use forms::{Form, Place, Span};
 pub use groups::{GroupReader, fault_at, read_groups};
 pub use laws::{fault_rules_out_forms, one_fault, one_spelling, spelled_or_faulty};
-pub use numerals::numeral;
+pub use numerals::{numeral, numeral_in};
 pub use parts::{
     Head, View, after_word, begins_with, first_definition, first_group, group_after, head_of,
-    is_definition, is_name, is_nothing, is_titled, only_group, only_word,
+    is_definition, is_name, is_nothing, is_one, is_titled, only_group, only_word,
 };
 pub use read::{MAX_BYTES, MAX_DEPTH, read_forms};
 pub use texts::Text;

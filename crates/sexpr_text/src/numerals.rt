@@ -1,6 +1,6 @@
 //! Numbers in texts.
 
-ghost use Rattle.std.specs.Prelude.{◌≡◌, ◌<◌, true, length};
+ghost use Rattle.std.specs.Prelude.{◌≡◌, ◌<◌, ◌≤◌, IfSome, true, length};
 ghost use Rattle.std.specs.Char.{is_ascii_digit};
 ghost use Rattle.std.specs.List.{list_all};
 ghost use Rattle.std.specs.Str.Parse.{digits_value};
@@ -16,7 +16,15 @@ const MAX_DIGITS: usize = 9;
 pub fn numeral(text: &Text) -> Option<u32>
     ensures { result ≡ numerals.numeral text.now }
 {
-    let digits = text.as_bytes();
+    numeral_in(text.as_bytes())
+}
+
+/// The same of a text that is part of a word, with what is known of its size.
+pub fn numeral_in(digits: &[u8]) -> Option<u32>
+    ensures value { result ≡ numerals.numeral digits.now }
+    ensures bound { IfSome result (λ n. n < 1000000000) }
+    ensures short { IfSome result (λ n. length digits.now ≤ 9) }
+{
     if is_numeral(digits) {
         Some(number(digits))
     } else {
@@ -41,7 +49,8 @@ fn are_digits(text: &[u8]) -> bool
 // The number that the digits write.
 fn number(digits: &[u8]) -> u32
     requires { numerals.is_numeral digits.now ≡ true }
-    ensures { result ≡ digits_value 10 digits.now }
+    ensures value { result ≡ digits_value 10 digits.now }
+    ensures bound { result < 1000000000 }
 {
     let mut number = 0;
     for digit in digits {

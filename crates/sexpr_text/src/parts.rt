@@ -59,6 +59,17 @@ pub fn is_nothing(row: &[Form]) -> bool
     matches!(head_of(row), Head::Nothing)
 }
 
+/// Whether there is exactly one form.
+pub fn is_one(row: &[Form]) -> bool
+    ensures { result ≡ parts.is_one (forest_of row.now) }
+{
+    match head_of(row) {
+        Head::Nothing => false,
+        Head::Word(_, _, rest) => is_nothing(rest),
+        Head::Group(_, _, rest) => is_nothing(rest),
+    }
+}
+
 /// The word that is the whole row, with its span.
 pub fn only_word(row: &[Form]) -> Option<(Span, &Text)>
     ensures { option_map (λ p. (p.0, p.1.now)) result ≡ parts.only_word (forest_of row.now) }

@@ -64,3 +64,8 @@ depth = fold-Cond ℕ depth_step
 -- whether a condition is at most 200 deep
 abbrev pub is_shallow : Cond → Bool
 is_shallow cond = nat_le (depth cond) 200
+
+-- it names the first fluents alone, and is at most 200 deep
+pub record IsConditionOver (fluents : ℕ) (cond : Cond) : Type 0 where
+  pub names : ids_below fluents cond ≡ true
+  pub shallow : is_shallow cond ≡ true

@@ -5,9 +5,9 @@ ghost use Rattle.command_base.specs.Answers.{full, no_memory, refused};
 ghost use Rattle.command_base.specs.Grounded.{IsGroundedOf};
 ghost use Rattle.command_base.specs.Grounding.{has_goal_for};
 ghost use Rattle.command_base.specs.Values.{answer_of, bytes_of, kind_of, plan_words_of};
-ghost use Rattle.command_base.specs.Words.{IsNodeLimit, kind_word as word_of, of_class};
+ghost use Rattle.command_base.specs.Words.{IsNodeLimit, kind_word as word_of_kind, of_class};
 ghost use Rattle.pddl_ast.specs.Values.{domain_value, problem_value};
-ghost use Rattle.plan_command.specs.PlanCommand.{MayBeTooFew, PlanThen};
+ghost use Rattle.plan_command.specs.PlanCommand.{MayBeTooFew};
 ghost use Rattle.why_plan.specs.Lines.{files_end, problem_end, question};
 ghost use Rattle.why_plan.specs.Tried.{HasSaid, HasTried};
 ghost use Rattle.why_plan.specs.Whys.{
@@ -22,7 +22,7 @@ use command_base::{PlanKind, PlanWords, Refusal, Shown, Text};
 use ground_task::Grounded;
 use pddl_ast::{Domain, Problem};
 use plan_command::plan_grounded;
-use plan_rules::Class;
+use plan_rules::{Class, word_of};
 use std::alloc::{AllocError, Global};
 
 /// The domain and the problem, and the task that they are grounded to.
@@ -112,12 +112,10 @@ fn push_none(text: &mut Vec<u8>, kind: PlanKind) -> Result<(), AllocError>
 
 /// The word of a kind of plans.
 fn kind_word(kind: PlanKind) -> &'static str
-    ensures { result.now ≡ word_of (kind_of kind) }
+    ensures { result.now ≡ word_of_kind (kind_of kind) }
 {
     match kind {
-        PlanKind::Class(Class::Weak) => "weak",
-        PlanKind::Class(Class::Strong) => "strong",
-        PlanKind::Class(Class::Cyclic) => "cyclic",
+        PlanKind::Class(class) => word_of(class),
         PlanKind::Contexts => "ctl",
     }
 }

@@ -1,25 +1,20 @@
-use Rattle.std.proofs.Common.{map, string_bytes, subst}
 use Rattle.plan_io.specs.Fetches.{FailedLast}
-use Rattle.answer_help.specs.Helped.{IsHelpFor}
-use Rattle.answer_help.specs.Keeping.{KeepsAfter, faults_by, held_by}
-use Rattle.answer_help.specs.WrongWords.{WrongWords}
 use Rattle.command_base.specs.Values.{answer_of}
-use Rattle.controller_plan.proofs.Answers.{has_controlled, told_after}
+use Rattle.answer_help.specs.Keeping.{KeepsAfter, faults_by, held_by}
+use Rattle.answer_help.proofs.HelpedFrames.{helped_run, over_both}
+use Rattle.controller_words.specs.FairWords.{SaysRequest, domain_of, problem_of}
+use Rattle.controller_words.specs.WrongWords.{wrong_control}
+use Rattle.controller_plan.specs.Runs.{FetchesForControl, IsRequestAnswer}
 use Rattle.controller_plan.proofs.top.control.Goals as goal
 
 pub returns : goal.returns
 returns g c =
     let held = g.S.Shelf.held in
-    let faults = g.S.Shelf.faults in
-    let fetched = g.S.Shelf.fetched in
+    let fetched = KeepsAfter held g.S.Shelf.fetched in
     let before = c.args.shelf.now in
     let after = c.answer-found.new.shelf in
-    let failed = FailedLast (KeepsAfter held fetched) (faults_by faults) before after in
-    let words = map string_bytes c.args.words.now in
-    let answer = answer_of c.answer-found.result in
+    let failed = FailedLast fetched (faults_by g.S.Shelf.faults) before after in
     let found = c.answer-found.ensures in
-    let told = told_after held failed fetched words answer before after c.requires found.cause found.fetches found.no_fetch in
-    let given = c.deliver_helped.ensures told in
-    let helps = subst (λ (wrong : WrongWords). IsHelpFor (held_by held after) wrong given.0 given.1) c.wrong_control.ensures given.3 in
-    has_controlled (held_by held) (faults_by faults) (KeepsAfter held fetched) _ answer given.0 given.1 found.cause found.fetches found.no_fetch found.shelf.quiet_at found.shelf.kept found.shelf.later
-    given.2 helps given.4
+    helped_run SaysRequest (IsRequestAnswer (held_by held before) failed) (FetchesForControl (held_by held before) fetched) wrong_control held g.S.Shelf.faults _
+    (λ asked a did. did) (λ asked a. over_both held g.S.Shelf.fetched (domain_of asked) (problem_of asked) before after)
+    (answer_of c.answer-found.result) found.cause found.fetches found.no_fetch c.requires found.shelf c.wrong_control.result c.wrong_control.ensures c.deliver_helped.ensures

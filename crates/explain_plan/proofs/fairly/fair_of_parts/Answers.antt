@@ -1,7 +1,8 @@
 use Rattle.std.proofs.Common.{inr, refl}
 use Rattle.fair_theory.specs.FairGoals.{most_fair_stages, stage_count}
 use Rattle.ctl_syntax.specs.GoalValues.{tree_of_goal}
-use Rattle.explain_plan.proofs.Fairness.{many_stages, translated_names}
+use Rattle.explain_plan.proofs.Fairness.{many_stages}
+use Rattle.fair_theory.proofs.NamesBelow.{translated_names}
 use Rattle.explain_plan.proofs.fairly.fair_of_parts.Goals as goal
 
 pub returns-then-not-has_few_stages-clause-refused : goal.returns-then-not-has_few_stages-clause-refused

@@ -1,8 +1,9 @@
 use Rattle.std.proofs.Common.{◌∙◌, ap, arith}
 use Rattle.ctl_syntax.specs.declared.context_goals.ContextGoal.{ContextGoal}
-use Rattle.fair_plan.specs.Goals.{contexts_of, count_of}
+use Rattle.fair_plan.specs.Goals.{contexts_of}
 use Rattle.fair_plan.proofs.Boards.{leaves_with}
 use Rattle.fair_plan.proofs.rules.list_goal.Goals as goal
+use Rattle.ctl_syntax.specs.GoalSizes.{count_of}
 
 pub returns-in-Until : goal.returns-in-Until
 returns-in-Until c origin there =

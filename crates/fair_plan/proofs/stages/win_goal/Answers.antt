@@ -6,9 +6,10 @@ use Rattle.fair_theory.specs.FairSets.{IsFairWin, IsLargestFairSet, patrol_asks}
 use Rattle.task_core.specs.declared.conditions.Cond.{Cond}
 use Rattle.slot_board.specs.Board.{Scene}
 use Rattle.fair_plan.specs.Boards.{Leaves, actions_of, states_in, sys_of}
-use Rattle.fair_plan.specs.Goals.{IsFairGoalOver, IsPatrolOver, count_of}
+use Rattle.fair_plan.specs.Goals.{IsFairGoalOver, IsPatrolOver}
 use Rattle.fair_plan.specs.Places.{win_place}
 use Rattle.fair_plan.proofs.stages.win_goal.Goals as goal
+use Rattle.ctl_syntax.specs.GoalSizes.{count_of}
 
 pub win_chain-requires-clause-chain : goal.win_chain-requires-clause-chain
 win_chain-requires-clause-chain c = subst (λ (g : ContextGoal). IsFairGoalOver c.args.enc.now.sets.vars g) c.in-Until.is c.requires.goal

@@ -1,7 +1,8 @@
 use Rattle.std.proofs.Common.{◌∙◌, ap, arith, subst}
 use Rattle.ctl_syntax.specs.declared.context_goals.ContextGoal.{ContextGoal}
-use Rattle.fair_plan.specs.Goals.{IsFairGoalOver, count_of}
+use Rattle.fair_plan.specs.Goals.{IsFairGoalOver}
 use Rattle.fair_plan.proofs.takers.take_goal.Goals as goal
+use Rattle.ctl_syntax.specs.GoalSizes.{count_of}
 
 pub take_chain-requires-clause-chain : goal.take_chain-requires-clause-chain
 take_chain-requires-clause-chain c = subst (λ (g : ContextGoal). IsFairGoalOver c.args.enc.now.sets.vars g) c.in-Until.is c.requires.goal

@@ -3,8 +3,8 @@ use Rattle.std.specs.declared.alloc.Global.{Global}
 use Rattle.mistakes_command.proofs.Said.{first_two, none_json, none_judge, said}
 use Rattle.mistakes_command.proofs.words.read_words.Goals as goal
 
-pub returns-then-names_judge : goal.returns-then-names_judge
-returns-then-names_judge c =
+pub returns-then-names_kind : goal.returns-then-names_kind
+returns-then-names_kind c =
     let words = c.args.words.now in
     let parts = first_two (string_bytes {Z = Global}) words c.domain-item.result c.problem-item.result c.in-len2-up.len_at_least c.domain-item.is c.problem-item.is in
     let none = none_judge (map (string_bytes {Z = Global}) words) (string_bytes c.domain-item.result) (string_bytes c.problem-item.result)

@@ -1,25 +1,22 @@
-use Rattle.std.proofs.Common.{map, string_bytes, subst}
 use Rattle.plan_io.specs.Fetches.{FailedLast}
-use Rattle.answer_help.specs.Helped.{IsHelpFor}
-use Rattle.answer_help.specs.Keeping.{KeepsAfter, faults_by, held_by}
-use Rattle.answer_help.specs.WrongWords.{WrongWords}
 use Rattle.command_base.specs.Values.{answer_of}
-use Rattle.picture_plan.proofs.Answers.{has_pictured, told_after}
+use Rattle.answer_help.specs.Keeping.{KeepsAfter, faults_by, held_by}
+use Rattle.answer_help.proofs.HelpedFrames.{IsTold, helped_run, told_fetch}
+use Rattle.picture_plan.specs.Fetching.{FetchesToPicture}
+use Rattle.picture_plan.specs.Pictures.{IsPictureAnswer}
+use Rattle.picture_plan.specs.Words.{SaysPicture, wrong_picture}
+use Rattle.picture_plan.proofs.PictureFetched.{over_picture, picture_for_memory}
 use Rattle.picture_plan.proofs.top.picture.Goals as goal
 
 pub returns : goal.returns
 returns g c =
     let held = g.S.Shelf.held in
-    let faults = g.S.Shelf.faults in
-    let fetched = g.S.Shelf.fetched in
+    let fetched = KeepsAfter held g.S.Shelf.fetched in
     let before = c.args.shelf.now in
     let after = c.answer-found.new.shelf in
-    let failed = FailedLast (KeepsAfter held fetched) (faults_by faults) before after in
-    let words = map string_bytes c.args.words.now in
-    let answer = answer_of c.answer-found.result in
+    let failed = FailedLast fetched (faults_by g.S.Shelf.faults) before after in
     let found = c.answer-found.ensures in
-    let told = told_after held failed fetched words answer before after c.requires found.cause found.fetches found.no_fetch in
-    let given = c.deliver_helped.ensures told in
-    let helps = subst (λ (wrong : WrongWords). IsHelpFor (held_by held after) wrong given.0 given.1) c.wrong_picture.ensures given.3 in
-    has_pictured (held_by held) (faults_by faults) (KeepsAfter held fetched) _ answer given.0 given.1 found.cause found.fetches found.no_fetch found.shelf.quiet_at found.shelf.kept found.shelf.later
-    given.2 helps given.4
+    helped_run SaysPicture (IsPictureAnswer (held_by held before) failed) (FetchesToPicture (held_by held before) failed fetched) wrong_picture held g.S.Shelf.faults _
+    (λ asked a. picture_for_memory (held_by held before) failed fetched asked a before after)
+    (λ asked a. over_picture (IsTold held) fetched (told_fetch held g.S.Shelf.fetched) (held_by held before) failed asked a before after)
+    (answer_of c.answer-found.result) found.cause found.fetches found.no_fetch c.requires found.shelf c.wrong_picture.result c.wrong_picture.ensures c.deliver_helped.ensures

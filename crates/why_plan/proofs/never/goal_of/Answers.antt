@@ -1,5 +1,6 @@
 use Rattle.std.proofs.Common.{sym}
-use Rattle.why_plan.proofs.TaskGoals.{goal_in, goal_in_below}
+use Rattle.relaxed_reach.proofs.TaskGoals.{goal_in_below}
+use Rattle.why_plan.proofs.TaskGoals.{goal_in}
 use Rattle.why_plan.proofs.never.goal_of.Goals as goal
 
 pub returns-clause-wanted : goal.returns-clause-wanted
