@@ -3,7 +3,7 @@ use Rattle.std.proofs.Common.{◌≡◌, ℕ, ◌+◌, ◌<◌, ◌≤◌, List,
 use Rattle.std.proofs.lemmas.List.Elements.{All-append, All-map, All-weaker}
 use Rattle.dd_sets.specs.declared.errors.SetErr.{SetErr}
 use Rattle.dd_sets.specs.declared.errors.SetErr.TheVariants.{Full, Memory}
-use Rattle.plan_theory.specs.SetWords.{rule_for, rules_for}
+use Rattle.plan_theory.specs.ContextRules.{rule_for, rules_for}
 use Rattle.plan_theory.proofs.PrintedWithin.{cubes_below}
 use Rattle.plan_rules.specs.Plans.{IsContextOf, IsContextRuleOf, IsCubeOf}
 use Rattle.plan_rules.specs.Rules.{ContextRule, context_rule_of}

@@ -1,6 +1,6 @@
 //! The rules of a plan, by context, next context and action.
 
-ghost use Rattle.plan_theory.specs.SetWords.{rule_for, rules_for};
+ghost use Rattle.plan_theory.specs.ContextRules.{rule_for, rules_for};
 ghost use Rattle.std.specs.Prelude.{◌≡◌, ◌+◌, ◌++◌, ◌<◌, ◌≤◌, ⊤, IfErr, OnOk, length, map};
 ghost use Rattle.plan_rules.specs.Plans.{IsContextOf};
 ghost use Rattle.plan_rules.specs.Rules.{context_rule_of};

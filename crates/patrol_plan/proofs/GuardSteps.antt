@@ -2,10 +2,9 @@
 use Rattle.std.proofs.Common.{◌≡◌, ℕ, zero, suc, ◌^◌, ◌&&◌, sym, ap, ◌∙◌, refl}
 use Rattle.std.specs.List.{find}
 use Rattle.std.proofs.Math.Path.{fun_ext}
-use Rattle.plan_theory.specs.GuardedSets.{guarded_action, guarded_near, guarded_set}
+use Rattle.plan_theory.specs.GuardedSets.{anywhere, guarded_action, guarded_near, guarded_set}
 use Rattle.plan_theory.specs.Layers.{action_numbers, must_lead}
 use Rattle.plan_theory.specs.Safe.{safe_round, safe_set, some_must_lead}
-use Rattle.plan_theory.specs.SetWords.{anywhere}
 use Rattle.plan_theory.specs.StageSets.{near, stage_action, stage_set}
 use Rattle.task_core.specs.Cubes.{SetOfVectors}
 use Rattle.task_core.specs.Systems.{IsVector, System}

@@ -8,7 +8,7 @@ use Rattle.dd_sets.proofs.SizeLemmas.{every_small}
 use Rattle.encode_task.specs.TaskSets.{initial_set, space_set}
 use Rattle.preimage.specs.WorkingSets.{IsMadeByRound, first_every}
 use Rattle.preimage.specs.WorkingSets.IsMadeByRound.{itself}
-use Rattle.plan_theory.specs.SetWords.{anywhere}
+use Rattle.plan_theory.specs.GuardedSets.{anywhere}
 use Rattle.plan_theory.specs.StageSets.{near}
 use Rattle.task_core.specs.Cubes.{SetOfVectors}
 use Rattle.task_core.specs.Systems.{System}

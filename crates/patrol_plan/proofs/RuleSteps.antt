@@ -10,8 +10,7 @@ use Rattle.dd_nodes.specs.Subfunctions.{Function}
 use Rattle.dd_ops.specs.Operations.{and_of, minus_of}
 use Rattle.encode_task.proofs.StateVectors.{cubes_agree}
 use Rattle.slot_board.specs.Board.{Scene, set_at}
-use Rattle.plan_theory.specs.ContextRules.{action_rules, next_rules, rules_in_context}
-use Rattle.plan_theory.specs.SetWords.{rule_for, rules_for}
+use Rattle.plan_theory.specs.ContextRules.{action_rules, next_rules, rule_for, rules_for, rules_in_context}
 use Rattle.plan_theory.specs.UntilChains.{SetStage, UntilSets, covers_until, guarded_from, until_advance, until_met_count, until_win, until_win_at}
 use Rattle.plan_theory.specs.UntilPrinted.{until_nexts, until_rules, until_states, until_towards}
 use Rattle.list_laws.proofs.Booleans.{and_yes, same_truth}

@@ -11,8 +11,8 @@ use Rattle.preimage.proofs.Leads.{any_more, strong_agrees}
 use Rattle.preimage.proofs.SizeLemmas.{every_fits}
 use Rattle.preimage.specs.WorkingSets.{IsMadeByRound, first_every, hits_at, some_below}
 use Rattle.preimage.specs.WorkingSets.IsMadeByRound.{hit, itself, joined, part}
+use Rattle.plan_theory.specs.GuardedSets.{anywhere}
 use Rattle.plan_theory.specs.Layers.{must_lead}
-use Rattle.plan_theory.specs.SetWords.{anywhere}
 use Rattle.task_core.specs.Actions.{after_value}
 use Rattle.task_core.specs.Cubes.{SetOfVectors}
 use Rattle.task_core.specs.Systems.{IsVector, System}

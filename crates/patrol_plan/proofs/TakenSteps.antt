@@ -3,10 +3,9 @@ use Rattle.std.proofs.Common.{◌≡◌, ◌≢◌, ℕ, suc, ◌+◌, ◌*◌, 
 use Rattle.std.proofs.lemmas.Bool.{cases_eq, cases_lt}
 use Rattle.std.proofs.lemmas.List.{drop_all}
 use Rattle.std.specs.List.{find}
-use Rattle.plan_theory.specs.SetWords.{anywhere}
 use Rattle.plan_theory.specs.UntilChains.{SetStage, UntilSets, covers_until, until_met, until_win}
 use Rattle.plan_theory.specs.Safe.{safe_set}
-use Rattle.plan_theory.specs.GuardedSets.{guarded_set}
+use Rattle.plan_theory.specs.GuardedSets.{anywhere, guarded_set}
 use Rattle.plan_theory.specs.StageSets.{near, stage_action, stage_set}
 use Rattle.plan_theory.specs.Layers.{action_numbers, must_lead}
 use Rattle.plan_theory.specs.LayerPlans.{is_action}

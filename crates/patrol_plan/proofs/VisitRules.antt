@@ -10,11 +10,10 @@ use Rattle.encode_task.proofs.StateVectors.{cubes_agree}
 use Rattle.slot_board.specs.Board as board
 use Rattle.slot_board.specs.Board.{Scene, set_at}
 use Rattle.plan_theory.proofs.PatrolSets.{made_where_held}
-use Rattle.plan_theory.specs.ContextRules.{action_rules, rules_in_context}
+use Rattle.plan_theory.specs.ContextRules.{action_rules, rule_for, rules_for, rules_in_context}
 use Rattle.plan_theory.specs.LayerPlans.{is_action}
 use Rattle.plan_theory.specs.Patrols.{patrol_set}
 use Rattle.plan_theory.specs.PatrolPrinted.{context_after, patrol_action, patrol_next, patrol_nexts, patrol_rules, patrol_states, visit_in}
-use Rattle.plan_theory.specs.SetWords.{rule_for, rules_for}
 use Rattle.plan_rules.specs.Rules.{ContextRule}
 use Rattle.task_core.specs.Cubes.{SetOfVectors}
 use Rattle.task_core.specs.Tasks.{action_count, fluent_count}

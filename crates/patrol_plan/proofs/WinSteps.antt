@@ -11,7 +11,7 @@ use Rattle.encode_task.specs.Slots.{Encoded}
 use Rattle.encode_task.specs.TaskSets.{space_set}
 use Rattle.slot_board.proofs.BoardSlots.{made_at}
 use Rattle.slot_board.specs.Board.{Scene, set_at}
-use Rattle.plan_theory.specs.SetWords.{anywhere}
+use Rattle.plan_theory.specs.GuardedSets.{anywhere}
 use Rattle.plan_theory.specs.UntilChains.{SetStage, UntilSets, until_met, until_win}
 use Rattle.plan_theory.specs.Safe.{safe_set}
 use Rattle.task_core.specs.Conditions.{IsConditionOver, holds, ids_below}

@@ -1,7 +1,7 @@
 -- Private: that what the parts of a search make is small, or rough, by the width of its start.
 use Rattle.std.specs.Prelude.{◌≡◌, ℕ, ◌<◌, ◌≤◌, ◌||◌, ◌&&◌, not, true, Contains}
 use Rattle.std.specs.List.{list_any, range_with_len}
-use Rattle.plan_theory.specs.SetWords.{anywhere}
+use Rattle.plan_theory.specs.GuardedSets.{anywhere}
 use Rattle.plan_theory.specs.UntilChains.{UntilSets, covers_until}
 use Rattle.plan_theory.specs.Layers.{must_lead}
 use Rattle.plan_theory.specs.LayerPlans.{is_action}

@@ -1,7 +1,7 @@
 -- The printed table on the board of a search: for each context, next context and action the states
 -- in which the action is taken.
 use Rattle.std.specs.Prelude.{◌≡◌, ℕ, suc, ◌+◌, ◌<◌, ◌≤◌, length, true}
-use Rattle.plan_theory.specs.SetWords.{anywhere}
+use Rattle.plan_theory.specs.GuardedSets.{anywhere}
 use Rattle.plan_theory.specs.UntilChains.{UntilSets, covers_until}
 use Rattle.plan_theory.specs.UntilPrinted.{until_states}
 use Rattle.encode_task.specs.Made.{MadeOf}

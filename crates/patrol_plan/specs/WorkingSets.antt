@@ -2,10 +2,9 @@
 -- diagram, few nodes are enough, however many fluents there are.
 use Rattle.std.specs.Prelude.{◌≡◌, ℕ, suc, ◌+◌, ◌<◌, ◌≤◌, ◌==◌, true, false, ◌&&◌, List, [], ◌∷◌, drop}
 use Rattle.std.specs.Prelude.{Contains, length, nat_le}
-use Rattle.plan_theory.specs.GuardedSets.{guarded_action, guarded_near}
+use Rattle.plan_theory.specs.GuardedSets.{anywhere, guarded_action, guarded_near}
 use Rattle.plan_theory.specs.LayerPlans.{is_action}
 use Rattle.plan_theory.specs.Safe.{safe_action, safe_round, safe_set}
-use Rattle.plan_theory.specs.SetWords.{anywhere}
 use Rattle.plan_theory.specs.UntilChains.{SetStage, UntilSets, covers_until, until_advance}
 use Rattle.plan_theory.specs.UntilChains.{until_met, until_win_at}
 use Rattle.ctl_syntax.specs.declared.context_goals.UntilChain.{UntilChain}

@@ -2,8 +2,7 @@
 
 ghost use Rattle.std.specs.Prelude.{◌≡◌, ℕ, suc, ◌≤◌, ◌+◌, ◌<◌, ◌++◌, List, map, length, IfErr};
 ghost use Rattle.std.specs.Prelude.{OnOk};
-ghost use Rattle.plan_theory.specs.ContextRules.{action_rules, next_rules, rules_in_context};
-ghost use Rattle.plan_theory.specs.SetWords.{rule_for, rules_for};
+ghost use Rattle.plan_theory.specs.ContextRules.{action_rules, next_rules, rule_for, rules_for, rules_in_context};
 ghost use Rattle.plan_theory.specs.UntilChains.{UntilSets};
 ghost use Rattle.plan_theory.specs.UntilPrinted.{until_nexts, until_rules, until_states};
 ghost use Rattle.plan_rules.specs.Rules.{ContextRule, context_rule_of};

@@ -1,6 +1,6 @@
 //! Which states take which action, in each context.
 
-ghost use Rattle.plan_theory.specs.SetWords.{anywhere};
+ghost use Rattle.plan_theory.specs.GuardedSets.{anywhere};
 ghost use Rattle.std.specs.Prelude.{◌≡◌, ℕ, suc, ◌≤◌, ◌+◌, ◌<◌, List, ◌∷◌, length};
 ghost use Rattle.ctl_syntax.specs.Conditions.{states_of};
 ghost use Rattle.slot_board.specs.Board as board_specs;

@@ -18,4 +18,3 @@ pub mod UntilPlans
 pub mod Patrols
 pub mod PatrolPrinted
 pub mod PatrolPlans
-pub mod SetWords

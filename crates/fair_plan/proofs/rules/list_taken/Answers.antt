@@ -1,6 +1,6 @@
 use Rattle.std.proofs.Common.{◌≡◌, arith, subst}
 use Rattle.std.proofs.lemmas.Result.{err_from_is_err_and}
-use Rattle.plan_theory.specs.SetWords.{rules_for}
+use Rattle.plan_theory.specs.ContextRules.{rules_for}
 use Rattle.slot_board.proofs.BoardSlots.{passed}
 use Rattle.fair_plan.proofs.Boards.{action_in, done, in_start, low}
 use Rattle.fair_plan.proofs.TakerSteps.{takers_in}

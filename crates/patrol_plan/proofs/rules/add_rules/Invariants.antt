@@ -1,6 +1,6 @@
 use Rattle.std.proofs.Common.{◌≡◌, ◌++◌, map}
 use Rattle.plan_rules.specs.Rules.{context_rule_of}
-use Rattle.plan_theory.specs.SetWords.{rule_for}
+use Rattle.plan_theory.specs.ContextRules.{rule_for}
 use Rattle.patrol_plan.proofs.rules.add_rules.Given as goal
 
 abbrev pub invariant-loop-cube : goal.invariant-loop-cube

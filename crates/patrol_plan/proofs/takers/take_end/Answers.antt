@@ -1,5 +1,5 @@
 use Rattle.std.proofs.Common.{◌≡◌, arith, length}
-use Rattle.plan_theory.specs.SetWords.{anywhere}
+use Rattle.plan_theory.specs.GuardedSets.{anywhere}
 use Rattle.dd_sets.specs.LiveSets.{everything}
 use Rattle.patrol_plan.specs.Scenes.{board_of, guarded}
 use Rattle.patrol_plan.proofs.SceneSteps.{guard_put, low, same_length}

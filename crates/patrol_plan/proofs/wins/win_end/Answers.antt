@@ -1,4 +1,4 @@
-use Rattle.plan_theory.specs.SetWords.{anywhere}
+use Rattle.plan_theory.specs.GuardedSets.{anywhere}
 use Rattle.dd_sets.specs.LiveSets.{everything}
 use Rattle.patrol_plan.specs.Scenes.{board_of, guarded}
 use Rattle.patrol_plan.specs.Sizes.{TurnsFit}
