@@ -1,5 +1,6 @@
 -- What a call on a board leaves, as a step; and steps in turn.
-use Rattle.std.proofs.Common.{◌≡◌, ℕ, zero, suc, ◌+◌, ◌<◌, ◌≤◌, List, [], ◌∷◌, drop, get_or, length, Result, refl, sym, ap, subst, ◌∙◌, arith}
+use Rattle.std.proofs.Common.{◌≡◌, ℕ, zero, suc, ◌+◌, ◌<◌, List, [], ◌∷◌, drop, get_or, length, Result, refl, sym, ap, subst, ◌∙◌, arith}
+use Rattle.std.proofs.Math.Seq.{drop-cons}
 use Rattle.dd_nodes.specs.Subfunctions.{Function}
 use Rattle.dd_sets.specs.declared.errors.SetErr.{SetErr}
 use Rattle.dd_sets.specs.declared.slots.SetId.{SetId}
@@ -36,22 +37,8 @@ pub record Halfway (start : Start) (now : Encoded) (slots : List SetId) (placed 
   pub can : CanMakeAll start here rest
   pub leads : after_steps start here rest ≡ after_steps start placed steps
 
-pub drop_suc : {X : Type 0} (xs : List X) (i : ℕ) (d : X) → i < length xs → drop i xs ≡ get_or xs i d ∷ drop (suc i) xs
-drop_suc [] i d within = absurd (omega (arith, within))
-drop_suc (x ∷ xs) zero d within = refl
-drop_suc (x ∷ xs) (suc i) d within = drop_suc xs i d (omega (arith, within))
-
 pub drop_more : {X : Type 0} (xs : List X) (i : ℕ) (d : X) → i < length xs → drop i xs ≡ get_or xs i d ∷ drop (i + 1) xs
-drop_more xs i d within = let e : suc i ≡ i + 1 = omega arith in drop_suc xs i d within ∙ ap (λ k. get_or xs i d ∷ drop k xs) e
-
-drop_past : {X : Type 0} (xs : List X) (i : ℕ) → length xs ≤ i → drop i xs ≡ []
-drop_past [] zero past = refl
-drop_past [] (suc i) past = refl
-drop_past (x ∷ xs) zero past = absurd (omega (arith, past))
-drop_past (x ∷ xs) (suc i) past = drop_past xs i (omega (arith, past))
-
-pub drop_none : {X : Type 0} (xs : List X) (i : ℕ) → length xs ≤ i → drop i xs ≡ []
-drop_none xs i past = drop_past xs i past
+drop_more xs i d within = let e : suc i ≡ i + 1 = omega arith in drop-cons xs i d within ∙ ap (λ k. get_or xs i d ∷ drop k xs) e
 
 -- the next item of a loop
 pub drop_item : {X : Type 0} (xs : List X) (i : ℕ) (x : X) → i < length xs → x ≡ get_or xs i x → drop i xs ≡ x ∷ drop (i + 1) xs

@@ -1,5 +1,5 @@
 -- The planner's answer: what is said of it.
-use Rattle.std.proofs.Common.{◌≡◌, ℕ, suc, ap, ◌<◌, ◌≤◌, ⊎_elim, ◌+◌, ◌*◌, arith, ◌^◌, Bool, true, false, List, All, Option, Some, IfSome, Result, Ok, Err, IfOk, IsErrOf, refl, sym, subst, ◌∙◌}
+use Rattle.std.proofs.Common.{◌≡◌, ℕ, suc, ap, ◌<◌, ◌≤◌, ⊎_elim, ◌+◌, ◌*◌, arith, ◌^◌, Bool, true, false, List, All, Result, Ok, Err, IfOk, refl, sym, subst, ◌∙◌}
 use Rattle.std.specs.List.{list_all}
 use Rattle.std.proofs.lemmas.Bool.{cases_lt, false_from_ne_true, true≢false}
 use Rattle.dd_sets.specs.declared.errors.SetErr.{SetErr}
@@ -165,19 +165,6 @@ ends_refusal start now slots result e is ends = subst (Ends start now slots) is 
 
 pub room_of : (task : Task) (enc : Encoded) (after : LiveSets) (width : ℕ) → NoRoom width (place_count (action_count task) + (action_count task + 17) + 8) 6 enc.sets after → NoRoom width (3 * action_count task + 32) 16 enc.sets after
 room_of task enc after width full = room_wider enc.sets (place_count (action_count task) + (action_count task + 17) + 8) (3 * action_count task + 32) 6 16 (omega arith) (omega arith) full
-
--- a refusal for want of room that is passed on was one
-pub full_before : {S T : Type 0} (inner : Result S SetErr) (outer : Result T SetErr) (e : SetErr) → inner ≡ Err e → (x : SetErr) × (outer ≡ Err x) × (x ≡ e) → IsErrOf outer Full → IsErrOf inner Full
-full_before inner outer e was p full =
-    let a = p.1 in
-    let b = p.2 in
-    let f = full in
-    let g : e ≡ Full = cc in
-    was ∙ ap Err g
-
--- what is said of a value that is there
-pub some_has : {T : Type 0} (o : Option T) (P : T → Type 0) (x : T) → o ≡ Some x → IfSome o P → P x
-some_has o P x is has = subst (λ (p : _). IfSome p P) is has
 
 -- the new board's places
 pub first_places : (task : Task) (enc now : Encoded) (made : MadeOf task enc) (width : ℕ) (wide : BoundsCyclicSets width task) (places : ℕ) (slots : List SetId) → places ≡ place_count (action_count task)

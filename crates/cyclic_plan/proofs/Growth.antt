@@ -1,9 +1,8 @@
 -- One step more from the goal: what is near, and what is taken.
-use Rattle.std.proofs.Common.{◌≡◌, ◌≢◌, ℕ, zero, suc, ◌+◌, ◌-◌, ◌<◌, ◌≤◌, ◌^◌, ◌==◌, Bool, true, false, cond, not, ◌&&◌, ◌||◌, List, [], ◌∷◌, ◌++◌, None, Some, refl, sym, ap, subst, ◌∙◌, ⊎_elim, arith, nat_lt}
+use Rattle.std.proofs.Common.{◌≡◌, ◌≢◌, ℕ, zero, suc, ◌+◌, ◌-◌, ◌<◌, ◌≤◌, ◌^◌, ◌==◌, Bool, true, false, cond, not, ◌&&◌, ◌||◌, List, ◌++◌, None, Some, refl, sym, ap, subst, ◌∙◌, ⊎_elim, arith, nat_lt}
 use Rattle.std.specs.Option.{option_and_then}
 use Rattle.std.specs.List.{find, list_any, range_with_len}
 use Rattle.std.proofs.lemmas.Bool.{cases_eq, cases_lt, cond-false, cond-true, eq-eqb, lt-ltb, ltb-true, ne_eqb, or_left}
-use Rattle.std.proofs.lemmas.List.Folds.{list_any-append}
 use Rattle.dd_sets.specs.declared.slots.SetId.{SetId}
 use Rattle.encode_task.specs.Slots.{Encoded}
 use Rattle.encode_task.proofs.StateVectors.{same_functions}
@@ -16,12 +15,12 @@ use Rattle.plan_theory.specs.Classes.{IsStable}
 use Rattle.plan_theory.specs.Layers.{action_numbers, layer, may_lead}
 use Rattle.plan_theory.specs.LayerPlans.{action_of_rank, chosen_action, is_action, takers}
 use Rattle.plan_theory.proofs.ClassLayers.{chosen_kept, chosen_zero, layer-stable, rank_within-None, step_choice}
-use Rattle.list_laws.proofs.Booleans.{or_none}
-use Rattle.list_laws.proofs.Ranges.{range-more}
+use Rattle.list_laws.proofs.Booleans.{or_assoc, or_none}
 use Rattle.plan_theory.proofs.FewerStates.{fewer_outside}
 use Rattle.plan_theory.proofs.FirstActions.{first_is}
 use Rattle.plan_theory.proofs.LeastBounds.{stands_still}
 use Rattle.plan_theory.proofs.RoundSteps.{held}
+use Rattle.preimage.proofs.Leads.{any_more}
 use Rattle.slot_board.proofs.BoardSlots.{depends}
 use Rattle.slot_board.specs.Board.{set_at}
 use Rattle.slot_board.specs.Board.{Start}
@@ -58,20 +57,11 @@ next_as start now slots left taken other near next more h same alike = record {
   holds_next = λ v is. h.holds_next v is ∙ alike v is;
 }
 
--- no action yet, and one more
-or_assoc : (a b c : Bool) → ((a || b) || c) ≡ (a || (b || (c || false)))
-or_assoc true b c = refl
-or_assoc false true c = refl
-or_assoc false false c = or_none c
-
 pub next_none : (sys : System) (near : SetOfVectors) (v : Vector) → near v ≡ next_by sys near 0 v
 next_none sys near v = or_none (near v)
 
 pub next_more : (sys : System) (near : SetOfVectors) (n : ℕ) (v : Vector) → (next_by sys near n v || may_lead sys near v n) ≡ next_by sys near (n + 1) v
-next_more sys near n v =
-    or_assoc (near v) (list_any (may_lead sys near v) (range_with_len 0 n)) (may_lead sys near v n)
-    ∙ ap (λ b. near v || b) (sym (list_any-append (may_lead sys near v) (range_with_len 0 n) (n ∷ [])))
-    ∙ ap (λ xs. near v || list_any (may_lead sys near v) xs) (sym (range-more n))
+next_more sys near n v = or_assoc (near v) (list_any (may_lead sys near v) (range_with_len 0 n)) (may_lead sys near v n) ∙ ap (λ b. near v || b) (any_more (may_lead sys near v) n)
 
 taken_below : (taking : Bool) (sys : System) (near : SetOfVectors) (taken : Takings) (n a : ℕ) (v : Vector) (b : Bool) → nat_lt a n ≡ b → taken_by taking sys near taken n a v ≡ cond (taking && b) (taken a v || (may_lead sys near v a && not (next_by sys near a v))) (taken a v)
 taken_below taking sys near taken n a v b e = ap (λ c. cond (taking && c) (taken a v || (may_lead sys near v a && not (next_by sys near a v))) (taken a v)) e

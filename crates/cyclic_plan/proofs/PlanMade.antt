@@ -28,7 +28,7 @@ use Rattle.plan_theory.proofs.Weak.{same_vector-itself, same_vector-true}
 use Rattle.list_laws.proofs.Elements.{list_all-agree, list_any-from, list_any-witness}
 use Rattle.slot_board.specs.Rules.{rule_for}
 use Rattle.slot_board.specs.Board.{set_at}
-use Rattle.slot_board.specs.Board.{At, Moved, Start, Stayed}
+use Rattle.slot_board.specs.Board.{Moved, Start, Stayed}
 use Rattle.cyclic_plan.specs.Stages.{HasNothing}
 use Rattle.plan_theory.specs.Pairs.{is_goal, restricted}
 use Rattle.cyclic_plan.specs.Takers.{HasTable}
@@ -63,9 +63,6 @@ goal_held start slot is = go start.enc.goal start.task.goal is refl start.made.g
               ap (λ (set : Function). set (value_of v)) at.holds ∙ goal_is start.task cond v is
               ∙ ap (λ (o : Option Cond). list_any (same_vector v) (unwrap_or (option_map (states_where start.task) o) [])) (sym same),
         )
-
-pub goal_live : (start : Start) (enc : Encoded) (slots : List SetId) (slot : SetId) → At start enc slots → enc.goal ≡ Some slot → IsLive enc.sets slot.0
-goal_live start enc slots slot at is = at.working.kept.live slot.0 (goal_held start slot (sym (ap (λ (e : Encoded). e.goal) at.same) ∙ is)).0
 
 pub begun : (start : Start) (enc mid now : Encoded) (old half new : List SetId) (slot : SetId) → HasNothing start enc old → enc.goal ≡ Some slot → Moved start enc.sets old mid half 0 (set_of enc.sets slot.0) → Moved start mid.sets half now new 1 everything
     → HasRound start now new (round (system_of start.task) 0) none_taken

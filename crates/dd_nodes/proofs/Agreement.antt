@@ -123,7 +123,7 @@ subfunction_listed vars f g sub =
     list_any-map (agree vars g) (λ first. fixed first f) (lists_up_to vars)
     ∙ lists_up_any (λ first. agree vars g (fixed first f)) vars sub.first sub.few (agree_same vars g (fixed sub.first f) sub.fixes)
 
-any_flat_map : {X Y : Type 0} (p : Y → Bool) (h : X → List Y) (xs : List X) (k : ℕ) (x : X) → k < length xs → slice_index_or xs k x ≡ x
+pub any_flat_map : {X Y : Type 0} (p : Y → Bool) (h : X → List Y) (xs : List X) (k : ℕ) (x : X) → k < length xs → slice_index_or xs k x ≡ x
     → list_any p (h x) ≡ true → list_any p (flat_map h xs) ≡ true
 any_flat_map p h [] k x within at here = absurd (omega arith)
 any_flat_map p h (y ∷ xs) zero x within at here =

@@ -1,7 +1,7 @@
 -- One number per function: in a reduced list two numbers have the same function exactly where they
 -- are equal (Bryant 1986, Theorem 1). By induction on the numbers, from the conditions on a reduced
 -- list alone.
-use Rattle.std.proofs.Common.{◌≡◌, ℕ, zero, suc, ◌+◌, ◌<◌, Bool, true, false, eqb, List, length, Some, None, refl, sym, ap, subst, ◌∙◌, ⊎_elim, arith}
+use Rattle.std.proofs.Common.{◌≡◌, ◌≢◌, ℕ, zero, suc, ◌+◌, ◌<◌, Bool, true, false, eqb, List, length, Some, None, refl, sym, ap, subst, ◌∙◌, ⊎_elim, arith}
 use Rattle.std.proofs.lemmas.Bool.Decides.{nat_tests}
 use Rattle.std.proofs.lemmas.Bool.{cases_order, eq-eqb, ne_eqb, cond-true, cond-false}
 use Rattle.std.proofs.lemmas.Option.{none-some, same_Some}
@@ -12,8 +12,11 @@ use Rattle.dd_nodes.proofs.NodeLemmas.{same_ref, same_node, number_cases, functi
 pub with_value_same : (values : Values) (v : ℕ) (b : Bool) → with_value values v b v ≡ b
 with_value_same values v b = cond-true (eqb v v) b (values v) (eq-eqb v v refl)
 
+pub with_value_other : (values : Values) (v : ℕ) (b : Bool) (u : ℕ) → u ≢ v → with_value values v b u ≡ values u
+with_value_other values v b u differs = cond-false (eqb u v) b (values u) (ne_eqb u v differs)
+
 pub with_value_above : (values : Values) (v : ℕ) (b : Bool) (u : ℕ) → v < u → with_value values v b u ≡ values u
-with_value_above values v b u above = cond-false (eqb u v) b (values u) (ne_eqb u v (λ e. omega arith))
+with_value_above values v b u above = with_value_other values v b u (λ e. omega arith)
 
 module _ (vars : ℕ) (nodes : List Node) (reduced : IsReduced vars nodes) where
   -- two numbers have the same function

@@ -181,9 +181,21 @@ module _ {A : Type 0} (same : A → A → Bool) where
         (cases_Bool (list_any (same y) ys))
 
     -- the first of each group of elements that are the same
-    firsts : List A → List A
+    pub firsts : List A → List A
     firsts [] = []
     firsts (x ∷ xs) = if list_any (same x) xs then firsts xs else x ∷ firsts xs
+
+    pub firsts-nil : firsts [] ≡ []
+    unfolding firsts
+    firsts-nil = refl
+
+    pub firsts-there : (x : A) (xs : List A) → list_any (same x) xs ≡ true → firsts (x ∷ xs) ≡ firsts xs
+    unfolding firsts
+    firsts-there x xs there = cond-true (list_any (same x) xs) (firsts xs) (x ∷ firsts xs) there
+
+    pub firsts-new : (x : A) (xs : List A) → list_any (same x) xs ≡ false → firsts (x ∷ xs) ≡ x ∷ firsts xs
+    unfolding firsts
+    firsts-new x xs new = cond-false (list_any (same x) xs) (firsts xs) (x ∷ firsts xs) new
 
     firsts_none : (p : A → Bool) (xs : List A) → list_any p xs ≡ false → list_any p (firsts xs) ≡ false
     unfolding firsts
@@ -192,37 +204,37 @@ module _ {A : Type 0} (same : A → A → Bool) where
         let parts = or_parts (p x) (list_any p xs) none in
         let rest : list_any p (firsts xs) ≡ false = firsts_none p xs parts.1 in
         ⊎_elim
-        (λ (there : list_any (same x) xs ≡ true). ap (list_any p) (cond-true (list_any (same x) xs) (firsts xs) (x ∷ firsts xs) there) ∙ rest)
-        (λ (new : list_any (same x) xs ≡ false). ap (list_any p) (cond-false (list_any (same x) xs) (firsts xs) (x ∷ firsts xs) new) ∙ or_from (p x) (list_any p (firsts xs)) parts.0 rest)
+        (λ (there : list_any (same x) xs ≡ true). ap (list_any p) (firsts-there x xs there) ∙ rest)
+        (λ (new : list_any (same x) xs ≡ false). ap (list_any p) (firsts-new x xs new) ∙ or_from (p x) (list_any p (firsts xs)) parts.0 rest)
         (cases_Bool (list_any (same x) xs))
 
-    firsts_all : (p : A → Bool) (xs : List A) → list_all p xs ≡ true → list_all p (firsts xs) ≡ true
+    pub firsts_all : (p : A → Bool) (xs : List A) → list_all p xs ≡ true → list_all p (firsts xs) ≡ true
     unfolding firsts
     firsts_all p [] all = all
     firsts_all p (x ∷ xs) all =
         let parts = and_parts (p x) (list_all p xs) all in
         let rest : list_all p (firsts xs) ≡ true = firsts_all p xs parts.1 in
         ⊎_elim
-        (λ (there : list_any (same x) xs ≡ true). ap (list_all p) (cond-true (list_any (same x) xs) (firsts xs) (x ∷ firsts xs) there) ∙ rest)
-        (λ (new : list_any (same x) xs ≡ false). ap (list_all p) (cond-false (list_any (same x) xs) (firsts xs) (x ∷ firsts xs) new) ∙ and_from (p x) (list_all p (firsts xs)) parts.0 rest)
+        (λ (there : list_any (same x) xs ≡ true). ap (list_all p) (firsts-there x xs there) ∙ rest)
+        (λ (new : list_any (same x) xs ≡ false). ap (list_all p) (firsts-new x xs new) ∙ and_from (p x) (list_all p (firsts xs)) parts.0 rest)
         (cases_Bool (list_any (same x) xs))
 
-    firsts_apart : (xs : List A) → Apart (firsts xs)
+    pub firsts_apart : (xs : List A) → Apart (firsts xs)
     unfolding firsts
     firsts_apart [] = tt
     firsts_apart (x ∷ xs) = ⊎_elim
-        (λ (there : list_any (same x) xs ≡ true). subst Apart (sym (cond-true (list_any (same x) xs) (firsts xs) (x ∷ firsts xs) there)) (firsts_apart xs))
-        (λ (new : list_any (same x) xs ≡ false). subst Apart (sym (cond-false (list_any (same x) xs) (firsts xs) (x ∷ firsts xs) new)) (firsts_none (same x) xs new, firsts_apart xs))
+        (λ (there : list_any (same x) xs ≡ true). subst Apart (sym (firsts-there x xs there)) (firsts_apart xs))
+        (λ (new : list_any (same x) xs ≡ false). subst Apart (sym (firsts-new x xs new)) (firsts_none (same x) xs new, firsts_apart xs))
         (cases_Bool (list_any (same x) xs))
 
-    length-firsts : (xs : List A) → length (firsts xs) ≡ count same xs
+    pub length-firsts : (xs : List A) → length (firsts xs) ≡ count same xs
     unfolding firsts count
     length-firsts [] = refl
     length-firsts (x ∷ xs) = ⊎_elim
-        (λ (there : list_any (same x) xs ≡ true). ap length (cond-true (list_any (same x) xs) (firsts xs) (x ∷ firsts xs) there) ∙ length-firsts xs ∙ sym (count-there x xs there))
+        (λ (there : list_any (same x) xs ≡ true). ap length (firsts-there x xs there) ∙ length-firsts xs ∙ sym (count-there x xs there))
         (λ (new : list_any (same x) xs ≡ false).
         let more : suc (length (firsts xs)) ≡ count same xs + 1 = omega (arith, length-firsts xs) in
-        ap length (cond-false (list_any (same x) xs) (firsts xs) (x ∷ firsts xs) new) ∙ more ∙ sym (count-new x xs new))
+        ap length (firsts-new x xs new) ∙ more ∙ sym (count-new x xs new))
         (cases_Bool (list_any (same x) xs))
 
     -- a list that is covered has no more different elements than its cover has elements

@@ -6,6 +6,7 @@ use Rattle.std.proofs.lemmas.Bool.{cases_Bool, cases_lt, cond-true, cond-false, 
 use Rattle.std.proofs.lemmas.List.{length-map, map-append}
 use Rattle.std.proofs.lemmas.List.Elements.{filter-append}
 use Rattle.std.proofs.lemmas.List.Concat.{flat_map-append}
+use Rattle.list_laws.proofs.Elements.{list_all-from}
 use Rattle.dd_nodes.specs.declared.node.Node.{Node}
 use Rattle.dd_nodes.specs.NodeList.{Values, function}
 use Rattle.dd_nodes.specs.Subfunctions.{Function, with_first, fixed, lists, lists_up_to, agree, subfunctions, nodes_beside, functions}
@@ -137,10 +138,6 @@ module _ (vars : ℕ) (before : List Node) where
   grow_each h bound each [] = omega (arith, grow-nil)
   grow_each h bound each (x ∷ xs) = omega (arith, grow-append (h x ∷ []) (map h xs), each x, grow_each h bound each xs)
 
-all_always : {X : Type 0} (p : X → Bool) → ((x : X) → p x ≡ true) → (xs : List X) → list_all p xs ≡ true
-all_always p each [] = refl
-all_always p each (x ∷ xs) = and_from (p x) (list_all p xs) (each x) (all_always p each xs)
-
 module _ (vars : ℕ) (before : List Node) where
   -- functions that are known or agree with one function count once at most
   known_or_one : (h : List Bool → Function) (g : Function) → ((first : List Bool) → (known vars before (h first) ≡ true) ⊎ (agree vars (h first) g ≡ true))
@@ -196,7 +193,6 @@ module _ (vars : ℕ) (before : List Node) where
   grow_constant g b same =
       grow_only g
       ∙ ap (count (agree vars)) (new-known vars before (λ first. fixed first g) (lists_up_to vars)
-      (all_always (λ first. known vars before (fixed first g))
-      (λ first. known_constant vars before (fixed first g) b (λ second _. same (with_first first (with_first second (λ _. false)))))
-      (lists_up_to vars)))
+      (list_all-from (λ first. known vars before (fixed first g)) (lists_up_to vars)
+      (λ first _. known_constant vars before (fixed first g) b (λ second _. same (with_first first (with_first second (λ _. false)))))))
       ∙ count-nil (agree vars)

@@ -43,6 +43,10 @@ module _ (vars : ℕ) (pieces : List Function) where
         (cases_lt n (length b + 2));
   }
 
+  all_one : (part : Function) → IsPart vars pieces part → All (λ piece. IsPart vars pieces piece) (part ∷ [])
+  all_one part is_part zero d within = is_part
+  all_one part is_part (suc k) d within = absurd (omega arith)
+
   -- what is added for pieces that are parts
   pub adds_weaker : (others : List Function) → All (λ piece. IsPart vars pieces piece) others → (before after : List Node) → AddsParts vars others before after → AddsParts vars pieces before after
   adds_weaker others all before after adds = record {
@@ -53,10 +57,6 @@ module _ (vars : ℕ) (pieces : List Function) where
 
   pub adds_for_part : (part : Function) → IsPart vars pieces part → (before after : List Node) → AddsParts vars (part ∷ []) before after → AddsParts vars pieces before after
   adds_for_part part is_part before after adds = adds_weaker (part ∷ []) (all_one part is_part) before after adds
-    where
-      all_one : (part : Function) → IsPart vars pieces part → All (λ piece. IsPart vars pieces piece) (part ∷ [])
-      all_one part is_part zero d within = is_part
-      all_one part is_part (suc k) d within = absurd (omega arith)
 
   -- one node at most, whose function is a part
   pub adds_made : (before after : List Node) (node : Node) (n : ℕ) (part : Function) → IsReduced vars before → IsReduced vars after
@@ -86,10 +86,6 @@ module _ (vars : ℕ) (pieces : List Function) where
 
   pub lacks_for_part : (part : Function) → IsPart vars pieces part → (nodes : List Node) → LacksPart vars (part ∷ []) nodes → LacksPart vars pieces nodes
   lacks_for_part part is_part nodes lacks = lacks_weaker (part ∷ []) (all_one part is_part) nodes lacks
-    where
-      all_one : (part : Function) → IsPart vars pieces part → All (λ piece. IsPart vars pieces piece) (part ∷ [])
-      all_one part is_part zero d within = is_part
-      all_one part is_part (suc k) d within = absurd (omega arith)
 
   -- a node that was refused: its function is that of no number
   pub lacks_made : (nodes : List Node) (node : Node) (part : Function) → IsReduced vars nodes → node.var < vars → node.lo ≢ node.hi → Lacks nodes node

@@ -1,17 +1,19 @@
 -- The pieces of a substitution: how large `grow` is at most, and which functions are parts of them.
-use Rattle.std.proofs.Common.{◌≡◌, ◌≢◌, ℕ, zero, suc, ◌+◌, ◌-◌, ◌*◌, ◌^◌, ◌<◌, ◌≤◌, Bool, true, false, not, ◌&&◌, cond, eqb, List, [], ◌∷◌, ◌++◌, length, map, filter, slice_index_or, Contains, Some, refl, sym, ap, subst, ◌∙◌, ⊎_elim, arith, pow_pos}
+use Rattle.std.proofs.Common.{◌≡◌, ℕ, zero, suc, ◌+◌, ◌-◌, ◌*◌, ◌^◌, ◌<◌, ◌≤◌, Bool, true, false, not, ◌&&◌, cond, eqb, List, [], ◌∷◌, ◌++◌, length, map, filter, slice_index_or, Contains, Some, refl, sym, ap, subst, ◌∙◌, ⊎_elim, arith, pow_pos}
 use Rattle.std.specs.List.{All, list_all, range_with_len}
 use native.Mathlib.Nat.{pow-succ'}
-use Rattle.std.proofs.lemmas.Bool.{cases_Bool, cases_lt, cases_eq, cond-true, cond-false, eq-eqb, eqb-true, ne_eqb, and_parts, and_from, not_from_false, false_from_ne_true, both_ways, not-true}
+use Rattle.std.proofs.lemmas.Bool.{cases_lt, cases_eq, eq-eqb, eqb-true, and_parts, and_from, not_from_false, false_from_ne_true, both_ways, not-true}
 use Rattle.std.proofs.lemmas.List.{map-append}
 use Rattle.std.proofs.lemmas.List.FromFn.{length-range_with_len}
 use Rattle.std.proofs.lemmas.List.Elements.{Contains-append_left, Contains-append_right, All-nil, All-cons, All-append, All-map, All-weaker, All-filter, filter_passes}
 use Rattle.std.proofs.lemmas.Simd.{map-map}
+use Rattle.list_laws.proofs.Elements.{Contains-filter, Contains-map, Contains-range_with_len}
+use Rattle.list_laws.proofs.Numbers.{below_power}
 use Rattle.dd_nodes.specs.declared.node.Node.{Node}
 use Rattle.dd_nodes.specs.NodeList.{Values, with_value, node_at, function, IsReduced}
 use Rattle.dd_nodes.specs.Subfunctions.{Function, with_first, fixed, lists, lists_up_to, agree, subfunctions, IsSubfunction}
 use Rattle.dd_nodes.proofs.NodeLemmas.{same_ref, node_place}
-use Rattle.dd_nodes.proofs.Canonicity.{with_value_same, canonical}
+use Rattle.dd_nodes.proofs.Canonicity.{with_value_same, canonical, with_value_other}
 use Rattle.dd_ops.specs.Operations.{variable, cofactor_of}
 use Rattle.dd_nodes.specs.Subfunctions.{DependsOnly}
 use Rattle.dd_ops.specs.Growth.{grow, IsPart, subst_pieces, depends_on}
@@ -21,11 +23,7 @@ use Rattle.dd_ops.proofs.GrowthParts.{part_same}
 use Rattle.dd_nodes.proofs.Reaching.{within_at, past_at}
 use Rattle.dd_ops.proofs.GrowthBounds.{length-lists_up_to, length-filter_within, grow_piece, grow-append, grow-nil, grow_each, grow_variable, grow_constant}
 
--- n is less than 2 ^ n, and 4 ^ n is its square
-less_pow : (n : ℕ) → n < 2 ^ n
-less_pow zero = omega arith
-less_pow (suc n) = omega (arith, less_pow n, pow-succ' 2 n)
-
+-- 4 ^ n is the square of 2 ^ n
 four_pow : (n : ℕ) → 4 ^ n ≡ 2 ^ n * 2 ^ n
 four_pow zero = refl
 four_pow (suc n) =
@@ -80,7 +78,7 @@ module _ (vars : ℕ) (before : List Node) where
       subst (λ m. grow vars before (map (λ g values. g (replaced values)) (subfunctions vars f) ++ map variable seen) ≤ m) (ap (λ m. m * m) root ∙ sym (four_pow vars))
       (add_up vars (2 ^ vars - 1) (grow vars before (map result (lists_up_to vars))) (grow vars before (map variable seen)) (length seen)
       (grow vars before (map (λ g values. g (replaced values)) (subfunctions vars f) ++ map variable seen))
-      (omega (arith, less_pow vars)) (subst (λ m. grow vars before (map result (lists_up_to vars)) + (2 ^ vars - 1) ≤ m * (2 ^ vars - 1)) (sym root) results)
+      (omega (arith, below_power vars)) (subst (λ m. grow vars before (map result (lists_up_to vars)) + (2 ^ vars - 1) ≤ m * (2 ^ vars - 1)) (sym root) results)
       of_variables few (omega arith))
     where
       result : List Bool → Function
@@ -97,34 +95,7 @@ module _ (vars : ℕ) (before : List Node) where
           (λ values. depends (with_first first (replaced values)) (with_first first (λ _. false))
           (λ u above within. within_at first u (replaced values u) false (omega arith)))
 
--- an element stays in a map and in a filter that it passes, and each list of n truth values stands
--- in `lists n`
-Contains-map : {X Y : Type 0} (h : X → Y) (xs : List X) (x : X) → Contains xs x → Contains (map h xs) (h x)
-Contains-map h xs x (k, within, at) = at_map h xs x k within at
-  where
-    at_map : {X Y : Type 0} (h : X → Y) (xs : List X) (x : X) (k : ℕ) → k < length xs → slice_index_or xs k x ≡ x → Contains (map h xs) (h x)
-    at_map h [] x k within at = absurd (omega arith)
-    at_map h (y ∷ xs) x zero within at = (0, omega arith, ap h at)
-    at_map h (y ∷ xs) x (suc k) within at =
-        let rest = at_map h xs x k (omega arith) at in
-        let inner : rest.0 < length (map h xs) = rest.1 in
-        (suc rest.0, omega arith, rest.2)
-
-Contains-filter : {X : Type 0} (p : X → Bool) (xs : List X) (x : X) → p x ≡ true → Contains xs x → Contains (filter p xs) x
-Contains-filter p xs x passes (k, within, at) = at_filter p xs x k passes within at
-  where
-    at_filter : {X : Type 0} (p : X → Bool) (xs : List X) (x : X) (k : ℕ) → p x ≡ true → k < length xs → slice_index_or xs k x ≡ x → Contains (filter p xs) x
-    at_filter p [] x k passes within at = absurd (omega arith)
-    at_filter p (y ∷ xs) x zero passes within at =
-        subst (λ l. Contains l x) (sym (cond-true (p y) (y ∷ filter p xs) (filter p xs) (ap p at ∙ passes))) (0, omega arith, at)
-    at_filter p (y ∷ xs) x (suc k) passes within at =
-        let rest = at_filter p xs x k passes (omega arith) at in
-        let inner : rest.0 < length (filter p xs) = rest.1 in
-        ⊎_elim
-        (λ (kept : p y ≡ true). subst (λ l. Contains l x) (sym (cond-true (p y) (y ∷ filter p xs) (filter p xs) kept)) (suc rest.0, omega arith, rest.2))
-        (λ (left : p y ≡ false). subst (λ l. Contains l x) (sym (cond-false (p y) (y ∷ filter p xs) (filter p xs) left)) rest)
-        (cases_Bool (p y))
-
+-- each list of n truth values stands in `lists n`
 lists_contain : (n : ℕ) (first : List Bool) → length first ≡ n → Contains (lists n) first
 unfolding lists
 lists_contain zero [] long = (0, omega arith, refl)
@@ -143,16 +114,6 @@ lists_up_contain (suc n) first within = ⊎_elim
     (λ (shorter : length first < suc n). Contains-append_left (lists_up_to n) (lists (suc n)) first (lists_up_contain n first (omega arith)))
     (λ (whole : suc n ≤ length first). Contains-append_right (lists_up_to n) (lists (suc n)) first (lists_contain (suc n) first (omega arith)))
     (cases_lt (length first) (suc n))
-
-range_contains : (a n v : ℕ) → a ≤ v → v < a + n → Contains (range_with_len a n) v
-range_contains a zero v above within = absurd (omega arith)
-range_contains a (suc n) v above within = ⊎_elim
-    (λ (less : v < a + 1). let e : a ≡ v = omega arith in (0, omega arith, e))
-    (λ (more : a + 1 ≤ v).
-    let rest = range_contains (a + 1) n v more (omega arith) in
-    let inner : rest.0 < length (range_with_len (a + 1) n) = rest.1 in
-    (suc rest.0, omega arith, rest.2))
-    (cases_lt v (a + 1))
 
 module _ (vars : ℕ) (f : Function) (is_listed : ℕ → Bool) (replaced : Values → Values) where
   -- a piece is a part
@@ -177,13 +138,8 @@ module _ (vars : ℕ) (f : Function) (is_listed : ℕ → Bool) (replaced : Valu
       (Contains-append_right (map (λ g values. g (replaced values)) (subfunctions vars f)) (map variable (filter (λ v. depends_on vars f v && not (is_listed v)) (range_with_len 0 vars)))
       (variable v)
       (Contains-map variable (filter (λ v. depends_on vars f v && not (is_listed v)) (range_with_len 0 vars)) v
-      (Contains-filter (λ v. depends_on vars f v && not (is_listed v)) (range_with_len 0 vars) v
-      (and_from (depends_on vars f v) (not (is_listed v)) sees (not_from_false (is_listed v) unlisted))
-      (range_contains 0 vars v (omega arith) (omega arith)))))
-
--- with one variable set, each other has its value
-with_value_other : (values : Values) (v : ℕ) (b : Bool) (u : ℕ) → u ≢ v → with_value values v b u ≡ values u
-with_value_other values v b u other = cond-false (eqb u v) b (values u) (ne_eqb u v other)
+      (Contains-filter (λ v. depends_on vars f v && not (is_listed v)) (range_with_len 0 vars) v (Contains-range_with_len vars v within)
+      (and_from (depends_on vars f v) (not (is_listed v)) sees (not_from_false (is_listed v) unlisted)))))
 
 -- a function of variables below vars that does not see v has the same subfunctions at both values
 -- of v

@@ -1,79 +1,23 @@
 -- How many nodes lists of functions have together.
-use Rattle.std.proofs.Common.{◌≡◌, ℕ, zero, suc, ◌+◌, ◌<◌, ◌≤◌, Bool, true, false, not, List, [], ◌∷◌, ◌++◌, length, filter, flat_map, slice_index_or, Contains, refl, sym, ap, subst, ◌∙◌, ⊎_elim, arith, if◌then◌else◌}
+use Rattle.std.proofs.Common.{◌≡◌, ℕ, zero, suc, ◌+◌, ◌<◌, ◌≤◌, Bool, true, false, not, List, [], ◌∷◌, ◌++◌, length, filter, flat_map, slice_index_or, Contains, refl, ap, ◌∙◌, ⊎_elim, arith}
 use Rattle.std.specs.List.{list_any, list_all}
-use Rattle.std.proofs.lemmas.Bool.{cases_Bool, both_ways, or_parts, or_left, or_right, or_from, and_parts, and_from, cond-true, cond-false, not-true, not_from_true, not_from_false, false_from_ne_true}
+use Rattle.std.proofs.lemmas.Bool.{cases_Bool, both_ways, or_left, or_right, or_from, and_parts, and_from, cond-true, cond-false, not-true, not_from_true, not_from_false, false_from_ne_true}
 use Rattle.std.proofs.lemmas.List.Folds.{list_all-append, list_any-append}
 use Rattle.std.proofs.lemmas.List.Elements.{filter-append}
 use Rattle.std.proofs.lemmas.List.Concat.{flat_map-append}
+use Rattle.list_laws.proofs.Elements.{list_any-from}
 use Rattle.dd_nodes.specs.Subfunctions.{Function, agree, constants, nodes, nodes_beside, subfunctions}
-use Rattle.dd_nodes.proofs.Agreement.{agree_chain, agree_same, agree_turn}
-use Rattle.dd_nodes.proofs.Counting.{count, count-new, count-nil, count-there, any_weaker, any_filter, Apart, covered, pigeonhole}
+use Rattle.dd_nodes.proofs.Agreement.{agree_chain, agree_same, agree_turn, any_flat_map}
+use Rattle.dd_nodes.proofs.Counting.{count, count-new, count-nil, count-there, any_weaker, any_filter, covered, pigeonhole, firsts, firsts_all, firsts_apart, length-firsts}
 use Rattle.dd_nodes.proofs.NodeCount.{count_is}
 
 -- a list whose elements each are the same as one of another list has no more different elements
 module _ {A : Type 0} (same : A → A → Bool) (turn : (a b : A) → same a b ≡ true → same b a ≡ true) (chain : (a b c : A) → same a b ≡ true → same b c ≡ true → same a c ≡ true) where
-  -- one of each group of elements that are the same
-  pub firsts : List A → List A
-  firsts [] = []
-  firsts (x ∷ xs) = if list_any (same x) xs then firsts xs else x ∷ firsts xs
-
-  pub firsts-nil : firsts [] ≡ []
-  unfolding firsts
-  firsts-nil = refl
-
-  pub firsts-there : (x : A) (xs : List A) → list_any (same x) xs ≡ true → firsts (x ∷ xs) ≡ firsts xs
-  unfolding firsts
-  firsts-there x xs there = cond-true (list_any (same x) xs) (firsts xs) (x ∷ firsts xs) there
-
-  pub firsts-new : (x : A) (xs : List A) → list_any (same x) xs ≡ false → firsts (x ∷ xs) ≡ x ∷ firsts xs
-  unfolding firsts
-  firsts-new x xs new = cond-false (list_any (same x) xs) (firsts xs) (x ∷ firsts xs) new
-
-  firsts_none : (p : A → Bool) (xs : List A) → list_any p xs ≡ false → list_any p (firsts xs) ≡ false
-  unfolding firsts
-  firsts_none p [] none = none
-  firsts_none p (x ∷ xs) none =
-      let parts = or_parts (p x) (list_any p xs) none in
-      let rest : list_any p (firsts xs) ≡ false = firsts_none p xs parts.1 in
-      ⊎_elim
-      (λ (there : list_any (same x) xs ≡ true). ap (list_any p) (firsts-there x xs there) ∙ rest)
-      (λ (new : list_any (same x) xs ≡ false). ap (list_any p) (firsts-new x xs new) ∙ or_from (p x) (list_any p (firsts xs)) parts.0 rest)
-      (cases_Bool (list_any (same x) xs))
-
-  firsts_all : (p : A → Bool) (xs : List A) → list_all p xs ≡ true → list_all p (firsts xs) ≡ true
-  unfolding firsts
-  firsts_all p [] all = all
-  firsts_all p (x ∷ xs) all =
-      let parts = and_parts (p x) (list_all p xs) all in
-      let rest : list_all p (firsts xs) ≡ true = firsts_all p xs parts.1 in
-      ⊎_elim
-      (λ (there : list_any (same x) xs ≡ true). ap (list_all p) (firsts-there x xs there) ∙ rest)
-      (λ (new : list_any (same x) xs ≡ false). ap (list_all p) (firsts-new x xs new) ∙ and_from (p x) (list_all p (firsts xs)) parts.0 rest)
-      (cases_Bool (list_any (same x) xs))
-
-  firsts_apart : (xs : List A) → Apart same (firsts xs)
-  unfolding firsts
-  firsts_apart [] = tt
-  firsts_apart (x ∷ xs) = ⊎_elim
-      (λ (there : list_any (same x) xs ≡ true). subst (Apart same) (sym (firsts-there x xs there)) (firsts_apart xs))
-      (λ (new : list_any (same x) xs ≡ false). subst (Apart same) (sym (firsts-new x xs new)) (firsts_none (same x) xs new, firsts_apart xs))
-      (cases_Bool (list_any (same x) xs))
-
-  pub length-firsts : (xs : List A) → length (firsts xs) ≡ count same xs
-  unfolding firsts count
-  length-firsts [] = refl
-  length-firsts (x ∷ xs) = ⊎_elim
-      (λ (there : list_any (same x) xs ≡ true). ap length (firsts-there x xs there) ∙ length-firsts xs ∙ sym (count-there same x xs there))
-      (λ (new : list_any (same x) xs ≡ false).
-      let more : suc (length (firsts xs)) ≡ count same xs + 1 = omega (arith, length-firsts xs) in
-      ap length (firsts-new x xs new) ∙ more ∙ sym (count-new same x xs new))
-      (cases_Bool (list_any (same x) xs))
-
   pub count_fewer : (xs ys : List A) → covered same ys xs ≡ true → count same xs ≤ count same ys
   count_fewer xs ys cover = omega (
     arith,
-    length-firsts xs,
-    pigeonhole same turn chain ys (firsts xs) (firsts_apart xs) (firsts_all (λ x. list_any (same x) ys) xs cover),
+    length-firsts same turn chain xs,
+    pigeonhole same turn chain ys (firsts same turn chain xs) (firsts_apart same turn chain xs) (firsts_all same turn chain (λ x. list_any (same x) ys) xs cover),
   )
 
   -- two lists of which no element of the first is the same as one of the second
@@ -97,10 +41,6 @@ all_here : {A : Type 0} (p : A → Bool) (xs : List A) → ((k : ℕ) (x : A) �
 all_here p [] each = refl
 all_here p (x ∷ xs) each = and_from (p x) (list_all p xs) (each zero x (omega arith) refl) (all_here p xs (λ k y within at. each (suc k) y (omega arith) at))
 
-all_each : {A : Type 0} (p : A → Bool) → ((x : A) → p x ≡ true) → (xs : List A) → list_all p xs ≡ true
-all_each p each [] = refl
-all_each p each (x ∷ xs) = and_from (p x) (list_all p xs) (each x) (all_each p each xs)
-
 -- what each element of a filter passes
 all_kept : {A : Type 0} (p keep : A → Bool) (xs : List A) → list_all p xs ≡ true → list_all p (filter keep xs) ≡ true
 all_kept p keep [] all = refl
@@ -117,19 +57,6 @@ all_mapped p h [] each = refl
 all_mapped p h (x ∷ xs) each =
     list_all-append p (h x) (flat_map h xs)
     ∙ and_from (list_all p (h x)) (list_all p (flat_map h xs)) (each zero x (omega arith) refl) (all_mapped p h xs (λ k y within at. each (suc k) y (omega arith) at))
-
-pub any_mapped : {X A : Type 0} (p : A → Bool) (h : X → List A) (xs : List X) (k : ℕ) (x : X) → k < length xs → slice_index_or xs k x ≡ x → list_any p (h x) ≡ true → list_any p (flat_map h xs) ≡ true
-any_mapped p h [] k x within at here = absurd (omega arith)
-any_mapped p h (y ∷ xs) zero x within at here =
-    list_any-append p (h y) (flat_map h xs) ∙ or_left (list_any p (h y)) (list_any p (flat_map h xs)) (ap (λ z. list_any p (h z)) at ∙ here)
-any_mapped p h (y ∷ xs) (suc k) x within at here =
-    list_any-append p (h y) (flat_map h xs) ∙ or_right (list_any p (h y)) (list_any p (flat_map h xs)) (any_mapped p h xs k x (omega arith) at here)
-
--- an element of a list that is the same as itself
-pub any_here : {A : Type 0} (p : A → Bool) (xs : List A) (k : ℕ) (x : A) → k < length xs → slice_index_or xs k x ≡ x → p x ≡ true → list_any p xs ≡ true
-any_here p [] k x within at here = absurd (omega arith)
-any_here p (y ∷ xs) zero x within at here = or_left (p y) (list_any p xs) (ap p at ∙ here)
-any_here p (y ∷ xs) (suc k) x within at here = or_right (p y) (list_any p xs) (any_here p xs k x (omega arith) at here)
 
 -- a filter by a weaker test, and of a longer list, covers
 filter_covered : {A : Type 0} (same : A → A → Bool) → ((a : A) → same a a ≡ true) → (keep more : A → Bool) → ((x : A) → keep x ≡ true → more x ≡ true) → ((a b : A) → same a b ≡ true → more a ≡ true → more b ≡ true)
@@ -174,7 +101,7 @@ module _ (vars : ℕ) where
       (λ k f within at.
       let there = each f (k, within, at) in
       all_here (λ g. list_any (agree vars g) (flat_map (subfunctions vars) many)) (subfunctions vars f) (λ j g inside same.
-      any_mapped (agree vars g) (subfunctions vars) many there.0 f there.1 there.2 (any_here (agree vars g) (subfunctions vars f) j g inside same (self g))))
+      any_flat_map (agree vars g) (subfunctions vars) many there.0 f there.1 there.2 (list_any-from (agree vars g) (subfunctions vars f) g (j, inside, same) (self g))))
 
   -- functions each of which is in another list have no more nodes than that
   pub nodes_fewer : (few many : List Function) → ((f : Function) → Contains few f → Contains many f) → nodes vars few ≤ nodes vars many
@@ -220,7 +147,7 @@ module _ (vars : ℕ) where
       )
     where
       in_itself : (zs : List Function) → list_all (λ g. list_any (agree vars g) zs) zs ≡ true
-      in_itself zs = all_here (λ g. list_any (agree vars g) zs) zs (λ k g within at. any_here (agree vars g) zs k g within at (self g))
+      in_itself zs = all_here (λ g. list_any (agree vars g) zs) zs (λ k g within at. list_any-from (agree vars g) zs g (k, within, at) (self g))
 
       not_constant : (g : Function) → beside known g ≡ true → beside constants g ≡ true
       not_constant g apart = not_from_false (list_any (agree vars g) constants) (false_from_ne_true (list_any (agree vars g) constants) (λ e.

@@ -1,26 +1,20 @@
 -- The cubes of a number are read off its diagram.
 use Rattle.std.proofs.Common.{◌≡◌, ◌⊎◌, ℕ, zero, suc, ◌+◌, ◌-◌, ◌<◌, ◌≤◌, Bool, true, false, not, cond, List, [], ◌∷◌, ◌++◌, length, map, Some, refl, sym, ap, subst, ◌∙◌, ⊎_elim, inl, inr, arith, append_assoc, append-nil, ◌==◌}
 use borrow.Author.Tests.{eq-eqb}
-use Rattle.std.specs.List.{list_any, list_all}
-use Rattle.std.proofs.lemmas.Bool.{cases_lt, cond-true, cond-false, false_from_ne_true, both_ways, and_from, or_from, not-true}
+use Rattle.std.specs.List.{list_any}
+use Rattle.std.proofs.lemmas.Bool.{cases_lt, cond-true, cond-false, false_from_ne_true, both_ways, not-true}
 use Rattle.std.proofs.lemmas.List.{map-append}
+use Rattle.list_laws.proofs.Elements.{list_all-from, list_any-none}
 use Rattle.dd_nodes.specs.declared.node.Node.{Node}
-use Rattle.dd_nodes.specs.NodeList.{Values, IsNumber, IsReduced, StandsBelow, StandsFrom, function, node_at}
+use Rattle.dd_nodes.specs.NodeList.{Values, IsNumber, IsReduced, StandsFrom, function, node_at}
 use Rattle.dd_nodes.proofs.NodeLemmas.{function_false, function_true, function_blind, function_hi, function_lo, node_place, same_ref}
 use Rattle.dd_nodes.proofs.Canonicity.{canonical}
 use Rattle.task_core.specs.Cubes.{Cube, SetOfVectors, literal, half, is_empty_set, is_whole_set, ignores_first, cubes_from}
 use Rattle.task_core.specs.Vectors.{Vector, value_of, all_vectors, same_value}
 use Rattle.task_core.specs.declared.literals.Lit.{Lit}
 use Rattle.task_core.proofs.Vectors.{same_value_refl, same_value_equal, list_all_contains, list_any_contains, all_vectors_has}
+use Rattle.dd_ops.proofs.QuestionLemmas.{below_from}
 use Rattle.dd_sets.specs.Stores.{set_from}
-
-all_each : {X : Type 0} (p : X → Bool) → ((x : X) → p x ≡ true) → (xs : List X) → list_all p xs ≡ true
-all_each p each [] = refl
-all_each p each (x ∷ xs) = and_from (p x) (list_all p xs) (each x) (all_each p each xs)
-
-any_none : {X : Type 0} (p : X → Bool) → ((x : X) → p x ≡ false) → (xs : List X) → list_any p xs ≡ false
-any_none p each [] = refl
-any_none p each (x ∷ xs) = or_from (p x) (list_any p xs) (each x) (any_none p each xs)
 
 -- an empty set, a whole one, and one that ignores the first fluent
 empty_each : (k : ℕ) (set : SetOfVectors) → is_empty_set k set ≡ true → (v : Vector) → length v ≡ k → set v ≡ false
@@ -76,9 +70,6 @@ module _ (vars : ℕ) (nodes : List Node) (reduced : IsReduced vars nodes) where
       at v = function_blind nodes vars reduced (n + 1) n (omega arith) (first + 1) from (λ f. value_of (b ∷ v) (f - first)) (λ f. value_of v (f - (first + 1)))
           (λ u above below. value_shift b v u first above)
 
-  below_from : (v n : ℕ) → StandsBelow nodes v n → StandsFrom nodes (v + 1) n
-  below_from v n below k at = let deeper : v < k.var = below k at in omega arith
-
   module _ (n : ℕ) (node : Node) (there : node_at nodes n ≡ Some node) where
     -- the halves of a node are its children
     half_false : (first : ℕ) → node.var ≡ first → half false (set_from nodes first n) ≡ set_from nodes (first + 1) node.lo.0
@@ -87,7 +78,7 @@ module _ (vars : ℕ) (nodes : List Node) (reduced : IsReduced vars nodes) where
         at : (v : Vector) → half false (set_from nodes first n) v ≡ set_from nodes (first + 1) node.lo.0 v
         at v =
             sym (function_lo nodes vars reduced n node (λ f. value_of (false ∷ v) (f - first)) there (value_first false v node.var first is))
-            ∙ ap (λ s. s v) (half_skips node.lo.0 first false (subst (λ w. StandsFrom nodes (w + 1) node.lo.0) is (below_from node.var node.lo.0 (reduced.lo_below n node there))))
+            ∙ ap (λ s. s v) (half_skips node.lo.0 first false (subst (λ w. StandsFrom nodes (w + 1) node.lo.0) is (below_from nodes node.var node.lo.0 (reduced.lo_below n node there))))
 
     half_true : (first : ℕ) → node.var ≡ first → half true (set_from nodes first n) ≡ set_from nodes (first + 1) node.hi.0
     half_true first is = λ i v. at v i
@@ -95,7 +86,7 @@ module _ (vars : ℕ) (nodes : List Node) (reduced : IsReduced vars nodes) where
         at : (v : Vector) → half true (set_from nodes first n) v ≡ set_from nodes (first + 1) node.hi.0 v
         at v =
             sym (function_hi nodes vars reduced n node (λ f. value_of (true ∷ v) (f - first)) there (value_first true v node.var first is))
-            ∙ ap (λ s. s v) (half_skips node.hi.0 first true (subst (λ w. StandsFrom nodes (w + 1) node.hi.0) is (below_from node.var node.hi.0 (reduced.hi_below n node there))))
+            ∙ ap (λ s. s v) (half_skips node.hi.0 first true (subst (λ w. StandsFrom nodes (w + 1) node.hi.0) is (below_from nodes node.var node.hi.0 (reduced.hi_below n node there))))
 
     number : IsNumber nodes n
     number = (node_place nodes n node there).1
@@ -130,8 +121,8 @@ module _ (vars : ℕ) (nodes : List Node) (reduced : IsReduced vars nodes) where
         let is_in : IsNumber nodes n = number in
         let lo_lower : node.lo.0 < n = reduced.lo_before n node there in
         let hi_lower : node.hi.0 < n = reduced.hi_before n node there in
-        let lo_from : StandsFrom nodes (first + 1) node.lo.0 = subst (λ w. StandsFrom nodes (w + 1) node.lo.0) is (below_from node.var node.lo.0 (reduced.lo_below n node there)) in
-        let hi_from : StandsFrom nodes (first + 1) node.hi.0 = subst (λ w. StandsFrom nodes (w + 1) node.hi.0) is (below_from node.var node.hi.0 (reduced.hi_below n node there)) in
+        let lo_from : StandsFrom nodes (first + 1) node.lo.0 = subst (λ w. StandsFrom nodes (w + 1) node.lo.0) is (below_from nodes node.var node.lo.0 (reduced.lo_below n node there)) in
+        let hi_from : StandsFrom nodes (first + 1) node.hi.0 = subst (λ w. StandsFrom nodes (w + 1) node.hi.0) is (below_from nodes node.var node.hi.0 (reduced.hi_below n node there)) in
         let same : node.lo.0 ≡ node.hi.0 = canonical vars nodes reduced node.lo.0 node.hi.0 (omega arith) (omega arith) (λ values.
         by_set node.lo.0 (first + 1) k (omega arith) lo_from values
         ∙ ap (λ s. s (from_values values (first + 1) k)) (sym (half_false first is))
@@ -140,33 +131,27 @@ module _ (vars : ℕ) (nodes : List Node) (reduced : IsReduced vars nodes) where
         ∙ sym (by_set node.hi.0 (first + 1) k (omega arith) hi_from values)) in
         reduced.tests n node there (same_ref node.lo node.hi same))
 
+    same_var : (k : Node) → node_at nodes n ≡ Some k → node.var ≡ k.var
+    same_var k at = some_var (sym there ∙ at)
+      where
+        some_var : {l : Node} → Some node ≡ Some l → node.var ≡ l.var
+        some_var e = cc
+
     own_from : (first : ℕ) → first < node.var → StandsFrom nodes (first + 1) n
     own_from first above k at = let e : node.var ≡ k.var = same_var k at in omega arith
-      where
-        same_var : (k : Node) → node_at nodes n ≡ Some k → node.var ≡ k.var
-        same_var k at = some_var (sym there ∙ at)
-          where
-            some_var : {l : Node} → Some node ≡ Some l → node.var ≡ l.var
-            some_var e = cc
 
     -- and on none above
     ignoring : (first k : ℕ) → first < node.var → ignores_first k (set_from nodes first n) ≡ true
-    ignoring first k above = all_each (λ v. same_value (set_from nodes first n (false ∷ v)) (set_from nodes first n (true ∷ v)))
-        (λ v. subst (λ b. same_value (set_from nodes first n (false ∷ v)) b ≡ true)
+    ignoring first k above = list_all-from (λ v. same_value (set_from nodes first n (false ∷ v)) (set_from nodes first n (true ∷ v))) (all_vectors k)
+        (λ v has. subst (λ b. same_value (set_from nodes first n (false ∷ v)) b ≡ true)
         (ap (λ s. s v) (half_skips n first false stands ∙ sym (half_skips n first true stands)))
-        (same_value_refl (set_from nodes first n (false ∷ v)))) (all_vectors k)
+        (same_value_refl (set_from nodes first n (false ∷ v))))
       where
         stands : StandsFrom nodes (first + 1) n
         stands = own_from first above
 
     own_stands : (first : ℕ) → first ≤ node.var → StandsFrom nodes first n
     own_stands first above k at = let e : node.var ≡ k.var = same_var k at in omega arith
-      where
-        same_var : (k : Node) → node_at nodes n ≡ Some k → node.var ≡ k.var
-        same_var k at = some_var (sym there ∙ at)
-          where
-            some_var : {l : Node} → Some node ≡ Some l → node.var ≡ l.var
-            some_var e = cc
 
     cubes_skip : (first k : ℕ) → first + suc k ≡ vars → first < node.var → cubes_from first (suc k) (set_from nodes first n) ≡ cubes_from (first + 1) k (set_from nodes (first + 1) n)
     cubes_skip first k whole above =
@@ -207,16 +192,16 @@ module _ (vars : ℕ) (nodes : List Node) (reduced : IsReduced vars nodes) where
     cubes_node first k whole from = let above : first ≤ node.var = from node there in cubes_jump (node.var - first) first k whole (omega arith)
 
     pub lo_stands : StandsFrom nodes (node.var + 1) node.lo.0
-    lo_stands = below_from node.var node.lo.0 (reduced.lo_below n node there)
+    lo_stands = below_from nodes node.var node.lo.0 (reduced.lo_below n node there)
 
     pub hi_stands : StandsFrom nodes (node.var + 1) node.hi.0
-    hi_stands = below_from node.var node.hi.0 (reduced.hi_below n node there)
+    hi_stands = below_from nodes node.var node.hi.0 (reduced.hi_below n node there)
 
 -- the constants
 pub cubes_false : (nodes : List Node) (first k : ℕ) → cubes_from first k (set_from nodes first 0) ≡ []
 cubes_false nodes first zero = ap (λ b. cond b ([] ∷ []) []) (function_false nodes (λ f. value_of [] (f - first)))
 cubes_false nodes first (suc k) = cond-true (is_empty_set (suc k) (set_from nodes first 0)) _ _
-    (ap not (any_none (set_from nodes first 0) (λ v. function_false nodes (λ f. value_of v (f - first))) (all_vectors (suc k))))
+    (ap not (list_any-none (set_from nodes first 0) (all_vectors (suc k)) (λ v has. function_false nodes (λ f. value_of v (f - first)))))
 
 pub cubes_true : (nodes : List Node) (first k : ℕ) → cubes_from first k (set_from nodes first 1) ≡ [] ∷ []
 cubes_true nodes first zero = ap (λ b. cond b ([] ∷ []) []) (function_true nodes (λ f. value_of [] (f - first)))
@@ -226,7 +211,7 @@ cubes_true nodes first (suc k) =
     (empty_each (suc k) (set_from nodes first 1) e (from_values (λ _. true) first (suc k)) (length_from (λ _. true) first (suc k)))
     (function_true nodes (λ f. value_of (from_values (λ _. true) first (suc k)) (f - first)))))
     ∙ cond-true (is_whole_set (suc k) (set_from nodes first 1)) _ _
-    (all_each (set_from nodes first 1) (λ v. function_true nodes (λ f. value_of v (f - first))) (all_vectors (suc k)))
+    (list_all-from (set_from nodes first 1) (all_vectors (suc k)) (λ v has. function_true nodes (λ f. value_of v (f - first))))
 
 -- cubes behind a longer path
 behind : (path : Cube) (lit : Lit) (cubes : List Cube) → map (λ cube. (path ++ lit ∷ []) ++ cube) cubes ≡ map (λ cube. path ++ cube) (map (λ cube. lit ∷ cube) cubes)

@@ -1,12 +1,12 @@
 -- The different subfunctions of a function, constants aside: one of each kind.
-use Rattle.std.proofs.Common.{◌≡◌, ◌⊎◌, inl, inr, ℕ, zero, suc, ◌<◌, ◌≤◌, Bool, true, false, not, ◌||◌, List, [], ◌∷◌, length, map, filter, flat_map, Contains, refl, sym, ap, subst, ◌∙◌, ⊎_elim, arith, append-nil}
+use Rattle.std.proofs.Common.{◌≡◌, ◌⊎◌, inl, inr, ℕ, zero, suc, ◌≤◌, Bool, true, false, not, ◌||◌, List, [], ◌∷◌, length, map, filter, flat_map, refl, sym, ap, subst, ◌∙◌, ⊎_elim, arith, append-nil}
 use Rattle.std.specs.List.{All, list_all, list_any}
 use Rattle.std.proofs.lemmas.Bool.{cases_Bool, and_from, both_ways, false≢true, or_cases, or_left, or_right, not_from_true, not_from_false}
 use Rattle.std.proofs.lemmas.List.Elements.{All-nil, All-cons, All-head, All-tail, All-append, All-map, All-filter, All-weaker, filter_passes}
 use Rattle.dd_nodes.specs.Subfunctions.{Function, agree, constants, fixed, lists, lists_up_to, nodes, subfunctions}
 use Rattle.dd_nodes.proofs.Agreement.{agree_chain, agree_turn, subfunction_listed}
-use Rattle.dd_nodes.proofs.Counting.{count, any_filter, any_weaker, covered, count_covered}
-use Rattle.dd_sets.proofs.CountLemmas.{firsts, firsts-nil, firsts-new, firsts-there, length-firsts, beside, beside_moves, counted}
+use Rattle.dd_nodes.proofs.Counting.{count, any_filter, any_weaker, covered, count_covered, firsts, firsts-nil, firsts-new, firsts-there, length-firsts}
+use Rattle.dd_sets.proofs.CountLemmas.{beside, beside_moves, counted}
 
 -- what holds of each list of n truth values holds of all of `lists n`, and of those up to n
 lists_all : (P : List Bool → Type 0) (n : ℕ) → ((first : List Bool) → length first ≡ n → P first) → All P (lists n)
@@ -30,17 +30,6 @@ mapped_all P h (x ∷ xs) all = All-append P (h x) (flat_map h xs) (All-head (λ
 all_passed : {A : Type 0} (p : A → Bool) (xs : List A) → All (λ x. p x ≡ true) xs → list_all p xs ≡ true
 all_passed p [] all = refl
 all_passed p (x ∷ xs) all = and_from (p x) (list_all p xs) (All-head (λ y. p y ≡ true) x xs all) (all_passed p xs (All-tail (λ y. p y ≡ true) x xs all))
-
--- an element of a list that passes a test
-pub found : {A : Type 0} (p : A → Bool) (xs : List A) → list_any p xs ≡ true → (x : A) × Contains xs x × (p x ≡ true)
-found p [] some = absurd (false≢true some)
-found p (x ∷ xs) some = ⊎_elim
-    (λ (here : p x ≡ true). (x, (zero, omega arith, refl), here))
-    (λ (later : list_any p xs ≡ true).
-    let rest = found p xs later in
-    let within : rest.1.0 < length xs = rest.1.1 in
-    (rest.0, (suc rest.1.0, omega arith, rest.1.2), rest.2))
-    (or_cases (p x) (list_any p xs) some)
 
 module _ {A : Type 0} (same : A → A → Bool) (turn : (a b : A) → same a b ≡ true → same b a ≡ true) (chain : (a b c : A) → same a b ≡ true → same b c ≡ true → same a c ≡ true) where
   -- the first of each group are elements, and one of them is the same as each element

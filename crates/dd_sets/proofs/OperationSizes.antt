@@ -6,9 +6,10 @@ use Rattle.std.proofs.lemmas.Bool.{cases_eq, cases_lt, cond-true, cond-false, eq
 use Rattle.std.proofs.lemmas.List.{length-map, length-set, get_or-set_same, get_or-set_other}
 use Rattle.std.proofs.lemmas.List.Elements.{All-nil, All-cons}
 use Rattle.std.proofs.lemmas.List.Folds.{list_any-append}
+use Rattle.list_laws.proofs.Elements.{list_any-from, list_any-witness}
 use Rattle.dd_nodes.specs.NodeList.{Values, with_value}
 use Rattle.dd_nodes.specs.Subfunctions.{Function, agree, constants, fixed, nodes, with_first}
-use Rattle.dd_nodes.proofs.Agreement.{agree_chain, agree_each, agree_from, agree_same, list_any-map}
+use Rattle.dd_nodes.proofs.Agreement.{agree_chain, agree_each, agree_from, agree_same, any_flat_map, list_any-map}
 use Rattle.dd_nodes.proofs.Counting.{any_weaker}
 use Rattle.dd_nodes.proofs.Reaching.{past_at, within_at}
 use Rattle.dd_ops.proofs.GrowthBounds.{grow_constant, grow_variable}
@@ -16,8 +17,8 @@ use Rattle.dd_ops.specs.Operations.{variable, not_of, and_of, or_of, minus_of, c
 use Rattle.task_core.specs.Vectors.{Vector, value_of}
 use Rattle.dd_sets.specs.LiveSets.{nothing, everything}
 use Rattle.dd_sets.specs.Rooms.{Small, Rough, AreRough}
-use Rattle.dd_sets.proofs.CountLemmas.{any_here, any_mapped, beside}
-use Rattle.dd_sets.proofs.KindLemmas.{covered_nodes, found, in_kinds, is_constant, kinds, known_or_kind, length-kinds, not_both, which_constant}
+use Rattle.dd_sets.proofs.CountLemmas.{beside}
+use Rattle.dd_sets.proofs.KindLemmas.{covered_nodes, in_kinds, is_constant, kinds, known_or_kind, length-kinds, not_both, which_constant}
 use Rattle.dd_sets.proofs.TightLemmas.{nodes_grow}
 
 pub constants_small : (vars w : ℕ) → 2 ≤ w → Small vars w nothing × Small vars w everything
@@ -42,8 +43,8 @@ length-pairs h (x ∷ xs) ys = omega (arith, length-append (map (h x) ys) (flat_
 
 pair_in : {A B C : Type 0} (p : C → Bool) (h : A → B → C) (xs : List A) (ys : List B) (x : A) (y : B) → Contains xs x → Contains ys y → p (h x y) ≡ true → list_any p (pairs h xs ys) ≡ true
 unfolding pairs
-pair_in p h xs ys x y has_x has_y here = any_mapped p (λ z. map (h z) ys) xs has_x.0 x has_x.1 has_x.2
-    (list_any-map p (h x) ys ∙ any_here (λ z. p (h x z)) ys has_y.0 y has_y.1 has_y.2 here)
+pair_in p h xs ys x y has_x has_y here = any_flat_map p (λ z. map (h z) ys) xs has_x.0 x has_x.1 has_x.2
+    (list_any-map p (h x) ys ∙ list_any-from (λ z. p (h x z)) ys y has_y here)
 
 module _ (vars : ℕ) where
   -- a function each of whose subfunctions is made of one of another, constants of constants
@@ -114,8 +115,8 @@ module _ (vars : ℕ) where
 
       each : (first : List Bool) → length first ≤ vars → beside vars constants (fixed first (both_of o f g)) ≡ true → list_any (agree vars (fixed first (both_of o f g))) ys ≡ true
       each first few apart =
-          let a = found (agree vars (fixed first f)) (all_kinds f) (in_all_kinds f first few) in
-          let b = found (agree vars (fixed first g)) (all_kinds g) (in_all_kinds g first few) in
+          let a = list_any-witness (agree vars (fixed first f)) (all_kinds f) (in_all_kinds f first few) in
+          let b = list_any-witness (agree vars (fixed first g)) (all_kinds g) (in_all_kinds g first few) in
           pair_in (agree vars (fixed first (both_of o f g))) (both_of o) (all_kinds f) (all_kinds g) a.0 b.0 a.1 b.1
           (agree_from vars (fixed first (both_of o f g)) (both_of o a.0 b.0)
           (λ second long i. o (agree_each vars (fixed first f) a.0 a.2 second long i) (agree_each vars (fixed first g) b.0 b.2 second long i)))

@@ -21,7 +21,7 @@ has_head : (slot : ℕ) (set : Function) (own : Slots) → has_slot ((slot, set)
 has_head slot set own = or_left (slot == slot) (has_slot own slot) (eq-eqb slot slot refl)
 
 -- each own slot keeps its set where the live slots do
-new_kept : (before now next : LiveSets) → KeepsSets now next → (own : Slots) → ((slot : ℕ) → has_slot own slot ≡ true → IsLive now slot) → AreNew before now own → AreNew before next own
+pub new_kept : (before now next : LiveSets) → KeepsSets now next → (own : Slots) → ((slot : ℕ) → has_slot own slot ≡ true → IsLive now slot) → AreNew before now own → AreNew before next own
 new_kept before now next kept [] live new = tt
 new_kept before now next kept (entry ∷ own) live new = (
   new.0,

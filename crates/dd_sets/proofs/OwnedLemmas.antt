@@ -2,7 +2,7 @@
 use Rattle.std.proofs.Common.{◌≡◌, ℕ, ◌+◌, ◌==◌, true, false, ◌||◌, [], ◌∷◌, ◌++◌, length, Result, Ok, Err, IfOk, OnErr, refl, sym, ap, ◌∙◌, arith, length-append}
 use borrow.Author.Tests.{eq-eqb}
 use Rattle.std.proofs.Math.Bool.{or_assoc}
-use Rattle.std.proofs.lemmas.Bool.{both_ways, or_parts, or_from, or_left, or_right}
+use Rattle.std.proofs.lemmas.Bool.{both_ways, or_parts, or_from, or_left}
 use Rattle.std.proofs.lemmas.List.Folds.{list_any-append}
 use Rattle.dd_nodes.specs.Subfunctions.{Function}
 use Rattle.dd_sets.specs.Calls.{KeepsSets, Adds, AddsNone, Releases}
@@ -11,23 +11,13 @@ use Rattle.dd_sets.specs.LiveSets.{LiveSets, is_live, set_of, live_count, IsLive
 use Rattle.dd_sets.specs.declared.errors.SetErr.{SetErr}
 use Rattle.dd_sets.specs.declared.slots.SetId.{SetId}
 use Rattle.dd_sets.proofs.FrameLemmas.{kept_chain}
-use Rattle.dd_sets.proofs.OwnLemmas.{own_none, own_live, own_same, own_add, own_end, own_one, own_nothing}
+use Rattle.dd_sets.proofs.OwnLemmas.{own_none, own_live, own_same, own_add, own_end, own_one, own_nothing, new_kept}
 
 -- what a call on the sets answers
 pub answered : (before after : LiveSets) (set : Function) (result : Result SetId SetErr) → IfOk result (λ slot. Adds before after slot.0 set) → KeepsSets before after
     → OnErr result (AddsNone before after) → OwnsAnswer before after set result
 answered before after set (Ok slot) adds kept none = own_add before before after [] (own_none before) kept slot.0 set adds
 answered before after set (Err e) adds kept none = own_same before before after [] (own_none before) kept none
-
--- each own slot keeps its set where the live slots do
-new_kept : (before now next : LiveSets) → KeepsSets now next → (own : Slots) → ((slot : ℕ) → has_slot own slot ≡ true → IsLive now slot) → AreNew before now own → AreNew before next own
-new_kept before now next kept [] live new = tt
-new_kept before now next kept (entry ∷ own) live new = (
-  new.0,
-  new.1,
-  kept.sets entry.0 (live entry.0 (or_left (entry.0 == entry.0) (has_slot own entry.0) (eq-eqb entry.0 entry.0 refl))) ∙ new.2,
-  new_kept before now next kept own (λ slot has. live slot (or_right (entry.0 == slot) (has_slot own slot) has)) new.3,
-)
 
 -- first some slots, then some more
 new_chain : (a b c : LiveSets) (xs : Slots) → Owns a b xs → KeepsSets b c → (ys : Slots) → AreNew b c ys → AreNew a c (ys ++ xs)

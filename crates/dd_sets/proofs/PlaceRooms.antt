@@ -3,31 +3,14 @@ use Rattle.std.proofs.Common.{◌≡◌, ◌≢◌, ◌⊎◌, inl, inr, ℕ, ze
 use Rattle.std.specs.List.{list_any}
 use Rattle.std.proofs.lemmas.Bool.{and_from, both_ways, cases_Bool, cases_eq, cases_lt, eq-eqb, eqb-true, false_from_ne_true, or_from}
 use Rattle.std.proofs.lemmas.List.{length-map}
+use Rattle.list_laws.proofs.Elements.{Contains-map, Contains-map-witness, list_any-from}
 use Rattle.dd_nodes.specs.Subfunctions.{Function}
 use Rattle.dd_nodes.proofs.Counting.{Apart, count_within, covered, pigeonhole}
 use Rattle.dd_sets.specs.Calls.{KeepsSets}
 use Rattle.dd_sets.specs.LiveSets.{LiveSets, is_live, live_sets, set_of}
 use Rattle.dd_sets.specs.Rooms.{NoRoom, Small, Rough}
-use Rattle.dd_sets.proofs.CountLemmas.{any_here}
 use Rattle.dd_sets.proofs.LiveLemmas.{added, in_live, live_in, moved}
 use Rattle.dd_sets.proofs.NoRoomLemmas.{no_room_beside}
-
--- a member of a map comes from one, and each member goes into it
-in_map : {X Y : Type 0} (h : X → Y) (xs : List X) (y : Y) → Contains (map h xs) y → (x : X) × Contains xs x × (h x ≡ y)
-in_map h [] y (k, within, at) = absurd (omega arith)
-in_map h (x ∷ xs) y (zero, within, at) = (x, (zero, omega arith, refl), at)
-in_map h (x ∷ xs) y (suc k, within, at) =
-    let rest = in_map h xs y (k, omega arith, at) in
-    let inside : rest.1.0 < length xs = rest.1.1 in
-    (rest.0, (suc rest.1.0, omega arith, rest.1.2), rest.2)
-
-map_in : {X Y : Type 0} (h : X → Y) (xs : List X) (x : X) → Contains xs x → Contains (map h xs) (h x)
-map_in h [] x (k, within, at) = absurd (omega arith)
-map_in h (z ∷ xs) x (zero, within, at) = (zero, omega arith, ap h at)
-map_in h (z ∷ xs) x (suc k, within, at) =
-    let rest = map_in h xs x (k, omega arith, at) in
-    let inside : rest.0 < length (map h xs) = rest.1 in
-    (suc rest.0, omega arith, rest.2)
 
 -- no number of a list of smaller numbers is this one
 none_equal : (n : ℕ) (xs : List ℕ) → ((x : ℕ) → Contains xs x → x < n) → list_any (λ x. n == x) xs ≡ false
@@ -87,7 +70,7 @@ module _ (P : ℕ → Type 0) (Q : Function → Type 0) (set_at : ℕ → Functi
         each_rough = λ place has. first_or P n rest.rough place other.1 (rest.each_rough place) has;
         below = λ place has. first_or (λ x. x < suc n) n rest.rough place (omega arith) (λ later. let less : place < n = rest.below place later in omega arith) has;
         apart = (none_equal n rest.rough rest.below, rest.apart);
-        cover = and_from (list_any (λ b. n == b) listed) (covered (λ a b. a == b) listed rest.rough) (any_here (λ b. n == b) listed other.0.0 n other.0.1 other.0.2 (eq-eqb n n refl)) rest.cover;
+        cover = and_from (list_any (λ b. n == b) listed) (covered (λ a b. a == b) listed rest.rough) (list_any-from (λ b. n == b) listed n other.0 (eq-eqb n n refl)) rest.cover;
         all = λ place less. ⊎_elim
             (λ (earlier : place < n). ⊎_elim (λ (there : Contains rest.small (set_at place)). inl there)
             (λ (there : Contains rest.rough place). let within : there.0 < length rest.rough = there.1 in inr (suc there.0, omega arith, there.2)) (rest.all place earlier))
@@ -135,13 +118,13 @@ room_places {w} before now {after} kept slot_of places listed alike fits few man
     let few_listed : length found.rough ≤ length listed = few_rough (λ place. Rough before.vars w (set_of now (slot_of place))) (Small before.vars w) (λ place. set_of now (slot_of place)) listed places found in
     let long : length (map (λ place. set_of now (slot_of place)) found.rough) ≡ length found.rough = length-map found.rough (λ place. set_of now (slot_of place)) in
     no_room_beside w before now after found.small (map (λ place. set_of now (slot_of place)) found.rough) few many fewer others kept found.each
-    (λ set has. let source = in_map (λ place. set_of now (slot_of place)) found.rough set has in subst (Rough before.vars w) source.2 (found.each_rough source.0 source.1))
+    (λ set has. let source = Contains-map-witness (λ place. set_of now (slot_of place)) found.rough set has in subst (Rough before.vars w) source.2 (found.each_rough source.0 source.1))
     (λ f has. let live = in_live now f has in ⊎_elim
     (λ (was : is_live before live.0 ≡ true). inl (moved (live_sets before) (sym (kept.sets live.0 was) ∙ live.2) (live_in before live.0 was)))
     (λ (free : is_live before live.0 ≡ false). inr (⊎_elim
     (λ (at : (i : ℕ) × (i < places) × (slot_of i ≡ live.0)). ⊎_elim
     (λ (there : Contains found.small (set_of now (slot_of at.0))). inl (moved found.small (ap (set_of now) at.2 ∙ live.2) there))
-    (λ (there : Contains found.rough at.0). inr (moved (map (λ place. set_of now (slot_of place)) found.rough) (ap (set_of now) at.2 ∙ live.2) (map_in (λ place. set_of now (slot_of place)) found.rough at.0 there)))
+    (λ (there : Contains found.rough at.0). inr (moved (map (λ place. set_of now (slot_of place)) found.rough) (ap (set_of now) at.2 ∙ live.2) (Contains-map (λ place. set_of now (slot_of place)) found.rough at.0 there)))
     (found.all at.0 at.1))
     (λ (nowhere : (i : ℕ) → i < places → slot_of i ≢ live.0). absurd (both_ways (is_live before live.0) free (sym (alike live.0 nowhere) ∙ live.1)))
     (place_of slot_of places live.0)))

@@ -3,27 +3,15 @@
 use Rattle.std.proofs.Common.{◌≡◌, ℕ, zero, suc, ◌+◌, ◌^◌, ◌<◌, ◌≤◌, Bool, true, false, ◌&&◌, List, [], ◌∷◌, length, map, refl, sym, ap, ◌∙◌, arith}
 use Rattle.std.specs.List.{list_any, list_all}
 use mathlib.Core.Bool.{beq}
-use native.Mathlib.Nat.{pow-succ'}
 use Rattle.std.proofs.lemmas.Bool.{and_parts, and_from, or_from, false_from_ne_true}
-use Rattle.std.proofs.lemmas.List.{length-map, length-append}
+use Rattle.std.proofs.lemmas.List.{length-map}
 use Rattle.dd_nodes.specs.declared.node.Node.{Node}
 use Rattle.dd_nodes.specs.NodeList.{IsReduced, function}
 use Rattle.dd_nodes.specs.Subfunctions.{Function, fixed, lists, agree}
 use Rattle.dd_nodes.proofs.Agreement.{beq-eq, eq-beq, lists_any}
 use Rattle.dd_nodes.proofs.Counting.{count, count_within, Apart, covered, pigeonhole}
 use Rattle.dd_nodes.proofs.NodeCount.{one_number}
-
-length_lists : (n : ℕ) → length (lists n) ≡ 2 ^ n
-unfolding lists
-length_lists zero = refl
-length_lists (suc n) = omega (
-  arith,
-  length-append (map (λ rest. false ∷ rest) (lists n)) (map (λ rest. true ∷ rest) (lists n)),
-  length-map (lists n) (λ (rest : List Bool). false ∷ rest),
-  length-map (lists n) (λ (rest : List Bool). true ∷ rest),
-  length_lists n,
-  pow-succ' 2 n,
-)
+use Rattle.dd_ops.proofs.GrowthBounds.{length-lists}
 
 -- whether two lists of truth values are the same
 same : List Bool → List Bool → Bool
@@ -89,7 +77,7 @@ module _ (vars : ℕ) (nodes : List Node) (reduced : IsReduced vars nodes) where
   all_covered start zero = refl
   all_covered start (suc k) = and_from (list_any (same (values_of vars (function nodes start))) (lists (2 ^ vars))) (covered same (lists (2 ^ vars)) (all_values (suc start) k))
       (lists_any (same (values_of vars (function nodes start))) (2 ^ vars) (values_of vars (function nodes start))
-      (length-map (lists vars) (λ first. fixed first (function nodes start) (λ _. false)) ∙ length_lists vars)
+      (length-map (lists vars) (λ first. fixed first (function nodes start) (λ _. false)) ∙ length-lists vars)
       (same_self (values_of vars (function nodes start))))
       (all_covered (suc start) k)
 
@@ -102,4 +90,4 @@ module _ (vars : ℕ) (nodes : List Node) (reduced : IsReduced vars nodes) where
       (λ a b e. ap (λ z. same z a) (sym (same_eq a b e)) ∙ same_self a)
       (λ a b c e d. ap (λ z. same z c) (same_eq a b e) ∙ d)
       (lists (2 ^ vars)) (all_values 0 (length nodes + 2)) (all_apart 0 (length nodes + 2) (omega arith)) (all_covered 0 (length nodes + 2)) in
-      omega (arith, most, length_all 0 (length nodes + 2), count_within same (lists (2 ^ vars)), length_lists (2 ^ vars))
+      omega (arith, most, length_all 0 (length nodes + 2), count_within same (lists (2 ^ vars)), length-lists (2 ^ vars))

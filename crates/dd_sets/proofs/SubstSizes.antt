@@ -4,16 +4,17 @@ use Rattle.std.proofs.Common.{◌≡◌, ℕ, ◌+◌, ◌-◌, ◌*◌, ◌≤�
 use Rattle.std.specs.List.{All, list_any, range_with_len}
 use Rattle.std.proofs.lemmas.List.Elements.{All-contains, All-head, All-map, All-tail}
 use Rattle.std.proofs.lemmas.List.FromFn.{length-range_with_len}
+use Rattle.list_laws.proofs.Elements.{list_any-witness}
 use Rattle.dd_nodes.specs.NodeList.{Values}
 use Rattle.dd_nodes.specs.Subfunctions.{Function, DependsOnly, IsSubfunction, agree, constants, fixed, nodes, subfunctions, with_first}
-use Rattle.dd_nodes.proofs.Agreement.{agree_chain, agree_same, agree_values}
+use Rattle.dd_nodes.proofs.Agreement.{agree_chain, agree_same, agree_values, any_flat_map}
 use Rattle.dd_nodes.proofs.Counting.{any_weaker}
 use Rattle.dd_ops.proofs.GrowthBounds.{grow_each, grow_variable, length-filter_within}
 use Rattle.dd_ops.specs.Growth.{depends_on, grow, subst_pieces}
 use Rattle.dd_ops.specs.Operations.{variable}
 use Rattle.dd_sets.specs.Rooms.{Small, AreRough}
-use Rattle.dd_sets.proofs.CountLemmas.{any_mapped, beside, beside_moves}
-use Rattle.dd_sets.proofs.KindLemmas.{covered_nodes, found, in_kinds, is_constant, kinds, kinds_all, known_or_kind, length-kinds, not_both, subfunctions_all, which_constant}
+use Rattle.dd_sets.proofs.CountLemmas.{beside, beside_moves}
+use Rattle.dd_sets.proofs.KindLemmas.{covered_nodes, in_kinds, is_constant, kinds, kinds_all, known_or_kind, length-kinds, not_both, subfunctions_all, which_constant}
 use Rattle.dd_sets.proofs.SizeLemmas.{nodes-append}
 use Rattle.dd_sets.proofs.TightLemmas.{nodes_grow}
 
@@ -65,11 +66,11 @@ module _ (vars w : ℕ) (set : Function) (replaced : Values → Values) (wide : 
       (λ values. agree_values vars g (λ _. which.0) depends (λ s t same. refl) which.1 (replaced (with_first second values)))))
       apart))
       (λ (kind : beside vars constants g ≡ true).
-      let k = found (agree vars g) (kinds vars set) (in_kinds vars set first few kind) in
+      let k = list_any-witness (agree vars g) (kinds vars set) (in_kinds vars set first few kind) in
       let depends_k : DependsOnly 0 vars k.0 = All-contains (DependsOnly 0 vars) (kinds vars set) k.0 (kinds_all vars (DependsOnly 0 vars) set (λ other _. depends_fixed vars set other fluents)) k.1 in
       let same : agree vars (fixed second (image g)) (fixed second (image k.0)) ≡ true = agree_same vars (fixed second (image g)) (fixed second (image k.0))
       (λ values. agree_values vars g k.0 depends depends_k k.2 (replaced (with_first second values))) in
-      any_mapped (agree vars (fixed second (image g))) (λ x. kinds vars (image x)) (kinds vars set) k.1.0 k.0 k.1.1 k.1.2
+      any_flat_map (agree vars (fixed second (image g))) (λ x. kinds vars (image x)) (kinds vars set) k.1.0 k.0 k.1.1 k.1.2
       (any_weaker (agree vars (fixed second (image k.0))) (agree vars (fixed second (image g))) (λ y e. agree_chain vars (fixed second (image g)) (fixed second (image k.0)) y same e) (kinds vars (image k.0))
       (in_kinds vars (image k.0) second short (beside_moves vars constants (fixed second (image g)) (fixed second (image k.0)) same apart))))
       (known_or_kind vars g)

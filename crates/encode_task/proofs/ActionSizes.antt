@@ -1,7 +1,8 @@
 -- The sets that are made for an action, by their sizes.
-use Rattle.std.proofs.Common.{◌≡◌, ℕ, ◌&&◌, [], ◌∷◌, List, take, Contains, refl, sym, subst, arith}
+use Rattle.std.proofs.Common.{◌≡◌, ℕ, ◌&&◌, [], ◌∷◌, List, take, Contains, sym, subst}
 use Rattle.std.specs.List.{list_any}
-use Rattle.dd_nodes.specs.Subfunctions.{Function, IsSubfunction}
+use Rattle.dd_nodes.specs.Subfunctions.{Function}
+use Rattle.dd_nodes.proofs.Dependence.{sub_self}
 use Rattle.dd_ops.specs.Operations.{and_of}
 use Rattle.dd_sets.specs.Frames.{Owns}
 use Rattle.dd_sets.specs.LiveSets.{LiveSets, set_of}
@@ -31,12 +32,8 @@ pub outcome_small : (w n : ℕ) (invariant : Cond) (action : GroundAction) (outc
     → AreSmall n w (IsMadeForOutcome n outcome)
 outcome_small w n invariant action outcomes outcome same among small set made = small set (of_outcome outcome set (subst (λ l. Contains l outcome) same among) made)
 
--- a function is a subfunction of itself
-pub itself_sub : (n : ℕ) (f : Function) → IsSubfunction n f f
-itself_sub n f = record { first = []; few = omega arith; fixes = λ values. refl }
-
 pub lands_small : (w n : ℕ) (invariant : Cond) (action : GroundAction) (o : Outcome) → Contains action.outcomes.items o → AreSmall n w (IsMadeForAction n invariant action) → Small n w (lands_of invariant o)
-lands_small w n invariant action o among small = small (lands_of invariant o) (led o (holds invariant) among (itself_sub n (holds invariant)))
+lands_small w n invariant action o among small = small (lands_of invariant o) (led o (holds invariant) among (sub_self n (holds invariant)))
 
 -- what is allowed, and is in one of the first slots
 pub first_slots_small : (w : ℕ) (start before : LiveSets) (invariant : Cond) (action : GroundAction) (lands : List SetId) (slot : SetId) (j : ℕ) → Owns start before ((slot.0, and_of (holds invariant) (holds action.exec)) ∷ [])

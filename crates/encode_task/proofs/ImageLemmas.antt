@@ -6,6 +6,7 @@ use borrow.Author.Tests.{eq-eqb}
 use Rattle.std.proofs.lemmas.Bool.{and_parts, and_from, or_left, or_right, cases_eq, ne_eqb, ltb-true, or_cases}
 use Rattle.dd_nodes.specs.NodeList.{Values, with_value}
 use Rattle.dd_nodes.specs.Subfunctions.{Function}
+use Rattle.dd_nodes.proofs.Canonicity.{with_value_other, with_value_same}
 use Rattle.task_core.specs.Cubes.{Cube}
 use Rattle.task_core.specs.Initial.{applied_value, names_it, lit_within}
 use Rattle.task_core.specs.Vectors.{same_value}
@@ -53,13 +54,6 @@ image_move n move other set moved same is = record {
   to = λ w values member agree. is.to w values member (λ g within. agree g within ∙ sym (same w g within));
 }
 
--- one value assigned
-pub value_at : (values : Values) (f : ℕ) (b : Bool) → with_value values f b f ≡ b
-value_at values f b = ap (λ t. cond t b (values f)) (eq-eqb f f refl)
-
-pub value_other : (values : Values) (f : ℕ) (b : Bool) (g : ℕ) → g ≢ f → with_value values f b g ≡ values g
-value_other values f b g ne = ap (λ t. cond t b (values g)) (ne_eqb g f ne)
-
 or_some : (set : Function) (values : Values) (f : ℕ) (c : Bool) → set (with_value values f c) ≡ true → (set (with_value values f false) || set (with_value values f true)) ≡ true
 or_some set values f false member = or_left (set (with_value values f false)) (set (with_value values f true)) member
 or_some set values f true member = or_right (set (with_value values f false)) (set (with_value values f true)) member
@@ -72,8 +66,8 @@ image_assigned n f b set small depends = record { from = from; to = to }
       with_value values f c,
       member,
       λ g within. ⊎_elim
-          (λ (e : g ≡ f). ap values e ∙ sym at ∙ sym (value_at (with_value values f c) f b) ∙ sym (ap (with_value (with_value values f c) f b) e))
-          (λ (ne : g ≢ f). sym (value_other (with_value values f c) f b g ne ∙ value_other values f c g ne))
+          (λ (e : g ≡ f). ap values e ∙ sym at ∙ sym (with_value_same (with_value values f c) f b) ∙ sym (ap (with_value (with_value values f c) f b) e))
+          (λ (ne : g ≢ f). sym (with_value_other (with_value values f c) f b g ne ∙ with_value_other values f c g ne))
           (cases_eq g f),
     )
 
@@ -87,12 +81,12 @@ image_assigned n f b set small depends = record { from = from; to = to }
     to : (w values : Values) → set w ≡ true → Agrees n values (with_value w f b) → assigned f b set values ≡ true
     to w values member agree =
         let back : Agrees n w (with_value values f (w f)) = λ g within. ⊎_elim
-        (λ (e : g ≡ f). ap w e ∙ sym (value_at values f (w f)) ∙ sym (ap (with_value values f (w f)) e))
-        (λ (ne : g ≢ f). sym (value_other values f (w f) g ne ∙ agree g within ∙ value_other w f b g ne))
+        (λ (e : g ≡ f). ap w e ∙ sym (with_value_same values f (w f)) ∙ sym (ap (with_value values f (w f)) e))
+        (λ (ne : g ≢ f). sym (with_value_other values f (w f) g ne ∙ agree g within ∙ with_value_other w f b g ne))
         (cases_eq g f) in
         and_from (set (with_value values f false) || set (with_value values f true)) (has_value f b values)
         (or_some set values f (w f) (depends w (with_value values f (w f)) back member))
-        (ap (same_value b) (agree f small ∙ value_at w f b) ∙ same_value_refl b)
+        (ap (same_value b) (agree f small ∙ with_value_same w f b) ∙ same_value_refl b)
 
 -- one literal, and all literals of one sign
 abbrev literal_move : Bool → Values → Lit → Values

@@ -1,9 +1,10 @@
 -- Which sets the slots hold that a call adds, and the moment when it finds no room.
-use Rattle.std.proofs.Common.{◌≡◌, ℕ, zero, suc, ◌+◌, ◌<◌, ◌≤◌, ◌==◌, true, false, ◌||◌, inl, inr, ⊎_elim, List, [], ◌∷◌, ◌++◌, map, length, get_or, Contains, Option, Some, None, refl, sym, ap, subst, ◌∙◌, arith}
+use Rattle.std.proofs.Common.{◌≡◌, ℕ, zero, ◌+◌, ◌<◌, ◌≤◌, ◌==◌, true, false, ◌||◌, inl, inr, ⊎_elim, List, [], ◌∷◌, ◌++◌, map, length, get_or, Contains, Option, Some, None, refl, sym, subst, ◌∙◌, arith}
 use borrow.Author.Tests.{eqb-true}
 use Rattle.std.specs.List.{flat_map, range_with_len}
-use Rattle.std.proofs.lemmas.Bool.{cases_eq, or_cases}
+use Rattle.std.proofs.lemmas.Bool.{or_cases}
 use Rattle.std.proofs.lemmas.List.Elements.{Contains-append_left, Contains-append_right}
+use Rattle.list_laws.proofs.Elements.{Contains-map, Contains-range_with_len}
 use Rattle.dd_nodes.specs.Subfunctions.{Function}
 use Rattle.dd_sets.specs.Calls.{KeepsSets}
 use Rattle.dd_sets.specs.Frames.{Owns}
@@ -25,33 +26,13 @@ use Rattle.dd_ops.specs.Operations.{variable}
 use Rattle.dd_sets.specs.declared.slots.SetId.{SetId}
 use Rattle.encode_task.specs.TaskSets.{exec_of, lands_of}
 
--- an element of one of several lists, of a list of images, and a number below another
-pub contains_flat_map : {X Y : Type 0} (f : X → List Y) (xs : List X) (x : X) (y : Y) → Contains xs x → Contains (f x) y → Contains (flat_map f xs) y
-contains_flat_map f [] x y (k, within, at) has = absurd (omega arith)
-contains_flat_map f (z ∷ xs) x y (zero, within, at) has = Contains-append_left (f z) (flat_map f xs) y (subst (λ v. Contains (f v) y) (sym at) has)
-contains_flat_map f (z ∷ xs) x y (suc k, within, at) has = Contains-append_right (f z) (flat_map f xs) y (contains_flat_map f xs x y (k, omega arith, at) has)
-
-pub contains_map : {X Y : Type 0} (f : X → Y) (xs : List X) (x : X) → Contains xs x → Contains (map f xs) (f x)
-contains_map f [] x (k, within, at) = absurd (omega arith)
-contains_map f (z ∷ xs) x (zero, within, at) = (zero, omega arith, ap f at)
-contains_map f (z ∷ xs) x (suc k, within, at) =
-    let rest = contains_map f xs x (k, omega arith, at) in
-    (suc rest.0, omega (arith, rest.1), rest.2)
-
-contains_from : (first n f : ℕ) → first ≤ f → f < first + n → Contains (range_with_len first n) f
-contains_from first zero f low high = absurd (omega arith)
-contains_from first (suc n) f low high = ⊎_elim
-    (λ (same : f ≡ first). (zero, omega arith, sym same))
-    (λ differs. let rest = contains_from (first + 1) n f (omega arith) (omega arith) in (suc rest.0, omega (arith, rest.1), rest.2))
-    (cases_eq f first)
-
 -- a list's element at a place
 pub item_in : {X : Type 0} (xs : List X) (i : ℕ) (x : X) → i < length xs → x ≡ get_or xs i x → Contains xs x
 item_in xs i x within at = (i, within, sym at)
 
 -- the next value of a fluent
 pub next_in : (n : ℕ) (outcome : Outcome) (f : ℕ) → f < n → Contains (next_sets n outcome) (λ values. after_value outcome values f)
-next_in n outcome f within = contains_map {Y = Function} (λ (g : ℕ) values. after_value outcome values g) (range_with_len 0 n) f (contains_from 0 n f (omega arith) (omega arith))
+next_in n outcome f within = Contains-map {Y = Function} (λ (g : ℕ) values. after_value outcome values g) (range_with_len 0 n) f (Contains-range_with_len n f within)
 
 -- no slot more, the slots of one call after another, and a slot that a call answered
 pub adds_same : (P : Function → Type 0) (sets : LiveSets) → AddsSets P sets sets

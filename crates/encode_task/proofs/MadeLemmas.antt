@@ -15,7 +15,7 @@ use Rattle.task_core.specs.Tasks.{action_count, outcomes_at}
 use Rattle.dd_sets.specs.declared.slots.SetId.{SetId}
 use Rattle.encode_task.specs.Made.{Holds, HoldsGoal, HoldsLands, HoldsOutcome, IsReady, MadeOf}
 use Rattle.encode_task.specs.Slots.{Encoded, changed_slots, next_slot, shared_slot}
-use Rattle.encode_task.specs.TaskSets.{next_set}
+use Rattle.encode_task.specs.TaskSets.{goal_set, next_set}
 
 pub holds_kept : (before after : LiveSets) → KeepsSets before after → (slot : SetId) (set : Function) → Holds before slot set → Holds after slot set
 holds_kept before after kept slot set holds = record { live = kept.live slot.0 holds.live; holds = kept.sets slot.0 holds.live ∙ holds.holds }
@@ -80,3 +80,11 @@ goal_in task sets None None holds some = absurd (false≢true some)
 
 pub goal_there : (task : Task) (enc : Encoded) → MadeOf task enc → IsSome task.goal → IsSome enc.goal
 goal_there task enc made some = goal_in task enc.sets enc.goal task.goal made.goal some
+
+-- and a slot of it holds it
+pub goal_slot : (task : Task) (enc : Encoded) (slot : SetId) → MadeOf task enc → enc.goal ≡ Some slot → (goal : Cond) × (task.goal ≡ Some goal) × Holds enc.sets slot (goal_set task goal)
+goal_slot task enc slot made is = at task.goal refl (subst (λ (o : Option SetId). HoldsGoal task enc.sets o task.goal) is made.goal)
+  where
+    at : (goal : Option Cond) → task.goal ≡ goal → HoldsGoal task enc.sets (Some slot) goal → (goal : Cond) × (task.goal ≡ Some goal) × Holds enc.sets slot (goal_set task goal)
+    at None e holds = absurd holds
+    at (Some goal) e holds = (goal, e, holds)

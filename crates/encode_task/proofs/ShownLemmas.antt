@@ -1,10 +1,9 @@
 -- A set of states over n fluents, by its members' values, and what an uncertain entry makes of it.
 use Rattle.std.proofs.Common.{◌≡◌, ℕ, zero, suc, ◌+◌, ◌<◌, Bool, true, false, cond, List, [], ◌∷◌, ◌++◌, map, length, refl, sym, ap, subst, ◌∙◌, ⊎_elim, inl, inr, ◌⊎◌, arith}
 use Rattle.std.specs.List.{Contains, flat_map, fold, list_all, list_any, range_with_len}
-use Rattle.std.proofs.lemmas.Bool.{and_parts}
 use Rattle.std.proofs.lemmas.List.Elements.{Contains-append_left, Contains-append_right, Contains-append_cases}
 use Rattle.list_laws.proofs.Booleans.{same_truth}
-use Rattle.list_laws.proofs.Elements.{list_any-from, list_any-witness}
+use Rattle.list_laws.proofs.Elements.{list_all-at, list_any-from, list_any-witness}
 use Rattle.dd_nodes.specs.NodeList.{Values}
 use Rattle.dd_nodes.specs.Subfunctions.{Function}
 use Rattle.task_core.specs.Cubes.{Cube}
@@ -131,16 +130,11 @@ made_to n entry (w ∷ states) v lits (zero, within, at) there =
 made_to n entry (w ∷ states) v lits (suc k, within, at) there =
     Contains-append_right (map (applied n w) entry) (flat_map (λ v. map (applied n v) entry) states) (applied n v lits) (made_to n entry states v lits (k, omega arith, at) there)
 
-all_passes : {X : Type 0} (p : X → Bool) (xs : List X) (x : X) → list_all p xs ≡ true → Contains xs x → p x ≡ true
-all_passes p [] x all (k, within, at) = absurd (omega arith)
-all_passes p (y ∷ xs) x all (zero, within, at) = ap p (sym at) ∙ (and_parts (p y) (list_all p xs) all).0
-all_passes p (y ∷ xs) x all (suc k, within, at) = all_passes p xs x (and_parts (p y) (list_all p xs) all).1 (k, omega arith, at)
-
 pub shows_entry : (n : ℕ) (states : List Vector) (set : Function) (entry : Entry) → list_all (list_all (lit_within n)) entry ≡ true → Shows n states set → Shows n (after_entry n states entry) (entry_image set entry)
 shows_entry n states set entry within shows = record { from = from; to = to }
   where
     one : (lits : Cube) → Contains entry lits → IsImage n (applied_value lits) set (image lits set)
-    one lits there = image_literals n lits set (all_passes (list_all (lit_within n)) entry lits within there) (shows_depends n states set shows)
+    one lits there = image_literals n lits set (list_all-at (list_all (lit_within n)) entry lits within there) (shows_depends n states set shows)
 
     from : (values : Values) → entry_image set entry values ≡ true → (u : Vector) × Contains (after_entry n states entry) u × Agrees n values (value_of u)
     from values member =

@@ -3,6 +3,7 @@ use Rattle.std.proofs.Common.{◌≡◌, ℕ, zero, suc, ◌+◌, ◌-◌, ◌<�
 use Rattle.std.specs.List.{list_all, range_with_len}
 use Rattle.dd_nodes.specs.NodeList.{Values, with_value}
 use Rattle.dd_nodes.specs.Subfunctions.{Function}
+use Rattle.dd_nodes.proofs.Canonicity.{with_value_other, with_value_same}
 use Rattle.dd_ops.specs.Operations.{cofactor_of}
 use Rattle.dd_sets.specs.Rooms.{Small}
 use Rattle.dd_sets.proofs.OperationSizes.{cofactor_small}
@@ -10,7 +11,6 @@ use Rattle.task_core.specs.States.{truth}
 use Rattle.task_core.specs.Vectors.{same_value}
 use Rattle.task_core.specs.declared.states.State.{State}
 use Rattle.task_core.proofs.Vectors.{same_value_refl}
-use Rattle.encode_task.proofs.ImageLemmas.{value_at, value_other}
 use Rattle.encode_task.proofs.StateLemmas.{same_from}
 
 -- the fluents from a later one on have their values, whatever an earlier one is set to
@@ -18,7 +18,7 @@ later_same : (state : State) (values : Values) (f first k : ℕ) (b : Bool) → 
     → list_all (λ g. same_value (with_value values f b g) (truth state g)) (range_with_len first k) ≡ list_all (λ g. same_value (values g) (truth state g)) (range_with_len first k)
 later_same state values f first zero b below = refl
 later_same state values f first (suc k) b below =
-    (λ i. same_value (value_other values f b first (λ (same : first ≡ f). (omega arith)) i) (truth state first) && later_same state values f (first + 1) k b (omega arith) i)
+    (λ i. same_value (with_value_other values f b first (λ (same : first ≡ f). (omega arith)) i) (truth state first) && later_same state values f (first + 1) k b (omega arith) i)
 
 -- where one fluent more has the value of a state, fixed at that value
 one_fixed : (state : State) (f k : ℕ) → cofactor_of (same_from state f (suc k)) f (truth state f) ≡ same_from state (f + 1) k
@@ -26,7 +26,7 @@ one_fixed state f k = λ i values. (step values) i
   where
     step : (values : Values) → same_from state f (suc k) (with_value values f (truth state f)) ≡ same_from state (f + 1) k values
     step values =
-        ap (λ b. same_value b (truth state f) && same_from state (f + 1) k (with_value values f (truth state f))) (value_at values f (truth state f))
+        ap (λ b. same_value b (truth state f) && same_from state (f + 1) k (with_value values f (truth state f))) (with_value_same values f (truth state f))
         ∙ ap (λ b. b && same_from state (f + 1) k (with_value values f (truth state f))) (same_value_refl (truth state f))
         ∙ later_same state values f (f + 1) k (truth state f) (omega arith)
 

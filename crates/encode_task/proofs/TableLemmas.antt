@@ -81,6 +81,12 @@ left_at f [] a o action outcome unlisted = absurd (omega arith)
 left_at f (x ∷ slots) zero o action outcome unlisted = or_left (action_leaves f x) (some_leaves slots f) (leaves_at f x.outcomes o outcome unlisted)
 left_at f (x ∷ slots) (suc a) o action outcome unlisted = or_right (action_leaves f x) (some_leaves slots f) (left_at f slots a o (omega arith) outcome unlisted)
 
+-- the outcome with a number
+pub found_at : (outcomes : List Outcome) (o : ℕ) → o < length outcomes → (outcome : Outcome) × (slice_get outcomes o ≡ Some outcome)
+found_at [] o within = absurd (omega arith)
+found_at (y ∷ outcomes) zero within = (y, refl)
+found_at (y ∷ outcomes) (suc o) within = found_at outcomes o (omega arith)
+
 module _ (invariant : Cond) (sets : LiveSets) where
   none_live : AllLive sets []
   none_live k d within = absurd (omega arith)
@@ -130,11 +136,6 @@ module _ (invariant : Cond) (sets : LiveSets) where
   outcome_at (x ∷ slots) (y ∷ actions) all (suc a) o within = outcome_at slots actions all.1 a o within
   outcome_at (x ∷ slots) [] all a o within = absurd all
   outcome_at [] (y ∷ actions) all a o within = absurd all
-
-  found_at : (outcomes : List Outcome) (o : ℕ) → o < length outcomes → (outcome : Outcome) × (slice_get outcomes o ≡ Some outcome)
-  found_at [] o within = absurd (omega arith)
-  found_at (y ∷ outcomes) zero within = (y, refl)
-  found_at (y ∷ outcomes) (suc o) within = found_at outcomes o (omega arith)
 
   one_lands : (lands : List SetId) (outcomes : List Outcome) → AllPaired (λ slot o. Holds sets slot (lands_of invariant o)) lands outcomes → (o : ℕ) → o < length outcomes
       → (outcome : Outcome) × (slice_get outcomes o ≡ Some outcome) × HoldsLands sets (slice_get lands o) (lands_of invariant outcome)

@@ -3,6 +3,7 @@ use Rattle.std.proofs.Common.{◌≡◌, ℕ, zero, suc, ◌<◌, ◌≤◌, tru
 use Rattle.std.specs.List.{flat_map, list_any}
 use Rattle.std.proofs.lemmas.Bool.{both_ways, false≢true, or_cases}
 use Rattle.std.proofs.lemmas.List.Elements.{Contains-append_left, Contains-append_right}
+use Rattle.list_laws.proofs.Elements.{Contains-flat_map}
 use Rattle.dd_nodes.specs.Subfunctions.{Function, nodes}
 use Rattle.dd_ops.specs.Operations.{variable}
 use Rattle.dd_sets.specs.LiveSets.{LiveSets, IsLive, is_live, listed_set, live_sets, set_of}
@@ -22,7 +23,7 @@ use Rattle.encode_task.specs.KeptSets.{AreKept, kept_nodes, kept_sets, next_sets
 use Rattle.encode_task.specs.Slots.{ActionSlots}
 use Rattle.encode_task.specs.Tables.{ActionMade, AllPaired, OutcomeMade}
 use Rattle.encode_task.specs.TaskSets.{initial_set, space_set}
-use Rattle.encode_task.proofs.KeptLemmas.{contains_flat_map, next_in, nexts_of_action}
+use Rattle.encode_task.proofs.KeptLemmas.{next_in, nexts_of_action}
 
 -- the sets of a task
 actions_sets : Task → List Function
@@ -80,9 +81,9 @@ alone_kept task sets slots n set vars made alone =
     let found = alone_action task.invariant sets alone.0 slots task.actions.items made alone.2 in
     let within : alone.0 < fluent_count task = omega (arith, alone.1) in
     actions_kept task (fluent_count task) task.actions.items set refl refl
-    (contains_flat_map (sets_of_action (fluent_count task) task.invariant) task.actions.items found.0 set found.1
+    (Contains-flat_map (sets_of_action (fluent_count task) task.invariant) task.actions.items found.0 set found.1
     (nexts_of_action (fluent_count task) task.invariant found.0 found.0.outcomes.items set refl
-    (contains_flat_map (next_sets (fluent_count task)) found.0.outcomes.items found.2 set found.3
+    (Contains-flat_map (next_sets (fluent_count task)) found.0.outcomes.items found.2 set found.3
     (subst (λ (f : Function). Contains (next_sets (fluent_count task) found.2) f) (sym (alone.3 ∙ found.4)) (next_in (fluent_count task) found.2 alone.0 within)))))
 
 -- the live sets are among those of the task

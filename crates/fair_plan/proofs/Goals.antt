@@ -1,7 +1,7 @@
 -- The stages of an until-chain, and the visits of a patrol.
 use Rattle.std.proofs.Common.{◌≡◌, ℕ, zero, suc, ◌+◌, ◌*◌, ◌-◌, ◌<◌, ◌≤◌, true, false, ◌&&◌, List, [], ◌∷◌, All, drop, length, get_or, map, refl, sym, ap, subst, ◌∙◌, ⊎_elim, arith}
 use Rattle.std.proofs.lemmas.Bool.{cases_eq}
-use Rattle.std.proofs.lemmas.List.{length-map}
+use Rattle.std.proofs.lemmas.List.{drop_all, length-map}
 use Rattle.std.proofs.lemmas.List.Elements.{All-get_or}
 use Rattle.dd_nodes.specs.Subfunctions.{Function}
 use Rattle.dd_ops.specs.Operations.{and_of}
@@ -17,7 +17,6 @@ use Rattle.slot_board.specs.declared.board.Operation.TheVariants.{Meet}
 use Rattle.board_steps.specs.Steps.{Placed, after_step}
 use Rattle.board_steps.specs.declared.steps.Step.{Step}
 use Rattle.board_steps.specs.declared.steps.Step.TheVariants.{Combine, Copy, Whole}
-use Rattle.board_steps.proofs.MakeLemmas.{drop_none}
 use Rattle.board_steps.proofs.StepLemmas.{with_here, with_other}
 use Rattle.task_core.specs.Conditions.{IsConditionOver, holds}
 use Rattle.task_core.specs.Cubes.{SetOfVectors}
@@ -128,7 +127,7 @@ pub chain_last : (origin : Origin) (keep : SetOfVectors) (stages : List UntilSta
 chain_last origin keep stages x n win long is won =
     let many = length-map stages stage_sets in
     subst (λ (k : ℕ). IsChainWin (sys_of origin) keep (drop n (map stage_sets stages)) (states_in x k)) is
-    (subst (λ (rest : List SetStage). IsChainWin (sys_of origin) keep rest (states_in x win)) (sym (drop_none (map stage_sets stages) n (omega (arith, many)))) won)
+    (subst (λ (rest : List SetStage). IsChainWin (sys_of origin) keep rest (states_in x win)) (sym (drop_all n (map stage_sets stages) (omega (arith, many)))) won)
 
 -- the stages after the one before
 pub chain_later : (origin : Origin) (keep : SetOfVectors) (rest : List SetStage) (x : Scene) (i next : ℕ) → next ≡ win_place (actions_of origin) i → IsChainWin (sys_of origin) keep rest (states_in x (win_place (actions_of origin) i)) → IsChainWin (sys_of origin) keep rest (states_in x next)

@@ -3,6 +3,7 @@ use Rattle.std.proofs.Common.{◌≡◌, ℕ, ◌+◌, ◌<◌, ◌≤◌, List,
 use Rattle.std.proofs.lemmas.List.Elements.{All-append, All-map, All-weaker}
 use Rattle.dd_sets.specs.declared.errors.SetErr.{SetErr}
 use Rattle.dd_sets.specs.declared.errors.SetErr.TheVariants.{Full, Memory}
+use Rattle.plan_theory.specs.ContextRules.{rule_for, rules_for}
 use Rattle.plan_theory.proofs.PrintedWithin.{cubes_below}
 use Rattle.plan_rules.specs.Plans.{IsContextOf, IsContextRuleOf, IsCubeOf}
 use Rattle.plan_rules.specs.Rules.{ContextRule, context_rule_of}
@@ -13,7 +14,6 @@ use Rattle.task_core.specs.Cubes.{SetOfVectors, cubes_of}
 use Rattle.task_core.specs.Tasks.{fluent_count}
 use Rattle.fair_plan.specs.Boards.{IsThere, Leaves, Origin, actions_of}
 use Rattle.fair_plan.specs.Rounds.{AreRules}
-use Rattle.plan_theory.specs.ContextRules.{rule_for, rules_for}
 
 pub rules_more : (origin : Origin) (contexts : ℕ) (x : Scene) (context next a : ℕ) (set : SetOfVectors) (before after : List AutoRule) → IsThere origin x → IsContextOf contexts context → IsContextOf contexts next → a < actions_of origin
     → AreRules origin contexts before → map context_rule_of after ≡ map context_rule_of before ++ rules_for x.0.sets.vars context next a set → AreRules origin contexts after

@@ -1,5 +1,6 @@
 //! The rules of a plan, by context, next context and action.
 
+ghost use Rattle.plan_theory.specs.ContextRules.{rule_for, rules_for};
 ghost use Rattle.std.specs.Prelude.{◌≡◌, ◌+◌, ◌++◌, ◌<◌, ◌≤◌, ⊤, IfErr, OnOk, length, map};
 ghost use Rattle.plan_rules.specs.Plans.{IsContextOf};
 ghost use Rattle.plan_rules.specs.Rules.{context_rule_of};
@@ -7,7 +8,6 @@ ghost use Rattle.fair_plan.specs.Boards.{IsThere, Leaves, Origin, states_in};
 ghost use Rattle.fair_plan.specs.Goals.{contexts_of};
 ghost use Rattle.fair_plan.specs.Rounds.{Lists};
 ghost use Rattle.ctl_syntax.specs.GoalSizes.{count_of, most_stages};
-ghost use Rattle.plan_theory.specs.ContextRules.{rule_for, rules_for};
 
 use crate::places::{PART, REST, Sizes, met_at, takers_at, win_at};
 use crate::steps::make;

@@ -3,6 +3,7 @@ use Rattle.std.proofs.Common.{◌≡◌, ℕ, suc, ◌+◌, ◌-◌, ◌<◌, �
 use Rattle.std.specs.Prelude.{nat_le}
 use Rattle.std.proofs.lemmas.Bool.{eq-eqb, eqb-true, le-leb, leb-true}
 use Rattle.std.proofs.lemmas.List.Elements.{Contains-get_or}
+use Rattle.std.proofs.lemmas.List.{drop_all}
 use Rattle.dd_nodes.specs.Subfunctions.{Function}
 use Rattle.dd_sets.specs.Rooms.{Small}
 use Rattle.dd_sets.proofs.SizeLemmas.{every_small}
@@ -11,6 +12,7 @@ use Rattle.preimage.specs.WorkingSets.{IsMadeByRound, first_every}
 use Rattle.preimage.specs.WorkingSets.IsMadeByRound.{itself}
 use Rattle.slot_board.specs.Board as board
 use Rattle.slot_board.specs.Board.{Scene, set_at}
+use Rattle.plan_theory.specs.GuardedSets.{anywhere}
 use Rattle.plan_theory.specs.UntilChains.{SetStage, UntilSets, guarded_from, until_met_count, until_win}
 use Rattle.plan_theory.specs.LayerPlans.{is_action}
 use Rattle.plan_theory.specs.Safe.{safe_action, safe_round, safe_set}
@@ -43,8 +45,7 @@ use Rattle.patrol_plan.proofs.SetFits.{rounds_fit}
 use Rattle.patrol_plan.proofs.SizeSteps.{placed_small, rough_left, round_fits_same, small_same}
 use Rattle.patrol_plan.proofs.SceneSteps.{long_enough}
 use Rattle.patrol_plan.proofs.StageLemmas.{first_same, near_same}
-use Rattle.patrol_plan.proofs.WinSteps.{drop_none, drop_some}
-use Rattle.plan_theory.specs.GuardedSets.{anywhere}
+use Rattle.patrol_plan.proofs.WinSteps.{drop_some}
 
 -- stages are counted from 1 or from 0
 guarded_from_one : (c : ℕ) (stages : List SetStage) → guarded_from (suc c) stages ≡ drop c stages
@@ -190,7 +191,7 @@ end_shares start x chain long h =
     let inside = guarded start anywhere in
     let n = start.stages in
     let won = states_at x (win_place n) in
-    let is_end : drop n chain.stages ≡ [] = drop_none chain.stages n (omega arith) in
+    let is_end : drop n chain.stages ≡ [] = drop_all n chain.stages (omega arith) in
     let safe : SameStates start (safe_set sys chain.keep) won =
     λ v is. sym (h.won.wins n (omega arith) (omega arith) v is ∙ ap (λ (stages : List SetStage). until_win sys chain.keep stages v) is_end) in
     let round : RoundFits inside won =

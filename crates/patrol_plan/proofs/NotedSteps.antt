@@ -1,13 +1,11 @@
 -- The steps of rounds: what is left out adds nothing, and what follows there follows from the set on.
-use Rattle.std.proofs.Common.{Result, Ok, Err, IfErr, OnOk, ◌≡◌, ◌≢◌, ◌⊎◌, ℕ, suc, ◌+◌, ◌<◌, ◌≤◌, Bool, ◌||◌, List, [], ◌∷◌, ◌++◌, inl, inr, refl, sym, ap, subst, ◌∙◌, ⊎_elim, arith}
+use Rattle.std.proofs.Common.{◌≡◌, ◌≢◌, ◌⊎◌, ℕ, suc, ◌+◌, ◌<◌, ◌≤◌, Bool, ◌||◌, List, [], ◌∷◌, ◌++◌, inl, inr, refl, sym, ap, subst, ◌∙◌, ⊎_elim, arith}
 use Rattle.std.specs.List.{list_any, range_with_len}
 use Rattle.std.proofs.Math.Path.{fun_ext}
 use Rattle.std.proofs.lemmas.Bool.{cases_eq, or_right}
 use Rattle.dd_nodes.specs.Subfunctions.{Function}
 use Rattle.dd_ops.specs.Operations.{or_of}
-use Rattle.dd_sets.specs.declared.errors.SetErr.{SetErr}
-use Rattle.dd_sets.specs.declared.errors.SetErr.TheVariants.{Full, Memory}
-use Rattle.slot_board.specs.Board.{Ends, Scene, set_at}
+use Rattle.slot_board.specs.Board.{Scene, set_at}
 use Rattle.plan_theory.specs.Layers.{must_lead}
 use Rattle.task_core.specs.Systems.{IsVector}
 use Rattle.task_core.specs.Vectors.{Vector, value_of}
@@ -24,7 +22,7 @@ use Rattle.task_core.specs.declared.literals.ActionId.{ActionId}
 use Rattle.slot_board.specs.declared.steps.Step.{Step}
 use Rattle.slot_board.specs.declared.steps.Step.TheVariants.{Advance, Grow}
 use Rattle.patrol_plan.specs.Noted.{AddsNothing, AreAll, AreNoted, AreStepsFrom, HasLed, IsNoted, LedBy, NotesRound, Widened, near_at}
-use Rattle.patrol_plan.specs.Scenes.{IsAt, IsGuarded, Left, Moved, SameStates, Start, board_of, led_inside, states_at, sys_in}
+use Rattle.patrol_plan.specs.Scenes.{IsGuarded, Moved, SameStates, Start, led_inside, states_at, sys_in}
 
 module _ (start : Start) (set : SetOfVectors) (k : ℕ) where
   -- what follows after an action that adds nothing, follows before it
@@ -59,11 +57,6 @@ module _ (start : Start) (set : SetOfVectors) (k : ℕ) where
 
 pub led_none : (start : Start) (set : SetOfVectors) → HasLed start set 0 0 []
 led_none start set rest f = f
-
--- a note may find no memory
-pub noted_then : {T : Type 0} (start : Start) (x : Scene) (P Q : Type 0) (result : Result T SetErr) → IfErr result (λ e. e ≡ Memory) → OnOk result P → IsAt start x → (P → Q) → Left start x Q result
-noted_then start x P Q (Ok answer) never done at then = then done
-noted_then start x P Q (Err e) never done at then = (at, λ full. absurd (let no : Memory ≡ Full = sym never ∙ full in cc))
 
 -- what was found was joined to the next states
 pub widened_none : (start : Start) (x m : Scene) (a : ActionId) (steps : List Step) → IsGuarded start x → Moved start x m 2 (or_of (set_at x.0.sets x.1 1) (set_at x.0.sets x.1 2)) → set_at m.0.sets m.1 2 ≡ set_at m.0.sets m.1 1 → Widened start x m a steps steps
@@ -158,15 +151,3 @@ led_last Growing start x y set k before after h same done led =
     subst (AreStepsFrom start set 0 0) (sym done)
     (led_all start set (suc k) (before ++ Advance ∷ []) (led_advance start set k before led)
     (λ v is. sym (h.next v is) ∙ ap (λ (f : Function). f (value_of v)) same ∙ last.near v is))
-
--- what an answer leaves, and a refusal that is passed on
-pub answered : {T : Type 0} (start : Start) (x : Scene) (P : T → Type 0) (result : Result T SetErr) (t : T) → result ≡ Ok t → Ends (board_of start) x.0 x.1 P result → P t
-answered start x P result t is ends = subst (Ends (board_of start) x.0 x.1 P) is ends
-
-pub refused : {S T : Type 0} (start : Start) (x : Scene) (P : S → Type 0) (Q : T → Type 0) (inner : Result S SetErr) (outer : Result T SetErr) (e : SetErr) → inner ≡ Err e → (r : SetErr) × (outer ≡ Err r) × (r ≡ e) → Ends (board_of start) x.0 x.1 P inner → Ends (board_of start) x.0 x.1 Q outer
-refused start x P Q inner outer e was p ends =
-    subst (Ends (board_of start) x.0 x.1 Q) (sym p.1) (let kept = subst (Ends (board_of start) x.0 x.1 P) was ends in (kept.0, λ full. kept.1 (sym p.2 ∙ full)))
-
-pub wants_memory : {S T : Type 0} (start : Start) (x : Scene) (Q : T → Type 0) (inner : Result S SetErr) (outer : Result T SetErr) (e : SetErr) → inner ≡ Err e → (r : SetErr) × (outer ≡ Err r) × (r ≡ e) → IfErr inner (λ e. e ≡ Memory) → IsAt start x → Ends (board_of start) x.0 x.1 Q outer
-wants_memory start x Q inner outer e was p never at =
-    subst (Ends (board_of start) x.0 x.1 Q) (sym p.1) (at, λ full. absurd (let m : e ≡ Memory = subst (λ r. IfErr r (λ e. e ≡ Memory)) was never in let no : Memory ≡ Full = sym m ∙ sym p.2 ∙ full in cc))

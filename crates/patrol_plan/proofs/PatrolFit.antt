@@ -8,6 +8,7 @@ use Rattle.dd_sets.proofs.SizeLemmas.{every_small}
 use Rattle.encode_task.specs.TaskSets.{initial_set, space_set}
 use Rattle.preimage.specs.WorkingSets.{IsMadeByRound, first_every}
 use Rattle.preimage.specs.WorkingSets.IsMadeByRound.{itself}
+use Rattle.plan_theory.specs.GuardedSets.{anywhere}
 use Rattle.plan_theory.specs.StageSets.{near}
 use Rattle.task_core.specs.Cubes.{SetOfVectors}
 use Rattle.task_core.specs.Systems.{System}
@@ -26,7 +27,6 @@ use Rattle.patrol_plan.specs.WorkingSets.{function_of, hits_inside}
 use Rattle.patrol_plan.proofs.Guards.{near_inside}
 use Rattle.patrol_plan.proofs.SetFits.{rounds_fit}
 use Rattle.patrol_plan.proofs.SizeSteps.{round_fits_same}
-use Rattle.plan_theory.specs.GuardedSets.{anywhere}
 
 module _ (start : Start) (conds : List Cond) (wide : BoundsPatrolSets start.width start.task conds) where
   abbrev n : ℕ

@@ -1,5 +1,5 @@
 -- The search: whether the initial states are covered, and what it answers.
-use Rattle.std.proofs.Common.{◌≡◌, ℕ, suc, ◌+◌, ◌-◌, ◌*◌, ◌<◌, ◌≤◌, Bool, true, false, IsErrOf, IfOk, List, All, Option, Some, IfSome, Result, Ok, Err, drop, length, sym, ap, subst, ◌∙◌, arith}
+use Rattle.std.proofs.Common.{◌≡◌, ℕ, suc, ◌+◌, ◌-◌, ◌*◌, ◌<◌, ◌≤◌, Bool, true, false, IfOk, List, All, Result, Ok, Err, drop, length, sym, ap, subst, ◌∙◌, arith}
 use Rattle.std.specs.List.{list_all}
 use Rattle.std.proofs.lemmas.List.{length-map}
 use Rattle.dd_nodes.specs.Subfunctions.{Function}
@@ -115,19 +115,6 @@ room_of start now full =
   where
     room : (a n : ℕ) → place_count a n + (a + 6 * n + 218) + 8 ≤ a * (n + 3) + 8 * n + 236
     room a n = omega arith
-
--- what a call leaves, whether or not it refuses
-pub left_at : {T : Type 0} (start : Start) (x : Scene) (result : Result T SetErr) → Left start x (IsAt start x) result → IsAt start x
-left_at start x (Ok t) left = left
-left_at start x (Err e) left = left.0
-
-pub left_full : {T : Type 0} (start : Start) (x : Scene) (P : Type 0) (result : Result T SetErr) → Left start x P result → IsErrOf result Full → HasNoRoom (board_of start) x.0
-left_full start x P (Ok t) left full = absurd (let h : Ok t ≡ Err Full = full in cc)
-left_full start x P (Err e) left full = left.1 (let h : Err e ≡ Err Full = full in cc)
-
--- what is said of a value that is there
-pub some_has : {T : Type 0} (o : Option T) (P : T → Type 0) (x : T) → o ≡ Some x → IfSome o P → P x
-some_has o P x is has = subst (λ (p : _). IfSome p P) is has
 
 -- what is said of an answer
 pub answer_plan : (task : Task) (chain : UntilSets) (P : AutoPlan → Type 0) (result : Result FoundAuto SetErr) → ((plan : AutoPlan) → IsPlanOf task chain plan → P plan) → IfOk result (IsAnswer task chain) → IfOk result (λ found. IfPlan found P)

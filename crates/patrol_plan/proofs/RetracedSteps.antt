@@ -1,9 +1,9 @@
 -- The second pass: an action that is left out adds nothing, and what follows gives each state the
 -- action of its rank.
-use Rattle.std.proofs.Common.{◌≡◌, ◌≢◌, ℕ, zero, suc, ◌+◌, ◌<◌, ◌≤◌, true, not, ◌&&◌, ◌||◌, List, [], ◌∷◌, length, refl, sym, ap, subst, ◌∙◌, ⊎_elim, arith}
-use Rattle.std.specs.List.{find, list_any, range_with_len}
-use Rattle.std.proofs.lemmas.Bool.{cases_eq, cases_lt}
-use Rattle.list_laws.proofs.Booleans.{or_never, or_none, or_same}
+use Rattle.std.proofs.Common.{◌≡◌, ℕ, zero, suc, ◌+◌, ◌<◌, ◌≤◌, true, not, ◌&&◌, ◌||◌, List, [], ◌∷◌, length, refl, sym, ap, subst, ◌∙◌, ⊎_elim, arith}
+use Rattle.std.specs.List.{find}
+use Rattle.std.proofs.lemmas.Bool.{cases_lt}
+use Rattle.list_laws.proofs.Booleans.{or_none}
 use Rattle.slot_board.specs.Board as board
 use Rattle.slot_board.specs.Board.{Scene, set_at}
 use Rattle.slot_board.specs.declared.steps.Step.{Step}
@@ -11,7 +11,6 @@ use Rattle.slot_board.specs.declared.steps.Step.TheVariants.{Advance, Grow}
 use Rattle.plan_theory.specs.StageSets.{near, stage_action}
 use Rattle.plan_theory.specs.Layers.{action_numbers, must_lead}
 use Rattle.plan_theory.specs.LayerPlans.{is_action}
-use Rattle.plan_theory.proofs.FirstActions.{first_is}
 use Rattle.task_core.specs.Cubes.{SetOfVectors}
 use Rattle.task_core.specs.Systems.{IsVector}
 use Rattle.task_core.specs.Tasks.{action_count}
@@ -25,49 +24,22 @@ use Rattle.patrol_plan.specs.Steps.{Climbed, Climbs}
 use Rattle.patrol_plan.specs.declared.rounds.Way.TheVariants.{Growing}
 use Rattle.patrol_plan.proofs.Guards.{in_system}
 use Rattle.patrol_plan.proofs.NotedSteps.{turned_same}
-use Rattle.patrol_plan.proofs.RoundSteps.{turn_same, turned_more}
+use Rattle.patrol_plan.proofs.RoundSteps.{turn_same}
 use Rattle.patrol_plan.proofs.SceneSteps.{changed_chain_in, copied_states, leads_same, moved_in, moved_low, moved_other, moved_worked_in, same_length, worked_changed_in, worked_same_in}
 use Rattle.patrol_plan.proofs.SizeSteps.{at_small, small_same, turns_fit_at}
+use Rattle.patrol_plan.proofs.SkipSteps.{AddsNone, climbs_once}
 use Rattle.patrol_plan.proofs.StageLemmas.{first_same, more_taken, none_taken}
-use Rattle.patrol_plan.proofs.TakerSteps.{climbs_none, never_new}
+use Rattle.patrol_plan.proofs.TakerSteps.{climbs_none}
 
--- an action that adds nothing to a round
+-- several actions that add nothing to a round
 module _ (start : Start) (x y : Scene) (takers : ℕ) where
-  abbrev AddsNone : ℕ → Type 0
-  AddsNone a = (v : Vector) → IsVector (sys_in start) v → must_lead (sys_in start) (states_at x 0) v a ≡ true → turn_by Growing (sys_in start) (states_at x 0) a v ≡ true
-
-  taken_none : (a : ℕ) → a < action_count start.task → AddsNone a → Climbs start x y takers a → SameStates start (states_at y (takers + a)) (λ v. states_at x (takers + a) v || first_lead (sys_in start) (states_at x 0) (λ u. not (states_at x 0 u)) a v)
-  taken_none a below none h v is =
-      ap (λ (f : SetOfVectors). f v) (h.later a below (omega arith))
-      ∙ or_never (states_at x (takers + a) v) (first_lead (sys_in start) (states_at x 0) (λ u. not (states_at x 0 u)) a v)
-      (never_new (states_at x 0 v) (list_any (must_lead (sys_in start) (states_at x 0) v) (range_with_len 0 a)) (must_lead (sys_in start) (states_at x 0) v a) (none v is)
-      ∙ ap (λ b. not (states_at x 0 v) && b) (first_is (must_lead (sys_in start) (states_at x 0) v) (action_count start.task) a below))
-
-  climbs_once : (a : ℕ) → a < action_count start.task → AddsNone a → Climbs start x y takers a → Climbs start x y takers (a + 1)
-  climbs_once a below none h = record {
-    changed = h.changed;
-    near = h.near;
-    next = λ v is.
-        h.next v is
-        ∙ or_same (turn_by Growing (sys_in start) (states_at x 0) a v) (must_lead (sys_in start) (states_at x 0) v a) (none v is)
-        ∙ turned_more Growing (sys_in start) (states_at x 0) a v;
-    taken = λ b within less.
-        ⊎_elim
-        (λ (same : b ≡ a).
-        subst (λ k. SameStates start (states_at y (takers + k)) (λ v. states_at x (takers + k) v || first_lead (sys_in start) (states_at x 0) (λ u. not (states_at x 0 u)) k v)) (sym same) (taken_none a below none h))
-        (λ (differs : b ≢ a). h.taken b within (omega (arith, differs)))
-        (cases_eq b a);
-    later = λ b within from. h.later b within (omega arith);
-  }
-
-  -- and several of them
-  climbs_skip : (n m : ℕ) → n ≤ m → m ≤ action_count start.task → ((b : ℕ) → n ≤ b → b < m → AddsNone b) → Climbs start x y takers n → Climbs start x y takers m
+  climbs_skip : (n m : ℕ) → n ≤ m → m ≤ action_count start.task → ((b : ℕ) → n ≤ b → b < m → AddsNone start x y takers b) → Climbs start x y takers n → Climbs start x y takers m
   climbs_skip n zero l few none h = subst (Climbs start x y takers) (let e : n ≡ 0 = omega arith in e) h
   climbs_skip n (suc m) l few none h =
       ⊎_elim
       (λ (less : n < suc m).
       subst (Climbs start x y takers) (let e : m + 1 ≡ suc m = omega arith in e)
-      (climbs_once m (omega arith) (none m (omega arith) (omega arith)) (climbs_skip n m (omega arith) (omega arith) (λ b low high. none b low (omega arith)) h)))
+      (climbs_once start x y takers m (omega arith) (none m (omega arith) (omega arith)) (climbs_skip n m (omega arith) (omega arith) (λ b low high. none b low (omega arith)) h)))
       (λ (more : suc m ≤ n). subst (Climbs start x y takers) (let e : n ≡ suc m = omega arith in e) h)
       (cases_lt n (suc m))
 

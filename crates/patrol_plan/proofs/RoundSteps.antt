@@ -1,11 +1,11 @@
 -- The rounds on sets of states: from one to the next, and the last one.
-use Rattle.std.proofs.Common.{◌≡◌, ℕ, suc, ◌+◌, ◌<◌, Bool, not, ◌&&◌, ◌||◌, [], ◌∷◌, refl, sym, ap, subst, ◌∙◌, arith}
+use Rattle.std.proofs.Common.{◌≡◌, ℕ, suc, ◌+◌, ◌<◌, not, ◌&&◌, ◌||◌, refl, sym, ap, subst, ◌∙◌, arith}
 use Rattle.std.specs.List.{list_any, range_with_len}
 use Rattle.std.proofs.Math.Bool.{and-or_distrib_left}
 use Rattle.std.proofs.lemmas.Bool.{and_parts, or_left}
-use Rattle.std.proofs.lemmas.List.Folds.{list_any-append}
 use Rattle.dd_ops.specs.Operations.{and_of, minus_of}
 use Rattle.encode_task.proofs.StateVectors.{same_functions}
+use Rattle.preimage.proofs.Leads.{any_more}
 use Rattle.slot_board.specs.Board.{Scene, set_at}
 use Rattle.plan_theory.proofs.FewerStates.{fewer, fewer_outside}
 use Rattle.plan_theory.proofs.RoundSteps.{held}
@@ -14,7 +14,6 @@ use Rattle.plan_theory.proofs.SafeSets.{last_round}
 use Rattle.plan_theory.proofs.StageSets.{last_near}
 use Rattle.plan_theory.specs.Layers.{must_lead}
 use Rattle.list_laws.proofs.Booleans.{and_false, and_not, or_assoc, or_none}
-use Rattle.list_laws.proofs.Ranges.{range-more}
 use Rattle.task_core.specs.Cubes.{SetOfVectors}
 use Rattle.task_core.specs.Systems.{IsVector, System}
 use Rattle.task_core.specs.Tasks.{action_count, fluent_count}
@@ -67,12 +66,6 @@ leads_copied start x y ready m = record {
   near = moved_low start x y 1 _ m 0 (omega arith) (λ e. absurd (omega arith));
   next = λ v is. ap (λ (f : SetOfVectors). f v) (copied_states start x y 1 0 m) ∙ or_none (states_at x 0 v);
 }
-
-pub any_more : (p : ℕ → Bool) (n : ℕ) → (list_any p (range_with_len 0 n) || p n) ≡ list_any p (range_with_len 0 (n + 1))
-any_more p n =
-    ap (λ b. list_any p (range_with_len 0 n) || b) (or_none (p n))
-    ∙ sym (list_any-append p (range_with_len 0 n) (n ∷ []))
-    ∙ ap (list_any p) (sym (range-more n))
 
 pub turned_more : (way : Way) (sys : System) (set : SetOfVectors) (n : ℕ) (v : Vector) → (turn_by way sys set n v || hits_by way set (λ u. must_lead sys set u n) v) ≡ turn_by way sys set (n + 1) v
 turned_more Shrinking sys set n v = sym (and-or_distrib_left (set v) (list_any (must_lead sys set v) (range_with_len 0 n)) (must_lead sys set v n)) ∙ ap (λ b. set v && b) (any_more (must_lead sys set v) n)

@@ -1,15 +1,13 @@
 -- The rules of a plan: of one action, one next context and one context more.
-use Rattle.std.proofs.Common.{◌≡◌, ℕ, suc, ◌+◌, ◌-◌, ◌*◌, ◌<◌, ◌≤◌, ◌==◌, Bool, true, false, not, ◌&&◌, List, [], ◌∷◌, ◌++◌, drop, length, map, IfErr, OnOk, Result, Ok, Err, refl, sym, ap, subst, ◌∙◌, inl, ⊎_elim, arith}
+use Rattle.std.proofs.Common.{◌≡◌, ℕ, suc, ◌+◌, ◌-◌, ◌*◌, ◌<◌, ◌≤◌, ◌==◌, Bool, true, false, not, ◌&&◌, List, [], ◌∷◌, ◌++◌, drop, length, map, refl, sym, ap, subst, ◌∙◌, inl, ⊎_elim, arith}
 use Rattle.std.specs.Prelude.{nat_le}
 use Rattle.std.specs.List.{flat_map, range_with_len}
 use Rattle.std.proofs.lemmas.Bool.{cases_lt, eq-eqb, eqb-true, le-leb}
 use Rattle.std.proofs.lemmas.Grind.{flat_map-append}
-use Rattle.std.proofs.lemmas.List.{append-nil, append_assoc, map-id}
+use Rattle.std.proofs.lemmas.List.{append-nil, append_assoc, drop_all, map-id}
 use Rattle.std.proofs.lemmas.List.FromFn.{map-range_with_len_more}
 use Rattle.dd_nodes.specs.Subfunctions.{Function}
 use Rattle.dd_ops.specs.Operations.{and_of, minus_of}
-use Rattle.dd_sets.specs.declared.errors.SetErr.{SetErr}
-use Rattle.dd_sets.specs.declared.errors.SetErr.TheVariants.{Full, Memory}
 use Rattle.encode_task.proofs.StateVectors.{cubes_agree}
 use Rattle.slot_board.specs.Board.{Scene, set_at}
 use Rattle.plan_theory.specs.ContextRules.{action_rules, next_rules, rule_for, rules_for, rules_in_context}
@@ -22,7 +20,7 @@ use Rattle.task_core.specs.Cubes.{SetOfVectors}
 use Rattle.task_core.specs.Systems.{System}
 use Rattle.task_core.specs.Tasks.{action_count, fluent_count}
 use Rattle.patrol_plan.specs.Listing.{Lists, ListsStages, ListsTurning}
-use Rattle.patrol_plan.specs.Scenes.{Changed, IsAt, Left, Moved, SameStates, Start, Worked, met_place, rules_place, states_at, sys_of, takers_place, win_place}
+use Rattle.patrol_plan.specs.Scenes.{Changed, Moved, SameStates, Start, Worked, met_place, rules_place, states_at, sys_of, takers_place, win_place}
 use Rattle.patrol_plan.specs.Rounds.{from_stage, turning_at}
 use Rattle.patrol_plan.specs.Steps.{HasRest, HasTakers}
 use Rattle.patrol_plan.specs.WorkingSets.{met_first}
@@ -30,7 +28,6 @@ use Rattle.patrol_plan.specs.Tables.{HasTable, HasTurning}
 use Rattle.patrol_plan.proofs.SceneSteps.{copied_states, long_enough, met_states, moved_low, moved_worked, rest_states, worked_changed}
 use Rattle.patrol_plan.proofs.StageOrder.{at_this, from_next, won_this}
 use Rattle.patrol_plan.proofs.TakenSteps.{takers_apart, takers_within}
-use Rattle.patrol_plan.proofs.WinSteps.{drop_none}
 
 -- lists of rules
 pub range_last : (a n : ℕ) → range_with_len a (n + 1) ≡ range_with_len a n ++ (a + n) ∷ []
@@ -87,7 +84,7 @@ mets_all start x chain j long few h =
     λ v is.
     ap (λ k. states_at x (met_place k) v) e
     ∙ h.last v is
-    ∙ ap (λ (s : List SetStage). met_first (sys_of start) chain.keep s v) (sym (drop_none chain.stages j (omega arith))))
+    ∙ ap (λ (s : List SetStage). met_first (sys_of start) chain.keep s v) (sym (drop_all j chain.stages (omega arith))))
     (cases_lt j start.stages)
 
 -- the states of a context, and those of them in which one stage more is met
@@ -294,8 +291,3 @@ contexts_all start y chain before after k long e h = record {
   table = h.table;
   listed = h.listed ∙ ap (λ n. before ++ flat_map (rules_in_context (sys_of start) (until_states (sys_of start) chain) (until_nexts chain)) (range_with_len 1 n)) (let same : k ≡ suc (length chain.stages) = omega arith in same);
 }
-
--- a listing that gives up for want of memory alone
-pub listed_left : (start : Start) (x : Scene) → IsAt start x → (Q P : Type 0) (result : Result Unit SetErr) → (P → Q) → OnOk result P → IfErr result (λ e. e ≡ Memory) → Left start x Q result
-listed_left start x at Q P (Ok u) f listed memory = f listed
-listed_left start x at Q P (Err e) f listed memory = (at, λ full. absurd (let m : e ≡ Memory = memory in let g : e ≡ Full = full in cc))

@@ -7,10 +7,11 @@ use Rattle.dd_ops.specs.Operations.{and_of, or_of}
 use Rattle.dd_sets.specs.Rooms.{Small}
 use Rattle.encode_task.specs.TaskSets.{exec_set, space_set}
 use Rattle.encode_task.proofs.StateVectors.{own_values}
-use Rattle.preimage.proofs.Leads.{strong_agrees}
+use Rattle.preimage.proofs.Leads.{any_more, strong_agrees}
 use Rattle.preimage.proofs.SizeLemmas.{every_fits}
 use Rattle.preimage.specs.WorkingSets.{IsMadeByRound, first_every, hits_at, some_below}
 use Rattle.preimage.specs.WorkingSets.IsMadeByRound.{hit, itself, joined, part}
+use Rattle.plan_theory.specs.GuardedSets.{anywhere}
 use Rattle.plan_theory.specs.Layers.{must_lead}
 use Rattle.task_core.specs.Actions.{after_value}
 use Rattle.task_core.specs.Cubes.{SetOfVectors}
@@ -25,7 +26,6 @@ use Rattle.patrol_plan.specs.WorkingSets.{function_of, hits_inside}
 use Rattle.patrol_plan.specs.declared.rounds.Way.{Way}
 use Rattle.patrol_plan.specs.declared.rounds.Way.TheVariants.{Growing, Shrinking}
 use Rattle.patrol_plan.proofs.Guards.{must_inside}
-use Rattle.patrol_plan.proofs.RoundSteps.{any_more}
 use Rattle.patrol_plan.proofs.SizeSteps.{small_states}
 use Rattle.plan_theory.specs.GuardedSets.{anywhere}
 

@@ -17,6 +17,7 @@ use Rattle.list_laws.proofs.Booleans.{or_never, or_same}
 use Rattle.list_laws.proofs.Elements.{list_any-witness}
 use Rattle.plan_theory.proofs.FirstActions.{first_is}
 use Rattle.plan_theory.proofs.Weak.{HasOutcome-Exec}
+use Rattle.preimage.proofs.Leads.{any_more}
 use Rattle.preimage.proofs.OutcomeLemmas.{strong_leads}
 use Rattle.task_core.proofs.TaskSystem.{exec_executable}
 use Rattle.plan_theory.specs.Layers.{must_lead}
@@ -25,11 +26,11 @@ use Rattle.task_core.specs.Systems.{IsVector}
 use Rattle.task_core.specs.Tasks.{action_count, next_states}
 use Rattle.task_core.specs.Vectors.{Vector, value_of}
 use Rattle.patrol_plan.specs.Scenes.{IsGuarded, Moved, SameStates, Start, WorkedIn, board_of, led_inside, states_at, sys_in, sys_of}
-use Rattle.patrol_plan.specs.Rounds.{first_lead, hits_by}
+use Rattle.patrol_plan.specs.Rounds.{first_lead, hits_by, turn_by}
 use Rattle.patrol_plan.specs.Steps.{AddsHits, Climbs, HitsAmong, IsSpent, OnlyHits, Shared}
 use Rattle.patrol_plan.specs.declared.rounds.Way.{Way}
 use Rattle.patrol_plan.specs.declared.rounds.Way.TheVariants.{Growing, Shrinking}
-use Rattle.patrol_plan.proofs.RoundSteps.{any_more}
+use Rattle.patrol_plan.proofs.RoundSteps.{turned_more}
 use Rattle.patrol_plan.proofs.SceneSteps.{changed_chain_in, led_states, low, moved_low, moved_other, moved_in, same_length, worked_changed_in}
 use Rattle.patrol_plan.proofs.Guards.{must_inside}
 use Rattle.patrol_plan.proofs.TakerSteps.{never_new}
@@ -112,6 +113,35 @@ adds_after way start x y z a h adds =
           ∙ ap (λ (f : _). states_at x 1 v || hits_by way f (λ u. must_lead (sys_in start) f u a) v) near_is;
     }
 
+-- an action that adds nothing to a round
+module _ (start : Start) (x y : Scene) (takers : ℕ) where
+  abbrev pub AddsNone : ℕ → Type 0
+  AddsNone a = (v : Vector) → IsVector (sys_in start) v → must_lead (sys_in start) (states_at x 0) v a ≡ true → turn_by Growing (sys_in start) (states_at x 0) a v ≡ true
+
+  taken_none : (a : ℕ) → a < action_count start.task → AddsNone a → Climbs start x y takers a → SameStates start (states_at y (takers + a)) (λ v. states_at x (takers + a) v || first_lead (sys_in start) (states_at x 0) (λ u. not (states_at x 0 u)) a v)
+  taken_none a below none h v is =
+      ap (λ (f : SetOfVectors). f v) (h.later a below (omega arith))
+      ∙ or_never (states_at x (takers + a) v) (first_lead (sys_in start) (states_at x 0) (λ u. not (states_at x 0 u)) a v)
+      (never_new (states_at x 0 v) (list_any (must_lead (sys_in start) (states_at x 0) v) (range_with_len 0 a)) (must_lead (sys_in start) (states_at x 0) v a) (none v is)
+      ∙ ap (λ b. not (states_at x 0 v) && b) (first_is (must_lead (sys_in start) (states_at x 0) v) (action_count start.task) a below))
+
+  pub climbs_once : (a : ℕ) → a < action_count start.task → AddsNone a → Climbs start x y takers a → Climbs start x y takers (a + 1)
+  climbs_once a below none h = record {
+    changed = h.changed;
+    near = h.near;
+    next = λ v is.
+        h.next v is
+        ∙ or_same (turn_by Growing (sys_in start) (states_at x 0) a v) (must_lead (sys_in start) (states_at x 0) v a) (none v is)
+        ∙ turned_more Growing (sys_in start) (states_at x 0) a v;
+    taken = λ b within less.
+        ⊎_elim
+        (λ (same : b ≡ a).
+        subst (λ k. SameStates start (states_at y (takers + k)) (λ v. states_at x (takers + k) v || first_lead (sys_in start) (states_at x 0) (λ u. not (states_at x 0 u)) k v)) (sym same) (taken_none a below none h))
+        (λ (differs : b ≢ a). h.taken b within (omega (arith, differs)))
+        (cases_eq b a);
+    later = λ b within from. h.later b within (omega arith);
+  }
+
 -- a round as far as the first actions have it
 module _ (start : Start) (x w y : Scene) (takers a : ℕ) (high : 8 ≤ takers) (fits : takers + action_count start.task ≤ length w.1) (climbs : Climbs start x w takers a) (h : OnlyHits start w y) where
   same_long : length y.1 ≡ length w.1
@@ -132,37 +162,8 @@ module _ (start : Start) (x w y : Scene) (takers a : ℕ) (high : 8 ≤ takers) 
     later = λ b within from. place_kept (takers + b) (omega arith) (omega arith) ∙ climbs.later b within from;
   }
 
-  joined : (r s t : Bool) → (t ≡ true → (r || s) ≡ true) → (r || s) ≡ (r || (s || t))
-  joined true s t up = refl
-  joined false true t up = refl
-  joined false false true up = up refl
-  joined false false false up = refl
-
   pub climbs_same : a < action_count start.task → ((v : Vector) → IsVector (sys_in start) v → must_lead (sys_in start) (states_at x 0) v a ≡ true → states_at w 1 v ≡ true) → Climbs start x y takers (a + 1)
-  climbs_same below among =
-      let p = λ (v : Vector). must_lead (sys_in start) (states_at x 0) v in
-      let up : (v : Vector) → IsVector (sys_in start) v → p v a ≡ true → (states_at x 0 v || list_any (p v) (range_with_len 0 a)) ≡ true =
-      λ v is leads. sym (climbs.next v is) ∙ among v is leads in
-      let none : (v : Vector) → IsVector (sys_in start) v → false ≡ first_lead (sys_in start) (states_at x 0) (λ u. not (states_at x 0 u)) a v =
-      λ v is.
-      never_new (states_at x 0 v) (list_any (p v) (range_with_len 0 a)) (p v a) (up v is)
-      ∙ ap (λ b. not (states_at x 0 v) && b) (first_is (p v) (action_count start.task) a below) in
-      record {
-        changed = climbs_after.changed;
-        near = climbs_after.near;
-        next = λ v is.
-            climbs_after.next v is
-            ∙ joined (states_at x 0 v) (list_any (p v) (range_with_len 0 a)) (p v a) (up v is)
-            ∙ ap (λ b. states_at x 0 v || b) (any_more (p v) a);
-        taken = λ b within less.
-            ⊎_elim
-            (λ (same : b ≡ a).
-            subst (λ k. SameStates start (states_at y (takers + k)) (λ v. states_at x (takers + k) v || first_lead (sys_in start) (states_at x 0) (λ u. not (states_at x 0 u)) k v)) (sym same)
-            (λ v is. ap (λ (f : _). f v) (climbs_after.later a below (omega arith)) ∙ or_never (states_at x (takers + a) v) (first_lead (sys_in start) (states_at x 0) (λ u. not (states_at x 0 u)) a v) (none v is)))
-            (λ (differs : b ≢ a). climbs_after.taken b within (omega (arith, differs)))
-            (cases_eq b a);
-        later = λ b within from. climbs_after.later b within (omega arith);
-      }
+  climbs_same below among = climbs_once start x y takers a below (λ v is leads. sym (climbs.next v is) ∙ among v is leads) climbs_after
 
 -- where an action leads from no new states, none takes it
 pub climbs_none_new : (start : Start) (x w one two : Scene) (takers a : ℕ) → 8 ≤ takers → takers + action_count start.task ≤ length w.1 → a < action_count start.task → Climbs start x w takers a → Moved start w one 2 (led_inside start w a)

@@ -1,18 +1,17 @@
 -- Which actions are spent: what is found grows, so they stay so.
-use Rattle.std.proofs.Common.{Result, Ok, Err, IfErr, IfOk, ◌≡◌, ◌≢◌, ℕ, ◌<◌, Bool, true, false, List, length, sym, ap, subst, ◌∙◌, ⊎_elim, arith}
+use Rattle.std.proofs.Common.{Result, Ok, Err, IfOk, ◌≡◌, ◌≢◌, ℕ, ◌<◌, Bool, true, false, List, length, sym, ap, subst, ◌∙◌, ⊎_elim, arith}
 use Rattle.std.specs.Prelude.{get_or, slice_index_or, slice_set}
 use Rattle.std.specs.List.{list_any, range_with_len}
 use Rattle.std.proofs.lemmas.Bool.{cases_eq, false≢true, or_left}
 use Rattle.std.proofs.lemmas.List.{get_or-set_other, get_or-set_same, length-set}
 use Rattle.dd_sets.specs.declared.errors.SetErr.{SetErr}
-use Rattle.dd_sets.specs.declared.errors.SetErr.TheVariants.{Full, Memory}
 use Rattle.task_core.specs.Cubes.{SetOfVectors}
 use Rattle.task_core.specs.Systems.{IsVector}
 use Rattle.task_core.specs.Tasks.{action_count}
 use Rattle.task_core.specs.Vectors.{Vector}
 use Rattle.plan_theory.specs.Layers.{must_lead}
 use Rattle.slot_board.specs.Board.{Scene}
-use Rattle.patrol_plan.specs.Scenes.{IsAt, Left, Start, states_at, sys_in}
+use Rattle.patrol_plan.specs.Scenes.{Start, states_at, sys_in}
 use Rattle.patrol_plan.specs.Steps.{AddsHits, AreSpent, IsSpent, Leads, OnlyHits}
 use Rattle.patrol_plan.specs.declared.rounds.Way.{Way}
 use Rattle.patrol_plan.specs.declared.rounds.Way.TheVariants.{Growing, Shrinking}
@@ -57,11 +56,7 @@ pub adds_spent : (way : Way) (start : Start) (x y : Scene) (a : ℕ) (marks : Li
 adds_spent way start x y a marks adds spent =
     spent_kept way start (states_at x 1) (states_at y 1) marks (λ v is e. adds.next v is ∙ or_left (states_at x 1 v) _ e) spent
 
--- a fact of what was answered, and a refusal for want of memory alone
+-- a fact of what was answered
 pub if_joined : (P Q : Type 0) (result : Result Bool SetErr) → (P → Q) → IfOk result (λ joined. joined ≡ true → P) → IfOk result (λ joined. joined ≡ true → Q)
 if_joined P Q (Ok joined) f h = λ e. f (h e)
 if_joined P Q (Err e) f h = h
-
-pub memory_passed : {S T : Type 0} (start : Start) (x : Scene) (Q : Type 0) (inner : Result S SetErr) (outer : Result T SetErr) (e : SetErr) → inner ≡ Err e → (r : SetErr) × (outer ≡ Err r) × (r ≡ e) → IfErr inner (λ e. e ≡ Memory) → IsAt start x → Left start x Q outer
-memory_passed start x Q inner outer e was p never at =
-    subst (Left start x Q) (sym p.1) (at, λ full. absurd (let m : e ≡ Memory = subst (λ r. IfErr r (λ e. e ≡ Memory)) was never in let no : Memory ≡ Full = sym m ∙ sym p.2 ∙ full in cc))

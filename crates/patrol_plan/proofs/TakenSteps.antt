@@ -1,6 +1,7 @@
 -- The states that take each action: of one context more.
 use Rattle.std.proofs.Common.{◌≡◌, ◌≢◌, ℕ, suc, ◌+◌, ◌*◌, ◌<◌, ◌≤◌, true, false, ◌&&◌, ◌||◌, List, [], ◌∷◌, drop, length, sym, ap, subst, ◌∙◌, inl, inr, ◌⊎◌, ⊎_elim, arith, mul-le-mul_right, slice_index_or}
 use Rattle.std.proofs.lemmas.Bool.{cases_eq, cases_lt}
+use Rattle.std.proofs.lemmas.List.{drop_all}
 use Rattle.std.specs.List.{find}
 use Rattle.plan_theory.specs.UntilChains.{SetStage, UntilSets, covers_until, until_met, until_win}
 use Rattle.plan_theory.specs.Safe.{safe_set}
@@ -26,7 +27,7 @@ use Rattle.patrol_plan.specs.Rounds.{first_lead}
 use Rattle.dd_nodes.specs.Subfunctions.{Function}
 use Rattle.patrol_plan.proofs.GuardSteps.{action_as, first_anywhere, set_as}
 use Rattle.patrol_plan.proofs.StageLemmas.{first_same}
-use Rattle.patrol_plan.proofs.WinSteps.{drop_none, drop_some}
+use Rattle.patrol_plan.proofs.WinSteps.{drop_some}
 
 -- the places of an action's states
 pub takers_apart : (actions stages i j : ℕ) → i < j → takers_place actions stages i + actions ≤ takers_place actions stages j
@@ -177,7 +178,7 @@ last_taken start x y chain long h c =
     let sys = sys_of start in
     let n = start.stages in
     let t = takers_place (action_count start.task) n n in
-    let is_end : drop n chain.stages ≡ [] = drop_none chain.stages n (omega arith) in
+    let is_end : drop n chain.stages ≡ [] = drop_all n chain.stages (omega arith) in
     let won : SameStates start (states_at x (win_place n)) (safe_set sys chain.keep) =
     λ v is. h.won.wins n (omega arith) (omega arith) v is ∙ ap (λ (stages : List SetStage). until_win sys chain.keep stages v) is_end in
     takers_more start x y chain n (omega arith) h (changed_out start anywhere x y t (t + action_count start.task) c.changed)

@@ -4,6 +4,7 @@ use Rattle.std.specs.List.{list_any, range_with_len}
 use Rattle.std.proofs.lemmas.Bool.{cases_eq}
 use Rattle.list_laws.proofs.Booleans.{and_one, or_assoc, or_none}
 use Rattle.dd_ops.specs.Operations.{and_of, minus_of, or_of}
+use Rattle.preimage.proofs.Leads.{any_more}
 use Rattle.slot_board.specs.Board.{Scene, set_at}
 use Rattle.plan_theory.specs.StageSets.{near}
 use Rattle.plan_theory.specs.Layers.{must_lead}
@@ -14,7 +15,6 @@ use Rattle.patrol_plan.specs.Scenes.{IsGuarded, Moved, SameStates, Start, led_in
 use Rattle.patrol_plan.specs.Rounds.{first_lead, turn_by}
 use Rattle.patrol_plan.specs.Steps.{Climbs, FirstTaken, Shared}
 use Rattle.patrol_plan.specs.declared.rounds.Way.TheVariants.{Growing}
-use Rattle.patrol_plan.proofs.RoundSteps.{any_more}
 use Rattle.patrol_plan.proofs.SceneSteps.{changed_chain_in, copied_states, joined_states, led_states, met_states, moved_changed_in, moved_in, moved_low, moved_other, moved_worked_in, rest_states, same_length, worked_chain_in, worked_changed_in}
 
 -- no action yet

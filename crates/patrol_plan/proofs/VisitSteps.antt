@@ -19,6 +19,7 @@ use Rattle.plan_theory.proofs.PatrolSets.{last_round, patrol_set-largest, within
 use Rattle.list_laws.proofs.Booleans.{and_assoc, and_one}
 use Rattle.list_laws.proofs.Elements.{list_all-at, list_all-from}
 use Rattle.plan_theory.proofs.RoundSteps.{held}
+use Rattle.plan_theory.specs.GuardedSets.{anywhere}
 use Rattle.plan_theory.specs.Patrols.{covers_patrol, patrol_set, visit_set, visited}
 use Rattle.plan_theory.specs.Safe.{some_must_lead}
 use Rattle.plan_theory.specs.StageSets.{near}

@@ -1,5 +1,6 @@
 -- What is made to find the states of the contexts is small.
 use Rattle.std.proofs.Common.{◌≡◌, ℕ, ◌+◌, ◌<◌, ◌≤◌, length, sym, ap, subst, inl}
+use Rattle.plan_theory.specs.GuardedSets.{anywhere}
 use Rattle.dd_nodes.specs.Subfunctions.{Function}
 use Rattle.dd_ops.specs.Operations.{and_of}
 use Rattle.dd_sets.specs.LiveSets.{set_of}
@@ -19,7 +20,6 @@ use Rattle.patrol_plan.specs.WorkingSets.{kept_states}
 use Rattle.patrol_plan.specs.declared.rounds.Way.TheVariants.{Shrinking}
 use Rattle.patrol_plan.proofs.SizeSteps.{fits_small, turns_fit_first}
 use Rattle.patrol_plan.proofs.WinSteps.{kept_together, space_holds, stage_together}
-use Rattle.plan_theory.specs.GuardedSets.{anywhere}
 
 pub space_fits : (start : Start) (m : Scene) (space : SetId) → IsAt start m → space ≡ m.0.space → board.IsSmall (board_of start) (space_set start.task) → board.Fits (board_of start) 0 (set_of m.0.sets space.0)
 space_fits start m space at is fits =

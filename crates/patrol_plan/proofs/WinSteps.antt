@@ -1,6 +1,7 @@
 -- The states of the contexts: of the last one, and from one to the one before.
 use Rattle.std.proofs.Common.{◌≡◌, ◌≢◌, ℕ, zero, suc, ◌+◌, ◌-◌, ◌*◌, ◌<◌, ◌≤◌, true, ◌&&◌, List, [], ◌∷◌, drop, length, map, slice_index_or, refl, sym, ap, subst, ◌∙◌, inr, ⊎_elim, arith}
 use Rattle.std.proofs.lemmas.Bool.{cases_eq}
+use Rattle.std.proofs.lemmas.List.{drop_all}
 use Rattle.dd_nodes.specs.Subfunctions.{Function}
 use Rattle.dd_ops.specs.Operations.{and_of}
 use Rattle.dd_sets.specs.LiveSets.{everything, set_of}
@@ -10,6 +11,7 @@ use Rattle.encode_task.specs.Slots.{Encoded}
 use Rattle.encode_task.specs.TaskSets.{space_set}
 use Rattle.slot_board.proofs.BoardSlots.{made_at}
 use Rattle.slot_board.specs.Board.{Scene, set_at}
+use Rattle.plan_theory.specs.GuardedSets.{anywhere}
 use Rattle.plan_theory.specs.UntilChains.{SetStage, UntilSets, until_met, until_win}
 use Rattle.plan_theory.specs.Safe.{safe_set}
 use Rattle.task_core.specs.Conditions.{IsConditionOver, holds, ids_below}
@@ -29,7 +31,6 @@ use Rattle.patrol_plan.specs.declared.rounds.Way.TheVariants.{Growing, Shrinking
 use Rattle.patrol_plan.proofs.SceneSteps.{changed_chain, changed_wider, copied_states, long_enough, met_states, moved_changed, moved_here, moved_other, moved_worked, same_all, same_length, worked_changed, worked_out}
 use Rattle.patrol_plan.proofs.KeptSteps.{safe_kept}
 use Rattle.patrol_plan.proofs.GuardSteps.{guarded_set_same, safe_set_anywhere, set_as}
-use Rattle.plan_theory.specs.GuardedSets.{anywhere}
 
 -- where a condition is to be kept: among the states
 pub space_holds : (task : Task) (enc : Encoded) (space : SetId) → MadeOf task enc → space ≡ enc.space → Holds enc.sets space (space_set task)
@@ -123,13 +124,6 @@ stage_won start x m w k y place stage high within ready h put last won =
           (moved_other start k y place _ won (place + 1) (omega arith) (λ e. absurd (omega arith)) ∙ last.worked.kept (place + 1) (omega arith) (omega arith) ∙ here);
     }
 
--- the stages from a number on
-pub drop_none : {X : Type 0} (xs : List X) (n : ℕ) → length xs ≤ n → drop n xs ≡ []
-drop_none [] zero few = refl
-drop_none [] (suc n) few = refl
-drop_none (x ∷ xs) zero few = absurd (omega arith)
-drop_none (x ∷ xs) (suc n) few = drop_none xs n (omega arith)
-
 pub drop_some : {X Y : Type 0} (f : X → Y) (xs : List X) (n : ℕ) (other : X) → n < length xs → drop n (map f xs) ≡ f (slice_index_or xs n other) ∷ drop (suc n) (map f xs)
 drop_some f [] n other within = absurd (omega arith)
 drop_some f (x ∷ xs) zero other within = refl
@@ -146,7 +140,7 @@ wins_end start x y chain cond long keep h = record {
         (λ v is.
         h.win v is
         ∙ ap (λ (f : SetOfVectors). safe_set (sys_of start) f v) (sym keep)
-        ∙ ap (λ (stages : List SetStage). until_win (sys_of start) chain.keep stages v) (sym (drop_none chain.stages start.stages (omega arith))));
+        ∙ ap (λ (stages : List SetStage). until_win (sys_of start) chain.keep stages v) (sym (drop_all start.stages chain.stages (omega arith))));
     mets = λ j from less. absurd (omega arith);
   };
 }

@@ -4,6 +4,7 @@
 use Rattle.std.specs.Prelude.{◌≡◌, ℕ, suc, ◌+◌, ◌<◌, ◌≤◌, true, false, ◌&&◌, List, Contains, get_or, length}
 use Rattle.std.specs.Prelude.{take}
 use Rattle.std.specs.List.{list_all}
+use Rattle.plan_theory.specs.GuardedSets.{anywhere}
 use Rattle.plan_theory.specs.LayerPlans.{is_action}
 use Rattle.plan_theory.specs.Patrols.{covers_patrol, patrol_round, patrol_set, visit_near, visit_set}
 use Rattle.plan_theory.specs.PatrolPrinted.{patrol_action}

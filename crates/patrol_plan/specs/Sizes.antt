@@ -1,6 +1,7 @@
 -- Private: that what the parts of a search make is small, or rough, by the width of its start.
 use Rattle.std.specs.Prelude.{◌≡◌, ℕ, ◌<◌, ◌≤◌, ◌||◌, ◌&&◌, not, true, Contains}
 use Rattle.std.specs.List.{list_any, range_with_len}
+use Rattle.plan_theory.specs.GuardedSets.{anywhere}
 use Rattle.plan_theory.specs.UntilChains.{UntilSets, covers_until}
 use Rattle.plan_theory.specs.Layers.{must_lead}
 use Rattle.plan_theory.specs.LayerPlans.{is_action}
@@ -23,7 +24,6 @@ use Rattle.patrol_plan.specs.WorkingSets.{function_of, guard_in, kept_states, me
 use Rattle.patrol_plan.specs.WorkingSets.{taken_at_end, taken_within}
 use Rattle.patrol_plan.specs.declared.rounds.Way.{Way}
 use Rattle.patrol_plan.specs.declared.rounds.Way.TheVariants.{Growing, Shrinking}
-use Rattle.plan_theory.specs.GuardedSets.{anywhere}
 
 -- states are a small set, or a rough one
 abbrev pub IsSmall : Start → SetOfVectors → Type 0

@@ -1,6 +1,7 @@
 -- The printed table on the board of a search: for each context, next context and action the states
 -- in which the action is taken.
 use Rattle.std.specs.Prelude.{◌≡◌, ℕ, suc, ◌+◌, ◌<◌, ◌≤◌, length, true}
+use Rattle.plan_theory.specs.GuardedSets.{anywhere}
 use Rattle.plan_theory.specs.UntilChains.{UntilSets, covers_until}
 use Rattle.plan_theory.specs.UntilPrinted.{until_states}
 use Rattle.encode_task.specs.Made.{MadeOf}
@@ -11,7 +12,6 @@ use Rattle.slot_board.specs.Board.{Scene}
 use Rattle.patrol_plan.specs.Rounds.{turning_at}
 use Rattle.patrol_plan.specs.Scenes.{SameStates, Start, rules_place, states_at, sys_of}
 use Rattle.patrol_plan.specs.Steps.{HasTakers}
-use Rattle.plan_theory.specs.GuardedSets.{anywhere}
 
 -- where a search for a task and so many stages began, with a width
 abbrev pub start_of : (task : Task) (enc : Encoded) → MadeOf task enc → (stages width : ℕ)

@@ -1,5 +1,6 @@
 //! Which states take which action, in each context.
 
+ghost use Rattle.plan_theory.specs.GuardedSets.{anywhere};
 ghost use Rattle.std.specs.Prelude.{◌≡◌, ℕ, suc, ◌≤◌, ◌+◌, ◌<◌, List, ◌∷◌, length};
 ghost use Rattle.ctl_syntax.specs.Conditions.{states_of};
 ghost use Rattle.slot_board.specs.Board as board_specs;
@@ -15,7 +16,6 @@ ghost use Rattle.slot_board.specs.Board.{Scene};
 ghost use Rattle.slot_board.specs.declared.steps.Step.{Step as Noted};
 ghost use Rattle.patrol_plan.specs.declared.rounds.Way.TheVariants.{Growing};
 ghost use Rattle.task_core.specs.Conditions.{IsConditionOver};
-ghost use Rattle.plan_theory.specs.GuardedSets.{anywhere};
 
 use crate::places::{GUARD, HITS, NEAR, NEW, NEXT, REST, met_at, takers_at, win_at};
 use crate::rounds::lead_inside;
@@ -26,31 +26,9 @@ use encode_task::Enc;
 use slot_board::{Board, Operation, Step};
 use task_core::{ActionId, Cond};
 
-/// Has an action taken by the states without one from which it leads into the first states.
+/// Has an action taken by the states without one from which it leads into the first states. Where no
+/// state is without an action no preimage is made.
 fn share_one(enc: &mut Enc, board: &mut Board, takers: usize, a: ActionId) -> Result<(), SetErr>
-    requires ready { (start : Start) × (x : Scene)
-        × Shared start x (enc.old, board.old.slots.items) takers a.0
-        × ShareFits start (states_at x 0) (states_at x 3)
-        (λ k. states_at x (takers + k)) }
-    requires action { a.0 < length enc.old.actions }
-    requires places { takers + length enc.old.actions ≤ length board.old.slots.items }
-    requires high { 8 ≤ takers }
-    ensures { (start : Start) (x : Scene)
-        → Shared start x (enc.old, board.old.slots.items) takers a.0
-        → ShareFits start (states_at x 0) (states_at x 3)
-        (λ k. states_at x (takers + k))
-        → Left start (enc.new, board.new.slots.items)
-        (Shared start x (enc.new, board.new.slots.items) takers (a.0 + 1)) result }
-{
-    let place = takers + a.0 as usize;
-    lead_inside(enc, board, a)?;
-    board.combine(enc, HITS, Operation::Meet, REST, HITS)?;
-    board.combine(enc, place, Operation::Join, place, HITS)?;
-    board.combine(enc, REST, Operation::Minus, REST, HITS)
-}
-
-/// The same, with no preimage where no state is without an action.
-fn share_rest(enc: &mut Enc, board: &mut Board, takers: usize, a: ActionId) -> Result<(), SetErr>
     requires ready { (start : Start) × (x : Scene)
         × Shared start x (enc.old, board.old.slots.items) takers a.0
         × ShareFits start (states_at x 0) (states_at x 3)
@@ -68,7 +46,11 @@ fn share_rest(enc: &mut Enc, board: &mut Board, takers: usize, a: ActionId) -> R
     if board.is_empty(enc, REST) {
         return Ok(());
     }
-    share_one(enc, board, takers, a)
+    let place = takers + a.0 as usize;
+    lead_inside(enc, board, a)?;
+    board.combine(enc, HITS, Operation::Meet, REST, HITS)?;
+    board.combine(enc, place, Operation::Join, place, HITS)?;
+    board.combine(enc, REST, Operation::Minus, REST, HITS)
 }
 
 /// Gives each of the states without an action the least-numbered one that leads into the first
@@ -90,7 +72,7 @@ fn share(enc: &mut Enc, board: &mut Board, actions: u32, takers: usize) -> Resul
         (action_count start.task)) result }
 {
     for a in 0..actions {
-        share_rest(enc, board, takers, ActionId(a))?;
+        share_one(enc, board, takers, ActionId(a))?;
     }
     Ok(())
 }

@@ -1,8 +1,10 @@
 -- Where an action can be executed and leads into a set of states, by the states to which it leads.
-use Rattle.std.proofs.Common.{◌≡◌, ℕ, Bool, true, not, ◌&&◌, ◌||◌, List, [], ◌∷◌, Contains, refl, sym, ap, subst, ◌∙◌}
-use Rattle.std.specs.List.{list_all, list_any}
-use Rattle.list_laws.proofs.Booleans.{and_yes, both_lead, or_true}
+use Rattle.std.proofs.Common.{◌≡◌, ℕ, ◌+◌, Bool, true, not, ◌&&◌, ◌||◌, List, [], ◌∷◌, Contains, refl, sym, ap, subst, ◌∙◌}
+use Rattle.std.specs.List.{list_all, list_any, range_with_len}
+use Rattle.std.proofs.lemmas.List.Folds.{list_any-append}
+use Rattle.list_laws.proofs.Booleans.{and_yes, both_lead, or_none, or_true}
 use Rattle.list_laws.proofs.Elements.{Contains-head, Contains-nil, list_all-agree, list_all-at, list_all-from, list_any-agree, list_any-from, list_any-witness}
+use Rattle.list_laws.proofs.Ranges.{range-more}
 use Rattle.dd_nodes.specs.Subfunctions.{DependsOnly, Function}
 use Rattle.dd_sets.specs.LiveSets.{everything}
 use Rattle.task_core.specs.Actions.{after_value}
@@ -57,3 +59,10 @@ strong_agrees task a f set only same v is =
     strong_leads task a f v only
     ∙ ap (λ b. is_executable task v a && b) (list_all-agree (λ t. f (value_of t)) set (next_states task v a) (λ t o. same t ((is_system task).next v a t o).vector))
     ∙ all_lead task set v a
+
+-- one action more that may pass a test
+pub any_more : (p : ℕ → Bool) (n : ℕ) → (list_any p (range_with_len 0 n) || p n) ≡ list_any p (range_with_len 0 (n + 1))
+any_more p n =
+    ap (λ b. list_any p (range_with_len 0 n) || b) (or_none (p n))
+    ∙ sym (list_any-append p (range_with_len 0 n) (n ∷ []))
+    ∙ ap (list_any p) (sym (range-more n))

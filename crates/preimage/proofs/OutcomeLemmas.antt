@@ -19,6 +19,7 @@ use Rattle.task_core.specs.declared.tasks.Task.{Task}
 use Rattle.encode_task.specs.TaskSets.{exec_set, lands_set, led_into, space_set}
 use Rattle.encode_task.proofs.ShownLemmas.{value_computed}
 use Rattle.encode_task.proofs.SpaceLemmas.{space_depends}
+use Rattle.encode_task.proofs.TableLemmas.{found_at}
 use Rattle.preimage.specs.Preimages.{strong_preimage, weak_preimage}
 use Rattle.preimage.specs.Sides.{all_outcomes_on, on_side}
 use Rattle.preimage.specs.declared.slots.Side.{Side}
@@ -41,12 +42,6 @@ left_after task a set i values = exec_set task a values && not (list_any (leads 
 
 abbrev all_after : Task → ℕ → Function → ℕ → Function
 all_after task a set i values = exec_set task a values && list_all (stays task set values) (take i (outcomes_at task a))
-
--- the outcome with a number
-at : (outcomes : List Outcome) (i : ℕ) → i < length outcomes → (o : Outcome) × (slice_get outcomes i ≡ Some o)
-at [] i within = absurd (omega arith)
-at (o ∷ outcomes) zero within = (o, refl)
-at (o ∷ outcomes) (suc i) within = at outcomes i (omega arith)
 
 led_at : (task : Task) (a i : ℕ) (set : Function) (values : Values) (o : Outcome) → slice_get (outcomes_at task a) i ≡ Some o → led_into task a i set values ≡ set (after_value o values)
 led_at task a i set values o is = ap (λ (found : Option Outcome). set (λ f. option_map_or (λ (o : Outcome). after_value o values f) found (values f))) is
@@ -75,7 +70,7 @@ left_more task a i set within = λ j values. (step values) j
   where
     step : (values : Values) → (left_after task a set i values && not (led_into task a i set values && lands_set task a i values)) ≡ left_after task a set (i + 1) values
     step values =
-        let o = at (outcomes_at task a) i within in
+        let o = found_at (outcomes_at task a) i within in
         let same : get_or (outcomes_at task a) i o.0 ≡ o.0 = get_or_from_slice_get (outcomes_at task a) i o.0 o.0 o.1 in
         (λ j. left_after task a set i values && not (led_at task a i set values o.0 o.1 j && lands_at task a i values o.0 o.1 j))
         ∙ less (exec_set task a values) (list_any (leads task set values) (take i (outcomes_at task a))) (set (after_value o.0 values)) (lands task values o.0)
@@ -87,7 +82,7 @@ all_more task a i set within = λ j values. (step values) j
   where
     step : (values : Values) → (all_after task a set i values && not (lands_set task a i values && not (led_into task a i set values))) ≡ all_after task a set (i + 1) values
     step values =
-        let o = at (outcomes_at task a) i within in
+        let o = found_at (outcomes_at task a) i within in
         let same : get_or (outcomes_at task a) i o.0 ≡ o.0 = get_or_from_slice_get (outcomes_at task a) i o.0 o.0 o.1 in
         (λ j. all_after task a set i values && not (lands_at task a i values o.0 o.1 j && not (led_at task a i set values o.0 o.1 j)))
         ∙ more (exec_set task a values) (list_all (stays task set values) (take i (outcomes_at task a))) (set (after_value o.0 values)) (lands task values o.0)

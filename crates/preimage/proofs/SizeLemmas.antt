@@ -6,6 +6,7 @@ use Rattle.std.proofs.Math.Bool.{and-or_distrib_left, and_self}
 use Rattle.std.proofs.lemmas.List.{take_all}
 use Rattle.list_laws.proofs.Booleans.{and_one, or_assoc, or_none}
 use Rattle.dd_nodes.specs.Subfunctions.{Function, IsSubfunction}
+use Rattle.dd_nodes.proofs.Dependence.{sub_self}
 use Rattle.dd_ops.specs.Operations.{and_of, minus_of, or_of}
 use Rattle.dd_sets.specs.Rooms.{AreSized, Rough, Small}
 use Rattle.dd_sets.proofs.OperationSizes.{difference_rough, meet_rough}
@@ -37,10 +38,6 @@ rough_slots vars w i j f g first second = inr (first, 1, refl, inr (second, 0, r
 pub small_rough_slots : (vars w i j : ℕ) (f g : Function) → Small vars w f → Rough vars w g → AreSized vars w 1 ((i, f) ∷ (j, g) ∷ [])
 small_rough_slots vars w i j f g first second = inl (first, inr (second, 0, refl, tt))
 
--- a function is a subfunction of itself
-pub subfunction_self : (vars : ℕ) (f : Function) → IsSubfunction vars f f
-subfunction_self vars f = record { first = []; few = omega arith; fixes = λ values. refl }
-
 -- what is left is the difference of where the action can be executed and where some outcome leads in
 pub without_first : (e l : Bool) → (e && not (e && l)) ≡ (e && not l)
 without_first true l = refl
@@ -58,13 +55,13 @@ rest_rough width Outside task a set fits i =
 other_rough : (width : ℕ) (side : Side) (task : Task) (a : ℕ) (set : Function) → SideFits width side task a set → (o : ℕ) → o < length (outcomes_at task a)
     → Rough (fluent_count task) width (off_side side (lands_set task a o) (led_into task a o set))
 other_rough width Inside task a set fits o within =
-    difference_rough (fluent_count task) width (lands_set task a o) (led_into task a o set) (fits.lands o within) (fits.led o within set (subfunction_self (fluent_count task) set))
+    difference_rough (fluent_count task) width (lands_set task a o) (led_into task a o set) (fits.lands o within) (fits.led o within set (sub_self (fluent_count task) set))
 other_rough width Outside task a set fits o within =
-    meet_rough (fluent_count task) width (led_into task a o set) (lands_set task a o) (fits.led o within set (subfunction_self (fluent_count task) set)) (fits.lands o within)
+    meet_rough (fluent_count task) width (led_into task a o set) (lands_set task a o) (fits.led o within set (sub_self (fluent_count task) set)) (fits.lands o within)
 
 side_led : (width : ℕ) (side : Side) (task : Task) (a : ℕ) (set : Function) → SideFits width side task a set → (o : ℕ) → o < length (outcomes_at task a) → Small (fluent_count task) width (led_into task a o set)
-side_led width Inside task a set fits o within = fits.led o within set (subfunction_self (fluent_count task) set)
-side_led width Outside task a set fits o within = fits.led o within set (subfunction_self (fluent_count task) set)
+side_led width Inside task a set fits o within = fits.led o within set (sub_self (fluent_count task) set)
+side_led width Outside task a set fits o within = fits.led o within set (sub_self (fluent_count task) set)
 
 -- the sets of one outcome more
 pub part_fits : (vars width : ℕ) (side : Side) (task : Task) (a : ℕ) (set : Function) → vars ≡ fluent_count task → SideFits width side task a set → (o : ℕ) → o < length (outcomes_at task a)
@@ -144,7 +141,7 @@ some_fits width task a set hits others wide action small space = record {
   wide = wide;
   given = small set itself;
   exec = subst (Small (fluent_count task) width) (exec_some task a) (space (first_some task a (length (outcomes_at task a)) (space_set task)) (first_led a action (length (outcomes_at task a))));
-  lands = λ o within. space (lands_set task a o) (led a action o within (space_set task) (subfunction_self (fluent_count task) (space_set task)));
+  lands = λ o within. space (lands_set task a o) (led a action o within (space_set task) (sub_self (fluent_count task) (space_set task)));
   firsts = λ j. small (first_some task a j set) (first_led a action j);
   led = λ o within part is. small (led_into task a o part) (led a action o within part is);
 }
@@ -156,7 +153,7 @@ every_fits width task a set hits others wide action small space = record {
   wide = wide;
   given = small set itself;
   exec = subst (Small (fluent_count task) width) (sym (exec_first task a (space_set task))) (space (first_every task a 0 (space_set task)) (first_led a action 0));
-  lands = λ o within. space (lands_set task a o) (led a action o within (space_set task) (subfunction_self (fluent_count task) (space_set task)));
+  lands = λ o within. space (lands_set task a o) (led a action o within (space_set task) (sub_self (fluent_count task) (space_set task)));
   firsts = λ j. small (first_every task a j set) (first_led a action j);
   led = λ o within part is. small (led_into task a o part) (led a action o within part is);
 }

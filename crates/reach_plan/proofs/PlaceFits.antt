@@ -11,6 +11,7 @@ use Rattle.encode_task.specs.Made.{MadeOf}
 use Rattle.encode_task.specs.Slots.{Encoded}
 use Rattle.encode_task.specs.TaskSets.{goal_set}
 use Rattle.encode_task.specs.WorkingSets.IsMadeByEncode.{goal_states}
+use Rattle.encode_task.proofs.MadeLemmas.{goal_slot}
 use Rattle.preimage.specs.WorkingSets.{PreimageFits}
 use Rattle.slot_board.specs.Board.{Fits, IsSmall, LeadFits, Moved, Start, TestFits, set_at}
 use Rattle.slot_board.proofs.BoardSlots.{action_within}
@@ -25,7 +26,7 @@ use Rattle.reach_plan.specs.WorkingSets.{BoundsReachSets, first_of}
 use Rattle.reach_plan.specs.WorkingSets.IsWorkingSet.{by_task}
 use Rattle.slot_board.specs.declared.steps.Step.{Step}
 use Rattle.slot_board.specs.declared.steps.Step.TheVariants.{Advance, Grow}
-use Rattle.reach_plan.proofs.SearchSteps.{after_one_more, goal_slot, grown_more, hits_still}
+use Rattle.reach_plan.proofs.SearchSteps.{after_one_more, grown_more, hits_still}
 use Rattle.reach_plan.proofs.SmallSets.{grown_small, hits_small, initial_small, layer_fits, layer_small, next_small, now_small, takes_small}
 
 -- a set that is a small one fits at every place

@@ -1,23 +1,24 @@
 -- One step of the search: what it leaves on the board.
-use Rattle.std.proofs.Common.{inl, inr, true≢false, ◌≡◌, ◌≢◌, ℕ, zero, suc, ◌+◌, ◌<◌, ◌≤◌, ◌==◌, get_or, Bool, true, false, not, ◌&&◌, ◌||◌, List, [], ◌∷◌, ◌++◌, length, nat_lt, take, take_all, Option, Some, None, refl, sym, ap, subst, ◌∙◌, ⊎_elim, arith}
+use Rattle.std.proofs.Common.{inl, inr, true≢false, ◌≡◌, ◌≢◌, ℕ, zero, suc, ◌+◌, ◌<◌, ◌≤◌, ◌==◌, get_or, Bool, true, false, not, ◌&&◌, ◌||◌, List, [], ◌∷◌, ◌++◌, length, nat_lt, take, take_all, Option, Some, refl, sym, ap, subst, ◌∙◌, ⊎_elim, arith}
 use Rattle.std.specs.Prelude.{slice_index_or, slice_set}
 use Rattle.std.specs.List.{list_all, list_any, range_with_len}
 use Rattle.std.specs.Option.{option_map_or}
 use Rattle.std.proofs.Math.Path.{fun_ext}
 use Rattle.std.proofs.lemmas.Bool.{cases_eq, cases_lt, cond-false, cond-true, eq-eqb, lt-ltb, ltb-true, ne_eqb, false_from_ne_true}
 use Rattle.std.proofs.lemmas.List.{get_or_past, get_or-set_same, get_or-set_other, length_push, take-append-le}
-use Rattle.std.proofs.lemmas.List.Folds.{list_all-append, list_any-append}
-use Rattle.list_laws.proofs.Booleans.{and_first, and_second, or_none, or_true}
+use Rattle.std.proofs.lemmas.List.Folds.{list_all-append}
+use Rattle.list_laws.proofs.Booleans.{and_first, and_second, or_assoc, or_none, or_true}
 use Rattle.dd_nodes.specs.Subfunctions.{DependsOnly, Function}
 use Rattle.dd_ops.specs.Operations.{minus_of, or_of}
-use Rattle.dd_sets.specs.LiveSets.{IsLive, nothing, set_of}
+use Rattle.dd_sets.specs.LiveSets.{nothing, set_of}
 use Rattle.dd_nodes.specs.NodeList.{Values}
 use Rattle.dd_sets.specs.declared.slots.SetId.{SetId}
-use Rattle.encode_task.specs.Made.{Holds, HoldsGoal, MadeOf}
 use Rattle.encode_task.specs.Slots.{Encoded}
 use Rattle.encode_task.specs.TaskSets.{exec_set, goal_set}
+use Rattle.encode_task.proofs.MadeLemmas.{goal_slot}
 use Rattle.preimage.specs.Laws.{StrongLeadsToAll, WeakLeadsToSome}
 use Rattle.preimage.specs.Preimages.{every_outcome_in, some_outcome_in}
+use Rattle.preimage.proofs.Leads.{any_more}
 use Rattle.slot_board.specs.Board.{At, HasNothing, IsSmall, Moved, Start, Stayed, set_at}
 use Rattle.slot_board.proofs.BoardSlots.{depends, made_at}
 use Rattle.task_core.specs.Tasks.{action_count, fluent_count, initial_states, system_of}
@@ -36,7 +37,6 @@ use Rattle.reach_plan.specs.Steps.{HaveLed, IsWithinRound, Progress, after_step,
 use Rattle.slot_board.specs.declared.steps.Step.{Step}
 use Rattle.slot_board.specs.declared.steps.Step.TheVariants.{Advance, Grow}
 use Rattle.plan_theory.proofs.LeastBounds.{none_once_stable}
-use Rattle.list_laws.proofs.Ranges.{range-more}
 use Rattle.reach_plan.specs.WorkingSets.{BoundsReachSets}
 use Rattle.reach_plan.proofs.SmallSets.{at_layer, grown_none, within_round}
 use Rattle.reach_plan.proofs.SetLayers.{fewer_next, goal_is_layer, missed, next_layer_set, next_takers, none_take, stable_same}
@@ -49,20 +49,13 @@ not_below_zero a = false_from_ne_true (nat_lt a 0) (λ lt. let l : a < 0 = ltb-t
 taken_none : (class : Class) (task : Task) (f : Function) (h : ℕ → Function) → h ≡ taken_by class task f h 0
 taken_none class task f h = fun_ext (λ a. sym (cond-false (nat_lt a 0) (or_of (h a) (minus_of (class_preimage class task a f) (grown class task f a))) (h a) (not_below_zero a)))
 
--- one action more
-or_last : (s l p : Bool) → ((s || l) || p) ≡ (s || (l || (p || false)))
-or_last true l p = refl
-or_last false true p = refl
-or_last false false p = or_none p
-
 pub grown_more : (class : Class) (task : Task) (f : Function) (a : ℕ) → or_of (grown class task f a) (class_preimage class task a f) ≡ grown class task f (a + 1)
 grown_more class task f a = fun_ext step
   where
     step : (values : ℕ → Bool) → (grown class task f a values || class_preimage class task a f values) ≡ grown class task f (a + 1) values
     step values =
         let p : ℕ → Bool = λ b. class_preimage class task b f values in
-        or_last (f values) (list_any p (range_with_len 0 a)) (p a)
-        ∙ ap (λ l. f values || l) (sym (ap (list_any p) (range-more a) ∙ list_any-append p (range_with_len 0 a) (a ∷ [])))
+        or_assoc (f values) (list_any p (range_with_len 0 a)) (p a) ∙ ap (λ l. f values || l) (any_more p a)
 
 taken_more : (class : Class) (task : Task) (f : Function) (h : ℕ → Function) (a : ℕ)
     → with_set (taken_by class task f h a) a (or_of (taken_by class task f h a a) (minus_of (class_preimage class task a f) (grown class task f a))) ≡ taken_by class task f h (a + 1)
@@ -413,17 +406,6 @@ module _ (weak : WeakLeadsToSome) (strong : StrongLeadsToAll) (class : Class) (s
     };
     differs = λ same. differ (has.by_next.holds_next ∙ sym done.0.holds_layer ∙ same ∙ was ∙ sym has.by_next.by_layer.holds_layer);
   }
-
--- the goal, where the search begins
-pub goal_slot : (task : Task) (enc : Encoded) (slot : SetId) → MadeOf task enc → enc.goal ≡ Some slot → (goal : Cond) × (task.goal ≡ Some goal) × Holds enc.sets slot (goal_set task goal)
-goal_slot task enc slot made is = at task.goal refl (subst (λ (o : Option SetId). HoldsGoal task enc.sets o task.goal) is made.goal)
-  where
-    at : (goal : Option Cond) → task.goal ≡ goal → HoldsGoal task enc.sets (Some slot) goal → (goal : Cond) × (task.goal ≡ Some goal) × Holds enc.sets slot (goal_set task goal)
-    at None e holds = absurd holds
-    at (Some goal) e holds = (goal, e, holds)
-
-pub goal_live : (start : Start) (enc : Encoded) (slots : List SetId) (slot : SetId) → At start enc slots → enc.goal ≡ Some slot → IsLive enc.sets slot.0
-goal_live start enc slots slot at is = (goal_slot start.task enc slot (made_at start enc slots at) is).2.live
 
 -- none is spent at first
 no_mark : (spent : List Bool) (n : ℕ) → length spent ≡ n → ((a : ℕ) → a < n → slice_index_or spent a false ≡ false) → (a : ℕ) → slice_index_or spent a false ≡ true → ⊥

@@ -4,6 +4,7 @@ use Rattle.std.specs.List.{list_any, range_with_len}
 use Rattle.std.specs.declared.alloc.Global.{Global}
 use Rattle.std.proofs.lemmas.List.Elements.{All-cons, All-nil}
 use Rattle.std.proofs.lemmas.List.Folds.{list_any-append}
+use Rattle.std.proofs.lemmas.List.{drop_all}
 use Rattle.dd_nodes.specs.Subfunctions.{Function}
 use Rattle.task_core.specs.Cubes.{Cube}
 use Rattle.task_core.specs.Tasks.{action_count, fluent_count}
@@ -17,7 +18,7 @@ use Rattle.slot_board.specs.Board.{Start}
 use Rattle.plan_certs.specs.Certificates.{CubeSet}
 use Rattle.refute_cert.specs.Sets.{states_in, way_out_set}
 use Rattle.refute_cert.specs.Sizes.{CubesFit, LeaveFits}
-use Rattle.board_steps.proofs.MakeLemmas.{drop_item, drop_none}
+use Rattle.board_steps.proofs.MakeLemmas.{drop_item}
 
 pub cube_fits : (start : Start) (b : Function) (cubes : List (Vec Lit Global)) (i : ℕ) (x : Vec Lit Global) → CubesFit start b (map cube_of cubes) → i < length cubes → x ≡ get_or cubes i x → CubesFit start b (cube_of x ∷ [])
 cube_fits start b cubes i x fits within is = record {
@@ -37,7 +38,7 @@ module _ (p : Cube → Bool) (cubes : List (Vec Lit Global)) (whole : Bool) wher
   cubes_more i x within is half none = ap (λ b. b || list_any p (map cube_of (drop (i + 1) cubes))) none ∙ parts i x within is half
 
   pub cubes_ended : (i : ℕ) → length cubes ≤ i → list_any p (map cube_of (drop i cubes)) ≡ whole → false ≡ whole
-  cubes_ended i past half = sym (ap (λ (xs : List (Vec Lit Global)). list_any p (map cube_of xs)) (drop_none cubes i past)) ∙ half
+  cubes_ended i past half = sym (ap (λ (xs : List (Vec Lit Global)). list_any p (map cube_of xs)) (drop_all i cubes past)) ∙ half
 
 -- the first actions
 pub actions_more : (p : ℕ → Bool) (k : ℕ) → list_any p (range_with_len 0 k) ≡ false → false ≡ p k → list_any p (range_with_len 0 (k + 1)) ≡ false

@@ -1,7 +1,6 @@
 -- The diagram of a cube has no more nodes than there are fluents: at each fluent one, for the literals of the
 -- fluents from it on.
-use Rattle.std.proofs.Common.{◌≡◌, ℕ, zero, suc, ◌+◌, ◌<◌, ◌≤◌, Bool, true, false, ◌&&◌, List, [], ◌∷◌, length, map, nat_lt, if◌then◌else◌, refl, sym, ap, ◌∙◌, ⊎_elim, arith}
-use Rattle.std.specs.Prelude.{slice_index_or}
+use Rattle.std.proofs.Common.{◌≡◌, ℕ, ◌+◌, ◌<◌, ◌≤◌, Bool, true, false, ◌&&◌, List, [], ◌∷◌, length, map, nat_lt, if◌then◌else◌, refl, sym, ap, ◌∙◌, ⊎_elim, arith}
 use Rattle.std.specs.List.{list_any, range_with_len}
 use Rattle.std.proofs.lemmas.Bool.{cases_lt, cond-false, cond-true, lt-ltb, ltb-true}
 use Rattle.std.proofs.lemmas.List.{length-map}
@@ -10,6 +9,7 @@ use Rattle.std.proofs.lemmas.List.FromFn.{length-range_with_len}
 use Rattle.dd_nodes.specs.NodeList.{Values}
 use Rattle.dd_nodes.specs.Subfunctions.{Function, agree, constants, fixed, nodes, with_first}
 use Rattle.dd_nodes.proofs.Agreement.{agree_same}
+use Rattle.dd_nodes.proofs.Reaching.{past_at, within_at}
 use Rattle.dd_sets.specs.Rooms.{Small}
 use Rattle.dd_sets.proofs.CountLemmas.{beside}
 use Rattle.dd_sets.proofs.KindLemmas.{covered_nodes, is_constant, not_both}
@@ -48,12 +48,6 @@ both_parts k (lit ∷ cube) values =
     one true false = refl
     one false s = refl
 
--- an element that there is, whatever the default
-within : (xs : List Bool) (i : ℕ) (d e : Bool) → i < length xs → slice_index_or xs i d ≡ slice_index_or xs i e
-within [] i d e low = absurd (omega (arith, low))
-within (x ∷ xs) zero d e low = refl
-within (x ∷ xs) (suc i) d e low = within xs i d e (omega (arith, low))
-
 -- the first are told by the first values, and the others by the others
 low_same : (first : List Bool) (cube : Cube) (values others : Values) → low_part (length first) cube (with_first first values) ≡ low_part (length first) cube (with_first first others)
 unfolding low_part
@@ -65,7 +59,7 @@ low_same first (lit ∷ cube) values others =
     by_test : (b : Bool) → nat_lt lit.fluent.0 (length first) ≡ b
         → (if nat_lt lit.fluent.0 (length first) then same_value (with_first first values lit.fluent.0) lit.positive else true) ≡ (if nat_lt lit.fluent.0 (length first) then same_value (with_first first others lit.fluent.0) lit.positive else true)
     by_test true e =
-        ap (λ v. if nat_lt lit.fluent.0 (length first) then same_value v lit.positive else true) (within first lit.fluent.0 (values lit.fluent.0) (others lit.fluent.0) (ltb-true lit.fluent.0 (length first) e))
+        ap (λ v. if nat_lt lit.fluent.0 (length first) then same_value v lit.positive else true) (within_at first lit.fluent.0 (values lit.fluent.0) (others lit.fluent.0) (ltb-true lit.fluent.0 (length first) e))
     by_test false e = cond-false (nat_lt lit.fluent.0 (length first)) (same_value (with_first first values lit.fluent.0) lit.positive) true e ∙ sym (cond-false (nat_lt lit.fluent.0 (length first)) (same_value (with_first first others lit.fluent.0) lit.positive) true e)
 
 high_same : (first : List Bool) (cube : Cube) (values : Values) → high_part (length first) cube (with_first first values) ≡ high_part (length first) cube values
@@ -75,18 +69,13 @@ high_same first (lit ∷ cube) values =
     ap (λ b. b && high_part (length first) cube (with_first first values)) (by_test (nat_lt lit.fluent.0 (length first)) refl)
     ∙ ap (λ b. (if nat_lt lit.fluent.0 (length first) then true else same_value (values lit.fluent.0) lit.positive) && b) (high_same first cube values)
   where
-    past : (xs : List Bool) (i : ℕ) (d : Bool) → length xs ≤ i → slice_index_or xs i d ≡ d
-    past [] i d high = refl
-    past (x ∷ xs) zero d high = absurd (omega (arith, high))
-    past (x ∷ xs) (suc i) d high = past xs i d (omega (arith, high))
-
     not_less : nat_lt lit.fluent.0 (length first) ≡ false → length first ≤ lit.fluent.0
     not_less e = ⊎_elim (λ (less : lit.fluent.0 < length first). absurd (let t = lt-ltb lit.fluent.0 (length first) less in cc)) (λ (most : length first ≤ lit.fluent.0). most) (cases_lt lit.fluent.0 (length first))
 
     by_test : (b : Bool) → nat_lt lit.fluent.0 (length first) ≡ b
         → (if nat_lt lit.fluent.0 (length first) then true else same_value (with_first first values lit.fluent.0) lit.positive) ≡ (if nat_lt lit.fluent.0 (length first) then true else same_value (values lit.fluent.0) lit.positive)
     by_test true e = cond-true (nat_lt lit.fluent.0 (length first)) true (same_value (with_first first values lit.fluent.0) lit.positive) e ∙ sym (cond-true (nat_lt lit.fluent.0 (length first)) true (same_value (values lit.fluent.0) lit.positive) e)
-    by_test false e = ap (λ v. if nat_lt lit.fluent.0 (length first) then true else same_value v lit.positive) (past first lit.fluent.0 (values lit.fluent.0) (not_less e))
+    by_test false e = ap (λ v. if nat_lt lit.fluent.0 (length first) then true else same_value v lit.positive) (past_at first lit.fluent.0 (values lit.fluent.0) (not_less e))
 
 -- no literal is one of a fluent past the last
 high_none : (n : ℕ) (cube : Cube) (values : Values) → IsCubeOf n cube → high_part n cube values ≡ true

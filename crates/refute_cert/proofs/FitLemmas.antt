@@ -1,6 +1,8 @@
 -- What a whole verdict asks of its board, by the sizes of its sets.
 use Rattle.std.proofs.Common.{◌≡◌, ℕ, zero, suc, ◌+◌, ◌<◌, ◌≤◌, List, [], ◌∷◌, drop, get_or, take, take_all, length, refl, sym, ap, subst, ◌∙◌, arith}
+use Rattle.std.proofs.Math.Seq.{drop-cons}
 use Rattle.std.proofs.lemmas.List.Elements.{All-get_or}
+use Rattle.std.proofs.lemmas.List.{drop_all}
 use Rattle.dd_nodes.specs.Subfunctions.{Function}
 use Rattle.dd_sets.specs.LiveSets.{nothing}
 use Rattle.dd_ops.specs.Operations.{or_of}
@@ -14,7 +16,7 @@ use Rattle.plan_certs.specs.Named.{AreSetsOf, IsSetOf}
 use Rattle.slot_board.specs.Board.{IsSmall, Start}
 use Rattle.refute_cert.specs.Sets.{states_in, states_of}
 use Rattle.refute_cert.specs.Sizes.{AreFit, IsBoard, JudgeFits, LeaveFits, SetsFit}
-use Rattle.board_steps.proofs.MakeLemmas.{at_any, drop_none, drop_suc}
+use Rattle.board_steps.proofs.MakeLemmas.{at_any}
 use Rattle.refute_cert.proofs.VerdictLemmas.{union_next}
 
 -- where a verdict begins
@@ -39,10 +41,10 @@ module _ (start : Start) (class : Class) (sets : List CubeSet) (board : IsBoard 
 
   from_fits : (fuel i : ℕ) → length sets ≤ fuel + i → (rest : List CubeSet) → drop i sets ≡ rest → (f : Function) → f ≡ states_of start.task (take i sets) → SetsFit start class f rest
   from_fits fuel i enough [] is f same = tt
-  from_fits zero i enough (set ∷ rest) is f same = absurd (let e : [] ≡ set ∷ rest = sym (drop_none sets i (omega (arith, enough))) ∙ is in cc)
+  from_fits zero i enough (set ∷ rest) is f same = absurd (let e : [] ≡ set ∷ rest = sym (drop_all i sets (omega (arith, enough))) ∙ is in cc)
   from_fits (suc fuel) i enough (set ∷ rest) is f same =
       let within : i < length sets = some_left sets i set rest is in
-      let more = drop_suc sets i [] within in
+      let more = drop-cons sets i [] within in
       let here : set_at sets i ≡ set = ap (λ (s : List CubeSet). get_or s 0 []) (sym more ∙ is) in
       let later : drop (suc i) sets ≡ rest = ap (λ (s : List CubeSet). drop 1 s) (sym more ∙ is) in (
         subst (λ (s : CubeSet). LeaveFits start class f s) here (subst (λ (g : Function). LeaveFits start class g (set_at sets i)) (sym same) (one_fits i within)),

@@ -10,13 +10,13 @@ use Rattle.std.proofs.lemmas.List.Folds.{list_all_more, list_any-append}
 use Rattle.list_laws.proofs.Booleans.{or_none}
 use Rattle.dd_nodes.specs.Subfunctions.{Function}
 use Rattle.dd_ops.specs.Operations.{and_of, minus_of, or_of, variable}
-use Rattle.dd_sets.specs.Calls.{KeepsSets}
 use Rattle.dd_sets.specs.Frames.{Owns, OwnsAnswer}
-use Rattle.dd_sets.specs.LiveSets.{IsLive, IsSets, LiveSets}
+use Rattle.dd_sets.specs.LiveSets.{IsLive, IsSets}
 use Rattle.dd_sets.specs.declared.errors.SetErr.{SetErr}
 use Rattle.dd_sets.specs.declared.errors.SetErr.TheVariants.{Full}
 use Rattle.dd_sets.specs.declared.slots.SetId.{SetId}
 use Rattle.dd_sets.proofs.OwnLemmas.{own_nothing}
+use Rattle.dd_sets.proofs.OwnedLemmas.{answer_kept}
 use Rattle.encode_task.specs.Slots.{Encoded}
 use Rattle.encode_task.specs.TaskSets.{cube_set}
 use Rattle.encode_task.proofs.HalfLemmas.{halves_are}
@@ -104,13 +104,8 @@ not_full result slot is full = by (sym is ∙ full)
     by : ◌≡◌ {A = Result SetId SetErr} (Ok slot) (Err Full) → ⊥
     by e = true≢false (ap is_ok e)
 
--- the slots of the board stay live
-answer_keeps : (before now : LiveSets) (set : Function) (result : Result SetId SetErr) → OwnsAnswer before now set result → KeepsSets before now
-answer_keeps before now set (Ok slot) owns = owns.kept
-answer_keeps before now set (Err e) owns = owns.kept
-
 pub live_after : (start : Start) (enc now : Encoded) (slots : List SetId) (set : Function) (result : Result SetId SetErr) → At start enc slots → OwnsAnswer enc.sets now.sets set result → (k : ℕ) → k < length slots → IsLive now.sets (slot_at slots k)
-live_after start enc now slots set result at owns k within = (answer_keeps enc.sets now.sets set result owns).live (slot_at slots k) (at.working.live k within)
+live_after start enc now slots set result at owns k within = (answer_kept enc.sets now.sets set result owns).live (slot_at slots k) (at.working.live k within)
 
 -- the literal at a place, whatever the default
 pub cube_more_at : (cube : Cube) (i : ℕ) (d : Lit) → i < length cube → and_of (cube_set (take i cube)) (literal_set (get_or cube i d)) ≡ cube_set (take (i + 1) cube)

@@ -1,9 +1,10 @@
 -- What the verdict on the sets means in the system of the task.
-use Rattle.std.proofs.Common.{◌≡◌, ℕ, zero, suc, ◌+◌, ◌<◌, ◌≤◌, Bool, true, false, not, ◌&&◌, ◌||◌, List, [], ◌∷◌, ◌++◌, Option, Some, None, drop, get_or, take, take-suc, length, option_map, unwrap_or, if◌then◌else◌, refl, sym, ap, subst, ◌∙◌, ◌⊎◌, ⊎_elim, arith}
+use Rattle.std.proofs.Common.{◌≡◌, ℕ, zero, suc, ◌+◌, ◌<◌, ◌≤◌, Bool, true, false, not, ◌&&◌, ◌||◌, List, [], ◌∷◌, ◌++◌, Option, Some, None, drop, take, take-suc, length, option_map, unwrap_or, if◌then◌else◌, refl, sym, ap, subst, ◌∙◌, ◌⊎◌, ⊎_elim, arith}
 use Rattle.std.specs.Prelude.{IsSome}
 use Rattle.std.specs.Option.{option_map_or}
 use Rattle.std.specs.List.{Contains, list_all, list_any, range_with_len}
 use Rattle.std.proofs.Math.Path.{fun_ext}
+use Rattle.std.proofs.Math.Seq.{drop-cons}
 use Rattle.std.proofs.lemmas.Bool.{and_from, and_parts, false≢true, true≢false, not-true, or_cases, cases_lt, or_parts}
 use Rattle.std.proofs.lemmas.List.Elements.{All-get_or}
 use Rattle.std.proofs.lemmas.List.Folds.{list_any-append}
@@ -39,6 +40,7 @@ use Rattle.refute_cert.specs.declared.verdict.Flaw.TheVariants.{Initial, Goal, A
 use Rattle.refute_cert.specs.declared.verdict.Judged.TheVariants.{Accepted, Rejected}
 use Rattle.refute_cert.proofs.LookLemmas.{cube_depends}
 use Rattle.std.proofs.lemmas.List.Elements.{All-head, All-tail, All-take}
+use Rattle.std.proofs.lemmas.List.{drop_all}
 
 -- the sets of a certificate depend on the task's fluents
 in_depends : (task : Task) (set : CubeSet) → IsSetOf (fluent_count task) set → DependsOnly 0 (fluent_count task) (states_in task set)
@@ -56,6 +58,14 @@ of_depends task (set ∷ sets) below s t same =
 
 both_depend : (n : ℕ) (f g : Function) → DependsOnly 0 n f → DependsOnly 0 n g → DependsOnly 0 n (or_of f g)
 both_depend n f g one two s t same = ap (λ b. b || g s) (one s t same) ∙ ap (λ b. f t || b) (two s t same)
+
+or_nothing : (x y : Bool) → (x || (y || false)) ≡ (x || y)
+or_nothing x true = refl
+or_nothing x false = refl
+
+pub union_next : (task : Task) (sets : List CubeSet) (i : ℕ) → i < length sets → or_of (states_of task (take i sets)) (states_in task (set_at sets i)) ≡ states_of task (take (suc i) sets)
+union_next task sets i within = fun_ext (λ values.
+    sym (ap (λ s. states_of task s values) (take-suc sets i [] within) ∙ list_any-append (λ set. states_in task set values) (take i sets) (set_at sets i ∷ []) ∙ or_nothing (states_of task (take i sets) values) (states_in task (set_at sets i) values)))
 
 module _ (task : Task) where
   -- in a state they are the certificate's
@@ -87,10 +97,6 @@ module _ (task : Task) where
   not_or : (a b : Bool) → (not a && not b) ≡ not (a || b)
   not_or true b = refl
   not_or false b = refl
-
-  or_nothing : (x y : Bool) → (x || (y || false)) ≡ (x || y)
-  or_nothing x true = refl
-  or_nothing x false = refl
 
   module _ (sets : List CubeSet) (below : AreSetsOf (fluent_count task) sets) where
     set_below : (i : ℕ) → i < length sets → IsSetOf (fluent_count task) (set_at sets i)
@@ -169,30 +175,15 @@ module _ (task : Task) where
     from_here : Class → ℕ → Bool
     from_here class i = some_is_left class task (states_of task (take i sets)) (drop i sets)
 
-    union_more : (i : ℕ) → i < length sets → or_of (states_of task (take i sets)) (states_in task (set_at sets i)) ≡ states_of task (take (suc i) sets)
-    union_more i within = fun_ext (λ values.
-        sym (ap (λ s. states_of task s values) (one_more i within) ∙ list_any-append (λ set. states_in task set values) (take i sets) (set_at sets i ∷ []) ∙ or_nothing (states_of task (take i sets) values) (states_in task (set_at sets i) values)))
-
-    drop_one : {X : Type 0} (xs : List X) (i : ℕ) (d : X) → i < length xs → drop i xs ≡ get_or xs i d ∷ drop (suc i) xs
-    drop_one [] i d within = absurd (omega (arith, within))
-    drop_one (x ∷ xs) zero d within = refl
-    drop_one (x ∷ xs) (suc i) d within = drop_one xs i d (omega (arith, within))
-
-    drop_end : {X : Type 0} (xs : List X) (i : ℕ) → length xs ≤ i → drop i xs ≡ []
-    drop_end [] zero past = refl
-    drop_end [] (suc i) past = refl
-    drop_end (x ∷ xs) zero past = absurd (omega (arith, past))
-    drop_end (x ∷ xs) (suc i) past = drop_end xs i (omega (arith, past))
-
     here_step : (class : Class) (i : ℕ) → i < length sets → from_here class i ≡ (is_left class task (states_of task (take i sets)) (set_at sets i) || from_here class (suc i))
     unfolding from_here
     here_step class i within =
-        ap (some_is_left class task (states_of task (take i sets))) (drop_one sets i [] within)
-        ∙ ap (λ f. is_left class task (states_of task (take i sets)) (set_at sets i) || some_is_left class task f (drop (suc i) sets)) (union_more i within)
+        ap (some_is_left class task (states_of task (take i sets))) (drop-cons sets i [] within)
+        ∙ ap (λ f. is_left class task (states_of task (take i sets)) (set_at sets i) || some_is_left class task f (drop (suc i) sets)) (union_next task sets i within)
 
     here_end : (class : Class) (i : ℕ) → length sets ≤ i → from_here class i ≡ false
     unfolding from_here
-    here_end class i past = ap (some_is_left class task (states_of task (take i sets))) (drop_end sets i past)
+    here_end class i past = ap (some_is_left class task (states_of task (take i sets))) (drop_all i sets past)
 
     left_found : (class : Class) (fuel i : ℕ) → length sets ≤ fuel + i → from_here class i ≡ true
         → (k : ℕ) × (k < length sets) × (is_left class task (states_of task (take k sets)) (set_at sets k) ≡ true)
@@ -302,14 +293,6 @@ module _ (task : Task) where
           → IsVerdict (system_of task) (record { class = class; sets = sets }) (if not b then Rejected Initial else if meets (fluent_count task) (states_of task sets) (goal_states_set task) then Rejected Goal else judged_actions class task sets)
       by_initial class true e = let w = initial_found class e in by_goal class w.0 w.1 (meets (fluent_count task) (states_of task sets) (goal_states_set task)) refl
       by_initial class false e = initial_missing e
-
-pub union_next : (task : Task) (sets : List CubeSet) (i : ℕ) → i < length sets → or_of (states_of task (take i sets)) (states_in task (set_at sets i)) ≡ states_of task (take (suc i) sets)
-union_next task sets i within = fun_ext (λ values.
-    sym (ap (λ s. states_of task s values) (take-suc sets i [] within) ∙ list_any-append (λ set. states_in task set values) (take i sets) (set_at sets i ∷ []) ∙ last (states_of task (take i sets) values) (states_in task (set_at sets i) values)))
-  where
-    last : (x y : Bool) → (x || (y || false)) ≡ (x || y)
-    last x true = refl
-    last x false = refl
 
 pub verdict_is : (task : Task) (certificate : PlainCertificate) → AreSetsOf (fluent_count task) certificate.sets → IsSome task.goal → IsVerdict (system_of task) certificate (judgement certificate.class task certificate.sets)
 verdict_is task certificate below some = by_goal_of task.goal refl some

@@ -1,5 +1,5 @@
 -- How the slots of a search change by each call.
-use Rattle.std.proofs.Common.{◌≡◌, ◌≢◌, ◌↔◌, IsTrue, Bool, true, ℕ, zero, suc, ◌+◌, ◌<◌, ◌≤◌, false, List, [], ◌∷◌, ◌++◌, length, slice_set, IfOk, IsErrOf, Result, Ok, Err, OnErr, OnOk, refl, sym, ap, subst, ◌∙◌, ⊎_elim, inl, inr, ◌⊎◌, arith, length-append}
+use Rattle.std.proofs.Common.{◌≡◌, ◌≢◌, ◌↔◌, IsTrue, Bool, true, ℕ, zero, suc, ◌+◌, ◌<◌, ◌≤◌, false, List, [], ◌∷◌, ◌++◌, length, slice_set, Some, IfOk, IsErrOf, Result, Ok, Err, OnErr, OnOk, refl, sym, ap, subst, ◌∙◌, ⊎_elim, inl, inr, ◌⊎◌, arith, length-append}
 use Rattle.std.proofs.lemmas.Bool.{both_ways, cases_eq, cases_lt}
 use Rattle.std.proofs.Math.Seq.{get_or-append_seam}
 use Rattle.std.proofs.lemmas.List.{get_or_append_left, get_or-set_same, get_or-set_other}
@@ -24,6 +24,7 @@ use Rattle.dd_sets.proofs.OwnLemmas.{own_one}
 use Rattle.dd_nodes.specs.Subfunctions.{DependsOnly}
 use Rattle.dd_sets.proofs.SetLemmas.{set_depends}
 use Rattle.encode_task.specs.TaskSets.{initial_set}
+use Rattle.encode_task.proofs.MadeLemmas.{goal_slot}
 use Rattle.slot_board.specs.Board.{AllNothing, At, Fits, HasNoRoom, Left, Moved, Start, Stayed, Working, set_at, slot_at}
 use Rattle.slot_board.proofs.BoardSizes.{room_at}
 use Rattle.slot_board.proofs.InitialStates.{inside_is}
@@ -400,3 +401,7 @@ sets_popped before now after slots last work ends place l =
 pub working_ended : (before now : LiveSets) (slots : List SetId) → length slots ≡ 0 → Working before now slots → Owns before now []
 working_ended before now [] none work = working_owns before now work
 working_ended before now (x ∷ slots) none work = absurd (omega arith)
+
+-- the slot of the goal is live
+pub goal_live : (start : Start) (enc : Encoded) (slots : List SetId) (slot : SetId) → At start enc slots → enc.goal ≡ Some slot → IsLive enc.sets slot.0
+goal_live start enc slots slot at is = (goal_slot start.task enc slot (made_at start enc slots at) is).2.live

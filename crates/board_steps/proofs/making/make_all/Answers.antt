@@ -1,10 +1,11 @@
 -- One step more.
 use Rattle.std.proofs.Common.{get_or, subst, sym, refl, ap, ◌∙◌, arith}
+use Rattle.std.proofs.lemmas.List.{drop_all}
 use Rattle.std.proofs.lemmas.Result.{err_from_is_err_and}
 use Rattle.slot_board.proofs.BoardSlots.{went, passed}
 use Rattle.board_steps.specs.Steps.{CanMakeAll, Shows, after_step, after_steps}
 use Rattle.board_steps.specs.declared.steps.Step.TheVariants.{Whole}
-use Rattle.board_steps.proofs.MakeLemmas.{drop_more, drop_none}
+use Rattle.board_steps.proofs.MakeLemmas.{drop_more}
 use Rattle.board_steps.proofs.making.make_all.Goals as goal
 
 pub loop-step-init : goal.loop-step-init
@@ -39,4 +40,4 @@ loop-step-preserved c start placed shows can =
 pub returns : goal.returns
 returns c start placed shows can =
     let half = c.loop-step.invariant start placed shows can in
-    subst (Shows start c.loop-step.enc c.loop-step.board.slots.items) (sym (ap (after_steps start half.here) (drop_none c.args.steps.now c.loop-step.step-index (omega (arith, c.loop-step-test.false)))) ∙ half.leads) half.shows
+    subst (Shows start c.loop-step.enc c.loop-step.board.slots.items) (sym (ap (after_steps start half.here) (drop_all c.loop-step.step-index c.args.steps.now (omega (arith, c.loop-step-test.false)))) ∙ half.leads) half.shows

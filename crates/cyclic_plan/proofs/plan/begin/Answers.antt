@@ -1,8 +1,8 @@
 use Rattle.task_core.specs.Tasks.{action_count}
 use Rattle.std.proofs.lemmas.Result.{err_from_is_err_and}
 use Rattle.std.proofs.Common.{◌≡◌, ◌+◌, arith, length, ◌∙◌}
-use Rattle.slot_board.proofs.BoardSlots.{left_with, went, passed, made_at}
-use Rattle.cyclic_plan.proofs.PlanMade.{begun, goal_live}
+use Rattle.slot_board.proofs.BoardSlots.{left_with, went, passed, made_at, goal_live}
+use Rattle.cyclic_plan.proofs.PlanMade.{begun}
 use Rattle.cyclic_plan.proofs.Premises.{goal_fits}
 use Rattle.cyclic_plan.proofs.plan.begin.Goals as goal
 

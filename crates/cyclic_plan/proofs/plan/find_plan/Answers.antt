@@ -1,7 +1,9 @@
 use Rattle.std.proofs.Common.{◌+◌, ◌^◌}
 use Rattle.std.proofs.lemmas.Result.{err_from_is_err_and}
+use Rattle.list_laws.proofs.Options.{some_has}
 use Rattle.task_core.specs.Tasks.{fluent_count}
-use Rattle.cyclic_plan.proofs.Answered.{any_start, full_before, some_has}
+use Rattle.encode_task.proofs.PartLemmas.{same_refusal_of}
+use Rattle.cyclic_plan.proofs.Answered.{any_start}
 use Rattle.cyclic_plan.proofs.Fitting.{all_wide}
 use Rattle.cyclic_plan.proofs.plan.find_plan.Goals as goal
 
@@ -27,4 +29,4 @@ returns-in_ok-plan-in-Some-clause-answer c =
 pub returns-in_err-board-clause-full : goal.returns-in_err-board-clause-full
 returns-in_err-board-clause-full c full width wide =
     let p = err_from_is_err_and c.from_residual.result c.from_residual.ensures.1 in
-    c.cyclic_takers.ensures.full (full_before c.cyclic_takers.result c.from_residual.result _ c.in_err-board.was p full) width wide
+    c.cyclic_takers.ensures.full (same_refusal_of c.cyclic_takers.result c.from_residual.result _ c.in_err-board.was p full) width wide

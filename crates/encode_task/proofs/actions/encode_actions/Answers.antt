@@ -3,6 +3,7 @@ use Rattle.std.proofs.Common.{Contains, sym, ◌≡◌, ◌+◌, ◌*◌, ◌≤
 use Rattle.std.proofs.lemmas.Bool.{leb-true}
 use Rattle.std.proofs.lemmas.List.{map-append}
 use Rattle.std.proofs.lemmas.Result.{err_from_is_err_and}
+use Rattle.list_laws.proofs.Elements.{Contains-flat_map}
 use Rattle.dd_sets.specs.LiveSets.{live_count}
 use Rattle.dd_sets.proofs.FrameLemmas.{kept_chain}
 use Rattle.encode_task.specs.Counts.{left_in_actions, left_in_outcomes}
@@ -17,7 +18,7 @@ use Rattle.dd_sets.specs.Rooms.{Small}
 use Rattle.task_core.specs.Conditions.{holds}
 use Rattle.encode_task.specs.KeptSets.{sets_of_action}
 use Rattle.encode_task.proofs.ActionSizes.{action_at}
-use Rattle.encode_task.proofs.KeptLemmas.{adds_chain, adds_weaker, contains_flat_map, item_in, room_later}
+use Rattle.encode_task.proofs.KeptLemmas.{adds_chain, adds_weaker, item_in, room_later}
 use Rattle.encode_task.proofs.PartLemmas.{item_passes, same_refusal_of}
 use Rattle.encode_task.proofs.TableLemmas.{action_stays, made_more}
 use Rattle.encode_task.proofs.actions.encode_actions.Goals as goal
@@ -37,7 +38,7 @@ returns-in_err-slots-clause-full c full w wide whole small most all =
     let among = item_in c.args.actions.now c.loop-action.action-index c.action-item.result c.loop-action-test.true c.action-item.is in
     room_later (Contains (flat_map (sets_of_action c.args.sets.now.vars c.args.invariant.now) c.args.actions.now)) (Contains (sets_of_action c.loop-action.sets.vars c.args.invariant.now c.action-item.result)) _ _
     c.loop-action.invariant.kept c.loop-action.invariant.adds (omega (arith, c.loop-action.invariant.few most all))
-    (λ set has. contains_flat_map (sets_of_action c.args.sets.now.vars c.args.invariant.now) c.args.actions.now c.action-item.result set among (subst (λ v. Contains (sets_of_action v c.args.invariant.now c.action-item.result) set) vars has))
+    (λ set has. Contains-flat_map (sets_of_action c.args.sets.now.vars c.args.invariant.now) c.args.actions.now c.action-item.result set among (subst (λ v. Contains (sets_of_action v c.args.invariant.now c.action-item.result) set) vars has))
     (c.encode_action.ensures.full (same_refusal_of c.encode_action.result c.from_residual.result _ c.in_err-slots.was p full) w (omega arith)
     (subst (λ v. Small v w (holds c.args.invariant.now)) (sym vars) whole) (action_at w _ _ c.args.invariant.now c.action-item.result vars (small c.action-item.result among)))
 
@@ -52,7 +53,7 @@ loop-action-preserved c =
           (action_stays c.args.invariant.now _ _ c.encode_action.ensures.kept) c.in_ok-put.ensures c.loop-action-test.true c.action-item.is c.loop-action.invariant.made c.in_ok-slots.ensures.made;
       adds = adds_chain (Contains (flat_map (sets_of_action c.args.sets.now.vars c.args.invariant.now) c.args.actions.now)) _ _ _ c.encode_action.ensures.kept c.loop-action.invariant.adds
           (adds_weaker (Contains (sets_of_action c.loop-action.sets.vars c.args.invariant.now c.action-item.result)) (Contains (flat_map (sets_of_action c.args.sets.now.vars c.args.invariant.now) c.args.actions.now)) _ _
-          (λ set has. contains_flat_map (sets_of_action c.args.sets.now.vars c.args.invariant.now) c.args.actions.now c.action-item.result set
+          (λ set has. Contains-flat_map (sets_of_action c.args.sets.now.vars c.args.invariant.now) c.args.actions.now c.action-item.result set
           (item_in c.args.actions.now c.loop-action.action-index c.action-item.result c.loop-action-test.true c.action-item.is) (subst (λ v. Contains (sets_of_action v c.args.invariant.now c.action-item.result) set) vars has))
           c.in_ok-slots.ensures.adds);
       only = only_more _ _ _ is_of_action _ _ (slots_of c.in_ok-slots.slots) items c.loop-action.invariant.only c.in_ok-slots.ensures.only;

@@ -2,6 +2,7 @@
 use Rattle.std.proofs.Common.{Contains, ◌≡◌, ◌+◌, ◌*◌, ◌≤◌, ◌++◌, ◌∙◌, [], ◌∷◌, arith, ap, map, subst, length, mul-le-mul_right}
 use Rattle.std.proofs.lemmas.List.{map-append}
 use Rattle.std.proofs.lemmas.Result.{err_from_is_err_and}
+use Rattle.list_laws.proofs.Elements.{Contains-flat_map}
 use Rattle.dd_sets.specs.LiveSets.{live_count}
 use Rattle.dd_sets.proofs.FrameLemmas.{kept_chain}
 use Rattle.encode_task.specs.Counts.{left_by, left_in_outcomes}
@@ -10,7 +11,7 @@ use Rattle.encode_task.proofs.CountLemmas.{left_more_outcomes}
 use Rattle.encode_task.proofs.OnlyLemmas.{only_more}
 use Rattle.std.specs.List.{flat_map}
 use Rattle.encode_task.specs.KeptSets.{next_sets}
-use Rattle.encode_task.proofs.KeptLemmas.{adds_chain, adds_weaker, contains_flat_map, item_in, room_later}
+use Rattle.encode_task.proofs.KeptLemmas.{adds_chain, adds_weaker, item_in, room_later}
 use Rattle.encode_task.proofs.OutcomeSizes.{outcome_at}
 use Rattle.encode_task.proofs.PartLemmas.{same_refusal_of}
 use Rattle.encode_task.proofs.TableLemmas.{made_more, outcome_stays}
@@ -24,7 +25,7 @@ returns-in_err-changed-clause-full c full w wide small =
     let among = item_in c.args.outcomes.now c.loop-outcome.outcome-index c.outcome-item.result c.loop-outcome-test.true c.outcome-item.is in
     room_later (Contains (flat_map (next_sets c.args.sets.now.vars) c.args.outcomes.now)) (Contains (next_sets c.loop-outcome.sets.vars c.outcome-item.result)) _ _ c.loop-outcome.invariant.kept c.loop-outcome.invariant.adds
     (omega (arith, c.loop-outcome.invariant.few))
-    (λ set has. contains_flat_map (next_sets c.args.sets.now.vars) c.args.outcomes.now c.outcome-item.result set among (subst (λ v. Contains (next_sets v c.outcome-item.result) set) vars has))
+    (λ set has. Contains-flat_map (next_sets c.args.sets.now.vars) c.args.outcomes.now c.outcome-item.result set among (subst (λ v. Contains (next_sets v c.outcome-item.result) set) vars has))
     (c.encode_outcome.ensures.full (same_refusal_of c.encode_outcome.result c.from_residual.result _ c.in_err-changed.was p full) w (omega arith) (outcome_at w _ _ c.outcome-item.result vars (small c.outcome-item.result among)))
 
 pub loop-outcome-preserved : goal.loop-outcome-preserved
@@ -40,7 +41,7 @@ loop-outcome-preserved c =
           (outcome_stays _ _ c.encode_outcome.ensures.kept) c.in_ok-put.ensures c.loop-outcome-test.true c.outcome-item.is c.loop-outcome.invariant.made c.in_ok-changed.ensures.made;
       adds = adds_chain (Contains (flat_map (next_sets c.args.sets.now.vars) c.args.outcomes.now)) _ _ _ c.encode_outcome.ensures.kept c.loop-outcome.invariant.adds
           (adds_weaker (Contains (next_sets c.loop-outcome.sets.vars c.outcome-item.result)) (Contains (flat_map (next_sets c.args.sets.now.vars) c.args.outcomes.now)) _ _
-          (λ set has. contains_flat_map (next_sets c.args.sets.now.vars) c.args.outcomes.now c.outcome-item.result set (item_in c.args.outcomes.now c.loop-outcome.outcome-index c.outcome-item.result c.loop-outcome-test.true c.outcome-item.is)
+          (λ set has. Contains-flat_map (next_sets c.args.sets.now.vars) c.args.outcomes.now c.outcome-item.result set (item_in c.args.outcomes.now c.loop-outcome.outcome-index c.outcome-item.result c.loop-outcome-test.true c.outcome-item.is)
           (subst (λ v. Contains (next_sets v c.outcome-item.result) set) vars has))
           c.in_ok-changed.ensures.adds);
       only = only_more _ _ _ is_listed _ _ c.in_ok-changed.changed.items items c.loop-outcome.invariant.only c.in_ok-changed.ensures.only;

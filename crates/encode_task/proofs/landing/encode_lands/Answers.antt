@@ -2,6 +2,7 @@
 use Rattle.std.proofs.Common.{Contains, map, ◌≡◌, ◌==◌, ◌+◌, ◌∙◌, inl, inr, length, sym, subst, arith}
 use Rattle.std.proofs.lemmas.List.{length-map, take_all}
 use Rattle.std.proofs.lemmas.Result.{err_from_is_err_and, IfOk-at_ok}
+use Rattle.list_laws.proofs.Elements.{Contains-map}
 use Rattle.dd_sets.specs.LiveSets.{live_count}
 use Rattle.dd_sets.proofs.FrameLemmas.{kept_chain}
 use Rattle.encode_task.specs.Made.{Holds}
@@ -15,7 +16,7 @@ use Rattle.task_core.specs.Actions.{after_value}
 use Rattle.task_core.specs.Conditions.{holds}
 use Rattle.encode_task.specs.WorkingSets.IsMadeForAction.{led}
 use Rattle.encode_task.proofs.ActionSizes.{action_at}
-use Rattle.encode_task.proofs.KeptLemmas.{adds_chain, adds_owned, contains_map, room_from}
+use Rattle.encode_task.proofs.KeptLemmas.{adds_chain, adds_owned, room_from}
 use Rattle.encode_task.proofs.MadeLemmas.{holds_kept}
 use Rattle.encode_task.proofs.PartLemmas.{call_slot, same_refusal_of}
 use Rattle.encode_task.proofs.TableLemmas.{paired_length}
@@ -60,7 +61,7 @@ loop-changed-preserved c =
           (let found = landed _ _ c.args.states.now.space c.args.states.now.invariant.now c.args.outcomes.now c.args.action.now.outcomes.items c.loop-changed.changed-index c.changed-item.result c.deref.result.now c.loop-changed.invariant.kept c.requires.space
           c.requires.made c.loop-changed-test.true c.changed-item.is c.deref.ensures.value in
           adds_owned (Contains (map (lands_of c.args.states.now.invariant.now) c.args.action.now.outcomes.items)) _ _ c.in_ok-slot.slot.0 _ slot
-          (subst (λ (f : Function). Contains (map (lands_of c.args.states.now.invariant.now) c.args.action.now.outcomes.items) f) (sym found.3) (contains_map (lands_of c.args.states.now.invariant.now) c.args.action.now.outcomes.items found.0 found.1)));
+          (subst (λ (f : Function). Contains (map (lands_of c.args.states.now.invariant.now) c.args.action.now.outcomes.items) f) (sym found.3) (Contains-map (lands_of c.args.states.now.invariant.now) c.args.action.now.outcomes.items found.0 found.1)));
       only = only_more _ _ _ (λ own one. one.0 == own) _ _ c.in_ok-slot.slot c.in_ok-put.ensures c.loop-changed.invariant.only (only_owned _ _ c.in_ok-slot.slot.0 _ slot);
       few = omega (arith, c.loop-changed.invariant.few);
     }

@@ -1,5 +1,6 @@
 use Rattle.std.proofs.Common.{◌≡◌, arith, subst}
 use Rattle.std.proofs.lemmas.Result.{err_from_is_err_and}
+use Rattle.plan_theory.specs.ContextRules.{rules_for}
 use Rattle.slot_board.proofs.BoardSlots.{passed}
 use Rattle.fair_plan.proofs.Boards.{action_in, done, in_start, low}
 use Rattle.fair_plan.proofs.TakerSteps.{takers_in}
@@ -8,7 +9,6 @@ use Rattle.std.specs.Prelude.{⊤, OnOk, map, ◌++◌}
 use Rattle.plan_rules.specs.Rules.{context_rule_of}
 use Rattle.fair_plan.specs.Boards.{IsThere, states_in}
 use Rattle.fair_plan.proofs.rules.list_taken.Goals as goal
-use Rattle.plan_theory.specs.ContextRules.{rules_for}
 
 pub make-requires : goal.make-requires
 make-requires c =

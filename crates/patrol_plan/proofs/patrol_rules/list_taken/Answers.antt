@@ -1,9 +1,9 @@
 use Rattle.std.proofs.Common.{◌≡◌, ◌+◌, ap, arith, map, suc}
 use Rattle.std.proofs.lemmas.Result.{err_from_is_err_and}
 use Rattle.slot_board.proofs.BoardSlots.{action_within, passed, went}
+use Rattle.slot_board.proofs.Endings.{noted_then}
 use Rattle.patrol_plan.specs.Scenes.{board_of}
 use Rattle.plan_rules.specs.Rules.{context_rule_of}
-use Rattle.patrol_plan.proofs.RuleSteps.{listed_left}
 use Rattle.patrol_plan.proofs.SceneSteps.{low, unguarded}
 use Rattle.patrol_plan.proofs.VisitRules.{taken_listed, taker_within}
 use Rattle.patrol_plan.specs.Chains.{visit_sets}
@@ -53,9 +53,10 @@ returns c start conds less is_takers goes h =
     let below = (action_within (board_of start) c.args.enc.now c.args.board.now.slots.items c.args.taken.action.0 h.patrol.ready.at c.requires.action) in
     let p = went (board_of start) c.put_part.new.enc c.put_part.new.board.slots.items _ c.put_part.result _ c.in_ok-put_part.was (c.put_part.ensures start conds c.args.turn.visit c.args.taken.action.0 c.visit_at.ensures less (ap (λ k. k + c.args.taken.action.0) is_takers) below h) in
     let next : c.args.turn.visit + 1 ≡ suc c.args.turn.visit = omega arith in
-    listed_left start (c.put_part.new.enc, c.put_part.new.board.slots.items) p.table.patrol.ready.at _ _ c.list_at.result
+    noted_then (board_of start) c.put_part.new.enc c.put_part.new.board.slots.items _ _ c.list_at.result c.list_at.ensures.never_full
+    (c.list_at.ensures.listed (guarded start (patrol_set (sys_of start) (visit_sets conds))) (unguarded (guarded start (patrol_set (sys_of start) (visit_sets conds))) (c.put_part.new.enc, c.put_part.new.board.slots.items) p.table.patrol.ready))
+    p.table.patrol.ready.at
     (λ listed. taken_listed start conds (c.put_part.new.enc, c.put_part.new.board.slots.items) c.args.turn.part (map context_rule_of c.args.rules.now.items) (map context_rule_of c.list_at.new.rules.items) c.args.turn.visit c.args.taken.action.0 (c.args.turn.visit + 1) c.args.turn.next next goes p listed)
-    (c.list_at.ensures.listed (guarded start (patrol_set (sys_of start) (visit_sets conds))) (unguarded (guarded start (patrol_set (sys_of start) (visit_sets conds))) (c.put_part.new.enc, c.put_part.new.board.slots.items) p.table.patrol.ready)) c.list_at.ensures.never_full
 
 pub overflow_add-taker : goal.overflow_add-taker
 overflow_add-taker c =

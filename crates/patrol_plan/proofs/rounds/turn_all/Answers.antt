@@ -1,4 +1,4 @@
-use Rattle.patrol_plan.proofs.NotedSteps.{led_first, led_last, led_more, refused, wants_memory}
+use Rattle.patrol_plan.proofs.NotedSteps.{led_first, led_last, led_more}
 use Rattle.patrol_plan.proofs.SizeSteps.{turns_fit_at, turns_fit_first}
 use Rattle.patrol_plan.proofs.RoundSteps.{turned_first, turned_next, turned_less, turned_last}
 use Rattle.patrol_plan.proofs.SceneSteps.{low}
@@ -6,20 +6,21 @@ use Rattle.patrol_plan.proofs.SpentSteps.{none_marked}
 use Rattle.patrol_plan.specs.Scenes.{board_of, states_at}
 use Rattle.task_core.specs.Tasks.{action_count}
 use Rattle.slot_board.proofs.BoardSlots.{made_at, went, same_actions, same_fluents}
+use Rattle.slot_board.proofs.Endings.{memory_passed, passed_on}
 use Rattle.std.proofs.Common.{◌≡◌, arith, length, suc}
 use Rattle.std.proofs.lemmas.Result.{err_from_is_err_and}
 use Rattle.patrol_plan.proofs.rounds.turn_all.Goals as goal
 
 pub returns-in_err-spent : goal.returns-in_err-spent
 returns-in_err-spent c start ready fits =
-    wants_memory start (c.args.enc.now, c.args.board.now.slots.items) _ c.none_spent.result c.from_residual.result _ c.in_err-spent.was (err_from_is_err_and c.from_residual.result c.from_residual.ensures.1) c.none_spent.ensures.never_full ready.at
+    memory_passed (board_of start) c.args.enc.now c.args.board.now.slots.items _ c.none_spent.result c.from_residual.result _ c.in_err-spent.was (err_from_is_err_and c.from_residual.result c.from_residual.ensures.1) c.none_spent.ensures.never_full ready.at
 
 pub turn_from-requires-clause-ready : goal.turn_from-requires-clause-ready
 turn_from-requires-clause-ready c = let r = c.requires.ready in (r.0, r.1, turns_fit_first c.args.way r.0 _ r.2, (none_marked c.args.way r.0 (states_at (c.args.enc.now, c.args.board.now.slots.items) c.args.place) c.in_ok-spent.spent.items c.args.means.actions (let e : length c.args.enc.now.actions ≡ action_count r.0.task = (made_at (board_of r.0) c.args.enc.now c.args.board.now.slots.items r.1.at).actions in omega (arith, c.requires.actions)) c.in_ok-spent.ensures.long c.in_ok-spent.ensures.none))
 
 pub returns-in_err-turn_from : goal.returns-in_err-turn_from
 returns-in_err-turn_from c start ready fits =
-    refused start (c.turn_from.new.enc, c.turn_from.new.board.slots.items) _ _ c.turn_from.result c.from_residual-in_err-turn_from.result _ c.in_err-turn_from.was (err_from_is_err_and c.from_residual-in_err-turn_from.result c.from_residual-in_err-turn_from.ensures.1)
+    passed_on (board_of start) c.turn_from.new.enc c.turn_from.new.board.slots.items _ _ c.turn_from.result c.from_residual-in_err-turn_from.result _ c.in_err-turn_from.was (err_from_is_err_and c.from_residual-in_err-turn_from.result c.from_residual-in_err-turn_from.ensures.1)
     (c.turn_from.ensures start ready (turns_fit_first c.args.way start _ fits) (none_marked c.args.way start (states_at (c.args.enc.now, c.args.board.now.slots.items) c.args.place) c.in_ok-spent.spent.items c.args.means.actions (let e : length c.args.enc.now.actions ≡ action_count start.task = (made_at (board_of start) c.args.enc.now c.args.board.now.slots.items ready.at).actions in omega (arith, c.requires.actions)) c.in_ok-spent.ensures.long c.in_ok-spent.ensures.none))
 
 pub loop-first-init : goal.loop-first-init
@@ -42,7 +43,7 @@ is_same-requires-clause-b c = let r = c.requires.ready in low r.0 (c.loop-first.
 
 pub returns-in_err-note : goal.returns-in_err-note
 returns-in_err-note c start ready fits =
-    wants_memory start (c.loop-first.enc, c.loop-first.board.slots.items) _ c.note.result c.from_residual-in_err-note.result _ c.in_err-note.was (err_from_is_err_and c.from_residual-in_err-note.result c.from_residual-in_err-note.ensures.1) c.note.ensures.never_full (c.loop-first.invariant start ready fits).1.worked.ready.at
+    memory_passed (board_of start) c.loop-first.enc c.loop-first.board.slots.items _ c.note.result c.from_residual-in_err-note.result _ c.in_err-note.was (err_from_is_err_and c.from_residual-in_err-note.result c.from_residual-in_err-note.ensures.1) c.note.ensures.never_full (c.loop-first.invariant start ready fits).1.worked.ready.at
 
 pub turn_from-requires-in-loop-first-clause-ready : goal.turn_from-requires-in-loop-first-clause-ready
 turn_from-requires-in-loop-first-clause-ready c = let r = c.requires.ready in let k = c.loop-first.invariant r.0 r.1 r.2 in (r.0, k.1.worked.ready, turns_fit_at c.args.way r.0 _ _ (suc k.0) k.1.next r.2, k.2)
@@ -59,7 +60,7 @@ turn_from-requires-in-loop-first-clause-place c = let r = c.requires.ready in lo
 pub returns-in_err-turn_from-2 : goal.returns-in_err-turn_from-2
 returns-in_err-turn_from-2 c start ready fits =
     let k = c.loop-first.invariant start ready fits in
-    refused start (c.turn_from-in-loop-first.new.enc, c.turn_from-in-loop-first.new.board.slots.items) _ _ c.turn_from-in-loop-first.result c.from_residual-in_err-turn_from-2.result _ c.in_err-turn_from-2.was (err_from_is_err_and c.from_residual-in_err-turn_from-2.result c.from_residual-in_err-turn_from-2.ensures.1)
+    passed_on (board_of start) c.turn_from-in-loop-first.new.enc c.turn_from-in-loop-first.new.board.slots.items _ _ c.turn_from-in-loop-first.result c.from_residual-in_err-turn_from-2.result _ c.in_err-turn_from-2.was (err_from_is_err_and c.from_residual-in_err-turn_from-2.result c.from_residual-in_err-turn_from-2.ensures.1)
     (c.turn_from-in-loop-first.ensures start k.1.worked.ready (turns_fit_at c.args.way start _ _ (suc k.0) k.1.next fits) k.2)
 
 pub loop-first-smaller : goal.loop-first-smaller
@@ -85,7 +86,7 @@ loop-first-preserved c start ready fits =
 
 pub returns-in_err-note-2 : goal.returns-in_err-note-2
 returns-in_err-note-2 c start ready fits =
-    wants_memory start (c.loop-first.enc, c.loop-first.board.slots.items) _ c.note-2.result c.from_residual-in_err-note-2.result _ c.in_err-note-2.was (err_from_is_err_and c.from_residual-in_err-note-2.result c.from_residual-in_err-note-2.ensures.1) c.note-2.ensures.never_full (c.loop-first.invariant start ready fits).1.worked.ready.at
+    memory_passed (board_of start) c.loop-first.enc c.loop-first.board.slots.items _ c.note-2.result c.from_residual-in_err-note-2.result _ c.in_err-note-2.was (err_from_is_err_and c.from_residual-in_err-note-2.result c.from_residual-in_err-note-2.ensures.1) c.note-2.ensures.never_full (c.loop-first.invariant start ready fits).1.worked.ready.at
 
 pub returns : goal.returns
 returns c start ready fits =

@@ -1,8 +1,9 @@
-use Rattle.patrol_plan.proofs.NotedSteps.{noted_then, widened_new, widened_none}
+use Rattle.patrol_plan.proofs.NotedSteps.{widened_new, widened_none}
 use Rattle.patrol_plan.proofs.SceneSteps.{low}
 use Rattle.patrol_plan.proofs.SizeSteps.{fits_small}
 use Rattle.patrol_plan.specs.Scenes.{board_of}
 use Rattle.slot_board.proofs.BoardSlots.{passed, went}
+use Rattle.slot_board.proofs.Endings.{noted_then}
 use Rattle.slot_board.specs.Board.{Fits}
 use Rattle.slot_board.specs.declared.steps.Step.TheVariants.{Grow}
 use Rattle.std.proofs.Common.{◌≡◌, ◌++◌, [], ◌∷◌, arith, refl, subst, sym}
@@ -79,5 +80,5 @@ returns c start ready fits =
     let m = went (board_of start) c.combine.new.enc c.combine.new.self.slots.items _ c.combine.result _ c.in_ok-combine.was (c.combine.ensures (board_of start) ready.at (fits_small start 2 _ _ fits (λ v is. refl))) in
     let small = subst (Fits (board_of start) 1) (sym m.here) (fits_small start 1 _ _ fits (λ v is. refl)) in
     let d = went (board_of start) c.copy_of.new.enc c.copy_of.new.self.slots.items _ c.copy_of.result _ c.in_ok-copy_of.was (c.copy_of.ensures (board_of start) m.at small) in
-    noted_then start (c.copy_of.new.enc, c.copy_of.new.self.slots.items) (c.note.new.steps.items ≡ c.args.steps.now.items ++ Grow c.args.a ∷ []) _ c.note.result c.note.ensures.never_full c.note.ensures.noted d.at
+    noted_then (board_of start) c.copy_of.new.enc c.copy_of.new.self.slots.items (c.note.new.steps.items ≡ c.args.steps.now.items ++ Grow c.args.a ∷ []) _ c.note.result c.note.ensures.never_full c.note.ensures.noted d.at
     (λ done. widened_new start (c.args.enc.now, c.args.board.now.slots.items) (c.combine.new.enc, c.combine.new.self.slots.items) (c.copy_of.new.enc, c.copy_of.new.self.slots.items) c.args.a c.args.steps.now.items c.note.new.steps.items ready m d done)

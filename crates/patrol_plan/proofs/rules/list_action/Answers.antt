@@ -1,9 +1,10 @@
 use Rattle.patrol_plan.proofs.RuleFits.{action_fits, action_place}
-use Rattle.patrol_plan.proofs.RuleSteps.{action_listed, listed_left}
+use Rattle.patrol_plan.proofs.RuleSteps.{action_listed}
 use Rattle.patrol_plan.proofs.SceneSteps.{low, moved_ready}
 use Rattle.patrol_plan.specs.Scenes.{board_of}
 use Rattle.plan_rules.specs.Rules.{context_rule_of}
 use Rattle.slot_board.proofs.BoardSlots.{action_within, passed, went}
+use Rattle.slot_board.proofs.Endings.{noted_then}
 use Rattle.std.proofs.Common.{◌≡◌, ◌+◌, ◌<◌, arith, length, map, refl, suc}
 use Rattle.std.proofs.lemmas.Result.{err_from_is_err_and}
 use Rattle.patrol_plan.proofs.rules.list_action.Goals as goal
@@ -68,10 +69,11 @@ returns c start chain place h =
     let m = went (board_of start) c.combine.new.enc c.combine.new.self.slots.items _ c.combine.result _ c.in_ok-combine.was (c.combine.ensures (board_of start) h.table.takers.ready.at (action_fits start (c.args.enc.now, c.args.board.now.slots.items) chain c.args.advance.stage c.args.advance.next c.args.taken.takers c.args.taken.action.0 place (action_within (board_of start) c.args.enc.now c.args.board.now.slots.items c.args.taken.action.0 h.table.takers.ready.at c.requires.action) h)) in
     let next : c.args.advance.stage + 1 ≡ suc c.args.advance.stage = omega arith in
     let later : c.args.advance.next + 1 ≡ suc c.args.advance.next = omega arith in
-    listed_left start (c.combine.new.enc, c.combine.new.self.slots.items) m.at _ _ c.list_at.result
+    noted_then (board_of start) c.combine.new.enc c.combine.new.self.slots.items _ _ c.list_at.result c.list_at.ensures.never_full
+    (c.list_at.ensures.listed start (moved_ready start (c.args.enc.now, c.args.board.now.slots.items) (c.combine.new.enc, c.combine.new.self.slots.items) 2 _ m))
+    m.at
     (λ listed. action_listed start (c.args.enc.now, c.args.board.now.slots.items) (c.combine.new.enc, c.combine.new.self.slots.items) chain (map context_rule_of c.args.rules.now.items) (map context_rule_of c.list_at.new.rules.items) c.args.advance.stage c.args.advance.next c.args.taken.takers (c.args.taken.takers + c.args.taken.action.0) c.args.taken.action.0 (c.args.advance.stage + 1) (c.args.advance.next + 1)
     (action_within (board_of start) c.args.enc.now c.args.board.now.slots.items c.args.taken.action.0 h.table.takers.ready.at c.requires.action) place refl next later h m listed)
-    (c.list_at.ensures.listed start (moved_ready start (c.args.enc.now, c.args.board.now.slots.items) (c.combine.new.enc, c.combine.new.self.slots.items) 2 _ m)) c.list_at.ensures.never_full
 
 pub overflow_add-place : goal.overflow_add-place
 overflow_add-place c =

@@ -10,23 +10,23 @@ use Rattle.patrol_plan.proofs.takers.share.Goals as goal
 pub loop-a-init : goal.loop-a-init
 loop-a-init c start ready fits = shared_none start (c.args.enc.now, c.args.board.now.slots.items) c.args.takers ready
 
-pub share_rest-requires-clause-ready : goal.share_rest-requires-clause-ready
-share_rest-requires-clause-ready c =
+pub share_one-requires-clause-ready : goal.share_one-requires-clause-ready
+share_one-requires-clause-ready c =
     let start = c.requires.ready.0 in
     let ready = c.requires.ready.1 in
     let fits = c.requires.ready.2 in
     (start, (c.args.enc.now, c.args.board.now.slots.items), (c.loop-a.invariant start ready fits), fits)
 
-pub share_rest-requires-clause-action : goal.share_rest-requires-clause-action
-share_rest-requires-clause-action c =
+pub share_one-requires-clause-action : goal.share_one-requires-clause-action
+share_one-requires-clause-action c =
     let start = c.requires.ready.0 in
     let ready = c.requires.ready.1 in
     let fits = c.requires.ready.2 in
     let e : length c.loop-a.enc.actions ≡ length c.args.enc.now.actions = same_actions (board_of start) c.args.enc.now c.loop-a.enc c.args.board.now.slots.items c.loop-a.board.slots.items ready.at (c.loop-a.invariant start ready fits).changed.ready.at in
     omega (arith, c.requires.actions)
 
-pub share_rest-requires-clause-places : goal.share_rest-requires-clause-places
-share_rest-requires-clause-places c =
+pub share_one-requires-clause-places : goal.share_one-requires-clause-places
+share_one-requires-clause-places c =
     let start = c.requires.ready.0 in
     let ready = c.requires.ready.1 in
     let fits = c.requires.ready.2 in
@@ -34,13 +34,13 @@ share_rest-requires-clause-places c =
     let l : length c.loop-a.board.slots.items ≡ length c.args.board.now.slots.items = same_length start (c.args.enc.now, c.args.board.now.slots.items) (c.loop-a.enc, c.loop-a.board.slots.items) ready.at (c.loop-a.invariant start ready fits).changed.ready.at in
     omega (arith, c.requires.actions, c.requires.places)
 
-pub returns-in_err-share_rest : goal.returns-in_err-share_rest
-returns-in_err-share_rest c start ready fits =
+pub returns-in_err-share_one : goal.returns-in_err-share_one
+returns-in_err-share_one c start ready fits =
     let p = err_from_is_err_and c.from_residual.result c.from_residual.ensures.1 in
-    passed (board_of start) c.share_rest.new.enc c.share_rest.new.board.slots.items _ _ c.share_rest.result c.from_residual.result _ c.in_err-share_rest.was p (c.share_rest.ensures start (c.args.enc.now, c.args.board.now.slots.items) (c.loop-a.invariant start ready fits) fits)
+    passed (board_of start) c.share_one.new.enc c.share_one.new.board.slots.items _ _ c.share_one.result c.from_residual.result _ c.in_err-share_one.was p (c.share_one.ensures start (c.args.enc.now, c.args.board.now.slots.items) (c.loop-a.invariant start ready fits) fits)
 
 pub loop-a-preserved : goal.loop-a-preserved
-loop-a-preserved c start ready fits = went (board_of start) c.share_rest.new.enc c.share_rest.new.board.slots.items _ c.share_rest.result _ c.in_ok-share_rest.was (c.share_rest.ensures start (c.args.enc.now, c.args.board.now.slots.items) (c.loop-a.invariant start ready fits) fits)
+loop-a-preserved c start ready fits = went (board_of start) c.share_one.new.enc c.share_one.new.board.slots.items _ c.share_one.result _ c.in_ok-share_one.was (c.share_one.ensures start (c.args.enc.now, c.args.board.now.slots.items) (c.loop-a.invariant start ready fits) fits)
 
 pub returns : goal.returns
 returns c start ready fits =

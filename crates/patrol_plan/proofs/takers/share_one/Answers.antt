@@ -1,3 +1,4 @@
+use Rattle.patrol_plan.proofs.SkipSteps.{shared_same}
 use Rattle.patrol_plan.proofs.TakerFits.{share_joins, share_leads, share_leaves, share_meets, within_now}
 use Rattle.patrol_plan.proofs.SceneSteps.{low, same_length}
 use Rattle.patrol_plan.proofs.TakerSteps.{shared_more}
@@ -7,6 +8,17 @@ use Rattle.std.proofs.Common.{◌≡◌, arith, length}
 use Rattle.std.proofs.lemmas.Result.{err_from_is_err_and}
 use Rattle.task_core.specs.Tasks.{action_count}
 use Rattle.patrol_plan.proofs.takers.share_one.Goals as goal
+
+pub is_empty-requires-clause-working : goal.is_empty-requires-clause-working
+is_empty-requires-clause-working c = (board_of c.requires.ready.0, c.requires.ready.2.changed.ready.at)
+
+pub is_empty-requires-clause-place : goal.is_empty-requires-clause-place
+is_empty-requires-clause-place c = low c.requires.ready.0 (c.args.enc.now, c.args.board.now.slots.items) c.requires.ready.2.changed.ready.at 3 (omega arith)
+
+pub returns-then-is_empty : goal.returns-then-is_empty
+returns-then-is_empty c start x h fits =
+    shared_same start x (c.args.enc.now, c.args.board.now.slots.items) c.args.takers c.args.a.0 (action_within (board_of start) c.args.enc.now c.args.board.now.slots.items c.args.a.0 h.changed.ready.at c.requires.action) h
+    (c.is_empty.ensures.0 (let t = c.if-is_empty.true in cc))
 
 pub lead_inside-requires-clause-ready : goal.lead_inside-requires-clause-ready
 lead_inside-requires-clause-ready c =

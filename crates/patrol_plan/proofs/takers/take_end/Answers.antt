@@ -1,4 +1,5 @@
 use Rattle.std.proofs.Common.{◌≡◌, arith, length}
+use Rattle.plan_theory.specs.GuardedSets.{anywhere}
 use Rattle.dd_sets.specs.LiveSets.{everything}
 use Rattle.patrol_plan.specs.Scenes.{board_of, guarded}
 use Rattle.patrol_plan.proofs.SceneSteps.{guard_put, low, same_length}
@@ -7,7 +8,6 @@ use Rattle.patrol_plan.proofs.TakerFits.{within_now}
 use Rattle.std.proofs.lemmas.Result.{err_from_is_err_and}
 use Rattle.slot_board.proofs.BoardSlots.{went, passed, left_with, same_actions}
 use Rattle.patrol_plan.proofs.takers.take_end.Goals as goal
-use Rattle.plan_theory.specs.GuardedSets.{anywhere}
 
 pub whole-requires-clause-working : goal.whole-requires-clause-working
 whole-requires-clause-working c =

@@ -1,10 +1,11 @@
+use Rattle.list_laws.proofs.Options.{some_has}
 use Rattle.patrol_plan.proofs.FitSteps.{widest}
 use Rattle.task_core.specs.Tasks.{fluent_count}
 use Rattle.std.proofs.Common.{◌≡◌, ◌+◌, ◌^◌, arith, length}
 use Rattle.std.proofs.lemmas.Result.{err_from_is_err_and}
 use Rattle.patrol_plan.specs.Chains.{until_sets}
 use Rattle.patrol_plan.specs.Tables.{start_of}
-use Rattle.patrol_plan.proofs.PlanSteps.{room_of, some_has}
+use Rattle.patrol_plan.proofs.PlanSteps.{room_of}
 use Rattle.patrol_plan.proofs.until.find_until.Goals as goal
 
 pub close_as_plan-requires-clause-ready : goal.close_as_plan-requires-clause-ready

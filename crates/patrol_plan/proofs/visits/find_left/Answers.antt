@@ -1,7 +1,7 @@
 use Rattle.std.proofs.Common.{◌≡◌, arith, length, suc}
 use Rattle.std.proofs.lemmas.Result.{err_from_is_err_and}
 use Rattle.slot_board.proofs.BoardSlots.{same_actions, same_fluents, went}
-use Rattle.patrol_plan.proofs.NotedSteps.{answered, refused}
+use Rattle.slot_board.proofs.Endings.{found_of, passed_on}
 use Rattle.patrol_plan.proofs.VisitNotes.{noted_made}
 use Rattle.patrol_plan.specs.Scenes.{board_of}
 use Rattle.patrol_plan.proofs.OverSteps.{visits_over}
@@ -18,11 +18,11 @@ keep_first-requires-clause-ready c =
 
 pub returns-in_err-notes : goal.returns-in_err-notes
 returns-in_err-notes c start count h fits =
-    refused start (c.keep_first.new.enc, c.keep_first.new.board.slots.items) _ _ c.keep_first.result c.from_residual.result _ c.in_err-notes.was (err_from_is_err_and c.from_residual.result c.from_residual.ensures.1) (c.keep_first.ensures start count h fits)
+    passed_on (board_of start) c.keep_first.new.enc c.keep_first.new.board.slots.items _ _ c.keep_first.result c.from_residual.result _ c.in_err-notes.was (err_from_is_err_and c.from_residual.result c.from_residual.ensures.1) (c.keep_first.ensures start count h fits)
 
 pub loop-means-init : goal.loop-means-init
 loop-means-init c start count h fits =
-    let first = answered start (c.keep_first.new.enc, c.keep_first.new.board.slots.items) _ c.keep_first.result _ c.in_ok-notes.was (c.keep_first.ensures start count h fits) in (0, first.0, first.1)
+    let first = found_of (board_of start) c.keep_first.new.enc c.keep_first.new.board.slots.items _ c.keep_first.result _ c.in_ok-notes.was (c.keep_first.ensures start count h fits) in (0, first.0, first.1)
 
 pub is_same-requires-clause-working : goal.is_same-requires-clause-working
 is_same-requires-clause-working c =
@@ -85,7 +85,7 @@ pub returns-in_err-notes-2 : goal.returns-in_err-notes-2
 returns-in_err-notes-2 c start count h fits =
     let inv = c.loop-means.invariant start count h fits in
     let visits = went (board_of start) c.loses_initial.new.enc c.loop-means.board.slots.items _ c.loses_initial.result _ c.in_ok-lost.was (c.loses_initial.ensures.left start c.args.visits.now inv.0 inv.1) in
-    refused start (c.keep_more.new.enc, c.keep_more.new.board.slots.items) _ _ c.keep_more.result c.from_residual-in_err-notes-2.result _ c.in_err-notes-2.was (err_from_is_err_and c.from_residual-in_err-notes-2.result c.from_residual-in_err-notes-2.ensures.1) (c.keep_more.ensures start inv.0 visits)
+    passed_on (board_of start) c.keep_more.new.enc c.keep_more.new.board.slots.items _ _ c.keep_more.result c.from_residual-in_err-notes-2.result _ c.in_err-notes-2.was (err_from_is_err_and c.from_residual-in_err-notes-2.result c.from_residual-in_err-notes-2.ensures.1) (c.keep_more.ensures start inv.0 visits)
 
 pub loop-means-smaller : goal.loop-means-smaller
 loop-means-smaller c =
@@ -95,7 +95,7 @@ loop-means-smaller c =
     let fits = c.requires.ready.3 in
     let inv = c.loop-means.invariant start count h fits in
     let visits = went (board_of start) c.loses_initial.new.enc c.loop-means.board.slots.items _ c.loses_initial.result _ c.in_ok-lost.was (c.loses_initial.ensures.left start c.args.visits.now inv.0 inv.1) in
-    let more = answered start (c.keep_more.new.enc, c.keep_more.new.board.slots.items) _ c.keep_more.result _ c.in_ok-notes-2.was (c.keep_more.ensures start inv.0 visits) in
+    let more = found_of (board_of start) c.keep_more.new.enc c.keep_more.new.board.slots.items _ c.keep_more.result _ c.in_ok-notes-2.was (c.keep_more.ensures start inv.0 visits) in
     visits_fewer start c.args.visits.now (c.loop-means.enc, c.loop-means.board.slots.items) (c.keep_more.new.enc, c.keep_more.new.board.slots.items) inv.0 c.args.enc.now.fluents inv.1 more.0
     (λ same. let e = c.is_same.ensures.1 same in let f = c.loop-means-test.true in cc)
     (same_fluents (board_of start) c.args.enc.now c.args.board.now.slots.items h.at)
@@ -104,7 +104,7 @@ pub loop-means-preserved : goal.loop-means-preserved
 loop-means-preserved c start count h fits =
     let inv = c.loop-means.invariant start count h fits in
     let visits = went (board_of start) c.loses_initial.new.enc c.loop-means.board.slots.items _ c.loses_initial.result _ c.in_ok-lost.was (c.loses_initial.ensures.left start c.args.visits.now inv.0 inv.1) in
-    let more = answered start (c.keep_more.new.enc, c.keep_more.new.board.slots.items) _ c.keep_more.result _ c.in_ok-notes-2.was (c.keep_more.ensures start inv.0 visits) in
+    let more = found_of (board_of start) c.keep_more.new.enc c.keep_more.new.board.slots.items _ c.keep_more.result _ c.in_ok-notes-2.was (c.keep_more.ensures start inv.0 visits) in
     (suc inv.0, more.0, more.1)
 
 pub returns : goal.returns
@@ -124,7 +124,7 @@ loses_initial-requires c =
 pub returns-in_err-lost : goal.returns-in_err-lost
 returns-in_err-lost c start count h fits =
     let inv = c.loop-means.invariant start count h fits in
-    refused start (c.loses_initial.new.enc, c.loop-means.board.slots.items) _ _ c.loses_initial.result c.from_residual-in_err-lost.result _ c.in_err-lost.was (err_from_is_err_and c.from_residual-in_err-lost.result c.from_residual-in_err-lost.ensures.1) (c.loses_initial.ensures.left start c.args.visits.now inv.0 inv.1)
+    passed_on (board_of start) c.loses_initial.new.enc c.loop-means.board.slots.items _ _ c.loses_initial.result c.from_residual-in_err-lost.result _ c.in_err-lost.was (err_from_is_err_and c.from_residual-in_err-lost.result c.from_residual-in_err-lost.ensures.1) (c.loses_initial.ensures.left start c.args.visits.now inv.0 inv.1)
 
 pub returns-then-lost : goal.returns-then-lost
 returns-then-lost c start count h fits =

@@ -1,8 +1,8 @@
 use Rattle.std.proofs.Common.{◌≡◌, ◌+◌, ◌<◌, arith, inl, inr, length, subst, suc}
 use Rattle.std.proofs.lemmas.Result.{err_from_is_err_and}
 use Rattle.slot_board.proofs.BoardSlots.{same_actions, went}
+use Rattle.slot_board.proofs.Endings.{found_of, memory_passed, passed_on}
 use Rattle.patrol_plan.specs.Noted.{NotedVisits}
-use Rattle.patrol_plan.proofs.NotedSteps.{answered, refused, wants_memory}
 use Rattle.patrol_plan.proofs.VisitNotes.{visits_noted_more, visits_noted_none}
 use Rattle.patrol_plan.specs.Scenes.{board_of}
 use Rattle.patrol_plan.specs.PatrolSteps.{HasVisits}
@@ -20,7 +20,7 @@ find_stay-requires-clause-ready c =
 
 pub returns-in_err-find_stay : goal.returns-in_err-find_stay
 returns-in_err-find_stay c start r h =
-    refused start (c.find_stay.new.enc, c.find_stay.new.board.slots.items) _ _ c.find_stay.result c.from_residual.result _ c.in_err-find_stay.was (err_from_is_err_and c.from_residual.result c.from_residual.ensures.1) (c.find_stay.ensures start c.args.visits.now r h)
+    passed_on (board_of start) c.find_stay.new.enc c.find_stay.new.board.slots.items _ _ c.find_stay.result c.from_residual.result _ c.in_err-find_stay.was (err_from_is_err_and c.from_residual.result c.from_residual.ensures.1) (c.find_stay.ensures start c.args.visits.now r h)
 
 pub copy_of-requires-clause-working : goal.copy_of-requires-clause-working
 copy_of-requires-clause-working c =
@@ -50,7 +50,7 @@ pub returns-in_err-copy_of : goal.returns-in_err-copy_of
 returns-in_err-copy_of c start r h =
     let s = went (board_of start) c.find_stay.new.enc c.find_stay.new.board.slots.items _ c.find_stay.result _ c.in_ok-find_stay.was (c.find_stay.ensures start c.args.visits.now r h) in
     let small = placed_small start (c.find_stay.new.enc, c.find_stay.new.board.slots.items) s.ready.at 8 (visit_low start (c.find_stay.new.enc, c.find_stay.new.board.slots.items) s.ready.at s.some 8 (omega arith)) (inr (omega arith)) in
-    refused start (c.copy_of.new.enc, c.copy_of.new.self.slots.items) _ _ c.copy_of.result c.from_residual-in_err-copy_of.result _ c.in_err-copy_of.was (err_from_is_err_and c.from_residual-in_err-copy_of.result c.from_residual-in_err-copy_of.ensures.1) (c.copy_of.ensures (board_of start) s.ready.at (inl small))
+    passed_on (board_of start) c.copy_of.new.enc c.copy_of.new.self.slots.items _ _ c.copy_of.result c.from_residual-in_err-copy_of.result _ c.in_err-copy_of.was (err_from_is_err_and c.from_residual-in_err-copy_of.result c.from_residual-in_err-copy_of.ensures.1) (c.copy_of.ensures (board_of start) s.ready.at (inl small))
 
 pub loop-i-init : goal.loop-i-init
 loop-i-init c start r h =
@@ -89,13 +89,13 @@ pub returns-in_err-steps : goal.returns-in_err-steps
 returns-in_err-steps c start r h =
     let inv = (c.loop-i.invariant start r h).0 in
     let less = (let l : c.loop-i.i < length c.args.visits.now = omega (arith, c.requires.visits.few) in l) in
-    refused start (c.keep_visit.new.enc, c.keep_visit.new.board.slots.items) _ _ c.keep_visit.result c.from_residual-in_err-steps.result _ c.in_err-steps.was (err_from_is_err_and c.from_residual-in_err-steps.result c.from_residual-in_err-steps.ensures.1) (c.keep_visit.ensures start c.args.visits.now r c.loop-i.i c.visit_at.ensures less c.index-visits-i.is inv)
+    passed_on (board_of start) c.keep_visit.new.enc c.keep_visit.new.board.slots.items _ _ c.keep_visit.result c.from_residual-in_err-steps.result _ c.in_err-steps.was (err_from_is_err_and c.from_residual-in_err-steps.result c.from_residual-in_err-steps.ensures.1) (c.keep_visit.ensures start c.args.visits.now r c.loop-i.i c.visit_at.ensures less c.index-visits-i.is inv)
 
 pub loop-i-preserved : goal.loop-i-preserved
 loop-i-preserved c start r h =
     let inv = (c.loop-i.invariant start r h).0 in
     let less = (let l : c.loop-i.i < length c.args.visits.now = omega (arith, c.requires.visits.few) in l) in
-    let kept = answered start (c.keep_visit.new.enc, c.keep_visit.new.board.slots.items) _ c.keep_visit.result _ c.in_ok-steps.was (c.keep_visit.ensures start c.args.visits.now r c.loop-i.i c.visit_at.ensures less c.index-visits-i.is inv) in (
+    let kept = found_of (board_of start) c.keep_visit.new.enc c.keep_visit.new.board.slots.items _ c.keep_visit.result _ c.in_ok-steps.was (c.keep_visit.ensures start c.args.visits.now r c.loop-i.i c.visit_at.ensures less c.index-visits-i.is inv) in (
       subst (HasVisits start c.args.visits.now (c.keep_visit.new.enc, c.keep_visit.new.board.slots.items) r) (let e : suc c.loop-i.i ≡ c.loop-i.i + 1 = omega arith in e) kept.0,
       visits_noted_more start c.args.visits.now r c.loop-i.i c.loop-i.notes.items c.keep_steps.new.notes.items c.in_ok-steps.steps (c.loop-i.invariant start r h).1 c.in_ok-keep_steps.ensures.kept kept.1,
     )
@@ -104,8 +104,8 @@ pub returns-in_err-keep_steps : goal.returns-in_err-keep_steps
 returns-in_err-keep_steps c start r h =
     let inv = (c.loop-i.invariant start r h).0 in
     let less = (let l : c.loop-i.i < length c.args.visits.now = omega (arith, c.requires.visits.few) in l) in
-    let kept = answered start (c.keep_visit.new.enc, c.keep_visit.new.board.slots.items) _ c.keep_visit.result _ c.in_ok-steps.was (c.keep_visit.ensures start c.args.visits.now r c.loop-i.i c.visit_at.ensures less c.index-visits-i.is inv) in
-    wants_memory start (c.keep_visit.new.enc, c.keep_visit.new.board.slots.items) _ c.keep_steps.result c.from_residual-in_err-keep_steps.result _ c.in_err-keep_steps.was (err_from_is_err_and c.from_residual-in_err-keep_steps.result c.from_residual-in_err-keep_steps.ensures.1) c.keep_steps.ensures.never_full kept.0.stay.ready.at
+    let kept = found_of (board_of start) c.keep_visit.new.enc c.keep_visit.new.board.slots.items _ c.keep_visit.result _ c.in_ok-steps.was (c.keep_visit.ensures start c.args.visits.now r c.loop-i.i c.visit_at.ensures less c.index-visits-i.is inv) in
+    memory_passed (board_of start) c.keep_visit.new.enc c.keep_visit.new.board.slots.items _ c.keep_steps.result c.from_residual-in_err-keep_steps.result _ c.in_err-keep_steps.was (err_from_is_err_and c.from_residual-in_err-keep_steps.result c.from_residual-in_err-keep_steps.ensures.1) c.keep_steps.ensures.never_full kept.0.stay.ready.at
 
 pub returns : goal.returns
 returns c start r h =

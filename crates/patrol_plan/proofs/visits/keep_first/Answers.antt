@@ -1,7 +1,7 @@
 use Rattle.std.proofs.Common.{◌≡◌, arith, length}
 use Rattle.std.proofs.lemmas.Result.{err_from_is_err_and}
 use Rattle.slot_board.proofs.BoardSlots.{made_at, same_actions, went}
-use Rattle.patrol_plan.proofs.NotedSteps.{refused}
+use Rattle.slot_board.proofs.Endings.{passed_on}
 use Rattle.patrol_plan.specs.Scenes.{board_of}
 use Rattle.patrol_plan.proofs.OverSteps.{visits_over}
 use Rattle.patrol_plan.proofs.SceneSteps.{low}
@@ -31,7 +31,7 @@ copy-requires-clause-live c =
 pub returns-in_err-copy : goal.returns-in_err-copy
 returns-in_err-copy c start count h fits =
     let fit = space_fits_at start (c.args.enc.now, c.args.board.now.slots.items) 8 c.space-space.result h.at c.space-space.ensures fits.space in
-    refused start (c.copy.new.enc, c.copy.new.self.slots.items) _ _ c.copy.result c.from_residual.result _ c.in_err-copy.was (err_from_is_err_and c.from_residual.result c.from_residual.ensures.1) (c.copy.ensures (board_of start) h.at fit)
+    passed_on (board_of start) c.copy.new.enc c.copy.new.self.slots.items _ _ c.copy.result c.from_residual.result _ c.in_err-copy.was (err_from_is_err_and c.from_residual.result c.from_residual.ensures.1) (c.copy.ensures (board_of start) h.at fit)
 
 pub keep_all-requires-clause-ready : goal.keep_all-requires-clause-ready
 keep_all-requires-clause-ready c =

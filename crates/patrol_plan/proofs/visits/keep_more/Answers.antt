@@ -1,7 +1,7 @@
 use Rattle.std.proofs.Common.{◌≡◌, arith, inl, inr, length, suc}
 use Rattle.std.proofs.lemmas.Result.{err_from_is_err_and}
 use Rattle.slot_board.proofs.BoardSlots.{same_actions, went}
-use Rattle.patrol_plan.proofs.NotedSteps.{refused}
+use Rattle.slot_board.proofs.Endings.{passed_on}
 use Rattle.patrol_plan.specs.Scenes.{board_of}
 use Rattle.patrol_plan.proofs.OverSteps.{visits_over}
 use Rattle.patrol_plan.proofs.SizeSteps.{placed_small}
@@ -33,7 +33,7 @@ pub returns-in_err-copy_of : goal.returns-in_err-copy_of
 returns-in_err-copy_of c start r h =
     let at = h.stay.ready.at in
     let small = placed_small start (c.args.enc.now, c.args.board.now.slots.items) at 10 (visit_low start (c.args.enc.now, c.args.board.now.slots.items) at h.stay.some 10 (omega arith)) (inr (omega arith)) in
-    refused start (c.copy_of.new.enc, c.copy_of.new.self.slots.items) _ _ c.copy_of.result c.from_residual.result _ c.in_err-copy_of.was (err_from_is_err_and c.from_residual.result c.from_residual.ensures.1) (c.copy_of.ensures (board_of start) at (inl small))
+    passed_on (board_of start) c.copy_of.new.enc c.copy_of.new.self.slots.items _ _ c.copy_of.result c.from_residual.result _ c.in_err-copy_of.was (err_from_is_err_and c.from_residual.result c.from_residual.ensures.1) (c.copy_of.ensures (board_of start) at (inl small))
 
 pub keep_all-requires-clause-ready : goal.keep_all-requires-clause-ready
 keep_all-requires-clause-ready c =

@@ -1,7 +1,7 @@
 use Rattle.std.proofs.Common.{◌≡◌, arith, length, subst, sym}
 use Rattle.std.proofs.lemmas.Result.{err_from_is_err_and}
 use Rattle.slot_board.proofs.BoardSlots.{same_actions, went}
-use Rattle.patrol_plan.proofs.NotedSteps.{answered, refused}
+use Rattle.slot_board.proofs.Endings.{found_of, passed_on}
 use Rattle.patrol_plan.proofs.VisitNotes.{visit_steps}
 use Rattle.patrol_plan.specs.PatrolSizes.{within_round}
 use Rattle.patrol_plan.specs.PatrolSteps.{visit_place}
@@ -26,7 +26,7 @@ meet_visit-requires-clause-ready c =
 
 pub returns-in_err-meet_visit : goal.returns-in_err-meet_visit
 returns-in_err-meet_visit c start conds r i place less is_visit h =
-    refused start (c.meet_visit.new.enc, c.meet_visit.new.board.slots.items) _ _ c.meet_visit.result c.from_residual.result _ c.in_err-meet_visit.was (err_from_is_err_and c.from_residual.result c.from_residual.ensures.1) (c.meet_visit.ensures start conds r i place less is_visit h)
+    passed_on (board_of start) c.meet_visit.new.enc c.meet_visit.new.board.slots.items _ _ c.meet_visit.result c.from_residual.result _ c.in_err-meet_visit.was (err_from_is_err_and c.from_residual.result c.from_residual.ensures.1) (c.meet_visit.ensures start conds r i place less is_visit h)
 
 pub turn_all-requires-clause-ready : goal.turn_all-requires-clause-ready
 turn_all-requires-clause-ready c =
@@ -74,7 +74,7 @@ returns-in_err-steps c start conds r i place less is_visit h =
     let m = went (board_of start) c.meet_visit.new.enc c.meet_visit.new.board.slots.items _ c.meet_visit.result _ c.in_ok-meet_visit.was (c.meet_visit.ensures start conds r i place less is_visit h) in
     let at = m.visits.stay.ready in
     let turns = subst (λ k. TurnsFit Growing (within_round start conds r) (states_at (c.meet_visit.new.enc, c.meet_visit.new.board.slots.items) k)) (sym place) (met_turns start conds (c.meet_visit.new.enc, c.meet_visit.new.board.slots.items) r i less m) in
-    refused start (c.turn_all.new.enc, c.turn_all.new.board.slots.items) _ _ c.turn_all.result c.from_residual-in_err-steps.result _ c.in_err-steps.was (err_from_is_err_and c.from_residual-in_err-steps.result c.from_residual-in_err-steps.ensures.1) (c.turn_all.ensures (within_round start conds r) at turns)
+    passed_on (board_of start) c.turn_all.new.enc c.turn_all.new.board.slots.items _ _ c.turn_all.result c.from_residual-in_err-steps.result _ c.in_err-steps.was (err_from_is_err_and c.from_residual-in_err-steps.result c.from_residual-in_err-steps.ensures.1) (c.turn_all.ensures (within_round start conds r) at turns)
 
 pub combine-requires-clause-working : goal.combine-requires-clause-working
 combine-requires-clause-working c =
@@ -89,7 +89,7 @@ combine-requires-clause-working c =
     let m = went (board_of start) c.meet_visit.new.enc c.meet_visit.new.board.slots.items _ c.meet_visit.result _ c.in_ok-meet_visit.was (c.meet_visit.ensures start conds r i place less is_visit h) in
     let at = m.visits.stay.ready in
     let turns = subst (λ k. TurnsFit Growing (within_round start conds r) (states_at (c.meet_visit.new.enc, c.meet_visit.new.board.slots.items) k)) (sym place) (met_turns start conds (c.meet_visit.new.enc, c.meet_visit.new.board.slots.items) r i less m) in
-    let t = answered start (c.turn_all.new.enc, c.turn_all.new.board.slots.items) _ c.turn_all.result _ c.in_ok-steps.was (c.turn_all.ensures (within_round start conds r) at turns) in
+    let t = found_of (board_of start) c.turn_all.new.enc c.turn_all.new.board.slots.items _ c.turn_all.result _ c.in_ok-steps.was (c.turn_all.ensures (within_round start conds r) at turns) in
     (board_of start, t.0.worked.ready.at)
 
 pub combine-requires-clause-place : goal.combine-requires-clause-place
@@ -105,7 +105,7 @@ combine-requires-clause-place c =
     let m = went (board_of start) c.meet_visit.new.enc c.meet_visit.new.board.slots.items _ c.meet_visit.result _ c.in_ok-meet_visit.was (c.meet_visit.ensures start conds r i place less is_visit h) in
     let at = m.visits.stay.ready in
     let turns = subst (λ k. TurnsFit Growing (within_round start conds r) (states_at (c.meet_visit.new.enc, c.meet_visit.new.board.slots.items) k)) (sym place) (met_turns start conds (c.meet_visit.new.enc, c.meet_visit.new.board.slots.items) r i less m) in
-    let t = answered start (c.turn_all.new.enc, c.turn_all.new.board.slots.items) _ c.turn_all.result _ c.in_ok-steps.was (c.turn_all.ensures (within_round start conds r) at turns) in
+    let t = found_of (board_of start) c.turn_all.new.enc c.turn_all.new.board.slots.items _ c.turn_all.result _ c.in_ok-steps.was (c.turn_all.ensures (within_round start conds r) at turns) in
     visit_low start (c.turn_all.new.enc, c.turn_all.new.board.slots.items) t.0.worked.ready.at h.stay.some 10 (omega arith)
 
 pub combine-requires-clause-a : goal.combine-requires-clause-a
@@ -121,7 +121,7 @@ combine-requires-clause-a c =
     let m = went (board_of start) c.meet_visit.new.enc c.meet_visit.new.board.slots.items _ c.meet_visit.result _ c.in_ok-meet_visit.was (c.meet_visit.ensures start conds r i place less is_visit h) in
     let at = m.visits.stay.ready in
     let turns = subst (λ k. TurnsFit Growing (within_round start conds r) (states_at (c.meet_visit.new.enc, c.meet_visit.new.board.slots.items) k)) (sym place) (met_turns start conds (c.meet_visit.new.enc, c.meet_visit.new.board.slots.items) r i less m) in
-    let t = answered start (c.turn_all.new.enc, c.turn_all.new.board.slots.items) _ c.turn_all.result _ c.in_ok-steps.was (c.turn_all.ensures (within_round start conds r) at turns) in
+    let t = found_of (board_of start) c.turn_all.new.enc c.turn_all.new.board.slots.items _ c.turn_all.result _ c.in_ok-steps.was (c.turn_all.ensures (within_round start conds r) at turns) in
     visit_low start (c.turn_all.new.enc, c.turn_all.new.board.slots.items) t.0.worked.ready.at h.stay.some 10 (omega arith)
 
 pub combine-requires-clause-b : goal.combine-requires-clause-b
@@ -137,7 +137,7 @@ combine-requires-clause-b c =
     let m = went (board_of start) c.meet_visit.new.enc c.meet_visit.new.board.slots.items _ c.meet_visit.result _ c.in_ok-meet_visit.was (c.meet_visit.ensures start conds r i place less is_visit h) in
     let at = m.visits.stay.ready in
     let turns = subst (λ k. TurnsFit Growing (within_round start conds r) (states_at (c.meet_visit.new.enc, c.meet_visit.new.board.slots.items) k)) (sym place) (met_turns start conds (c.meet_visit.new.enc, c.meet_visit.new.board.slots.items) r i less m) in
-    let t = answered start (c.turn_all.new.enc, c.turn_all.new.board.slots.items) _ c.turn_all.result _ c.in_ok-steps.was (c.turn_all.ensures (within_round start conds r) at turns) in
+    let t = found_of (board_of start) c.turn_all.new.enc c.turn_all.new.board.slots.items _ c.turn_all.result _ c.in_ok-steps.was (c.turn_all.ensures (within_round start conds r) at turns) in
     visit_low start (c.turn_all.new.enc, c.turn_all.new.board.slots.items) t.0.worked.ready.at h.stay.some 0 (omega arith)
 
 pub returns : goal.returns
@@ -145,7 +145,7 @@ returns c start conds r i place less is_visit h =
     let m = went (board_of start) c.meet_visit.new.enc c.meet_visit.new.board.slots.items _ c.meet_visit.result _ c.in_ok-meet_visit.was (c.meet_visit.ensures start conds r i place less is_visit h) in
     let at = m.visits.stay.ready in
     let turns = subst (λ k. TurnsFit Growing (within_round start conds r) (states_at (c.meet_visit.new.enc, c.meet_visit.new.board.slots.items) k)) (sym place) (met_turns start conds (c.meet_visit.new.enc, c.meet_visit.new.board.slots.items) r i less m) in
-    let t = answered start (c.turn_all.new.enc, c.turn_all.new.board.slots.items) _ c.turn_all.result _ c.in_ok-steps.was (c.turn_all.ensures (within_round start conds r) at turns) in
+    let t = found_of (board_of start) c.turn_all.new.enc c.turn_all.new.board.slots.items _ c.turn_all.result _ c.in_ok-steps.was (c.turn_all.ensures (within_round start conds r) at turns) in
     let last = subst (λ k. HasLast Growing (within_round start conds r) (c.meet_visit.new.enc, c.meet_visit.new.board.slots.items) (c.turn_all.new.enc, c.turn_all.new.board.slots.items) (states_at (c.meet_visit.new.enc, c.meet_visit.new.board.slots.items) k)) place t.0 in
     let z = went (board_of start) c.combine.new.enc c.combine.new.self.slots.items _ c.combine.result _ c.in_ok-combine.was (c.combine.ensures (board_of start) t.0.worked.ready.at (kept_fits start conds (c.meet_visit.new.enc, c.meet_visit.new.board.slots.items) (c.turn_all.new.enc, c.turn_all.new.board.slots.items) r i less m last)) in (
       visits_more start conds (c.meet_visit.new.enc, c.meet_visit.new.board.slots.items) (c.turn_all.new.enc, c.turn_all.new.board.slots.items) r i less m last (c.combine.new.enc, c.combine.new.self.slots.items) z,
@@ -157,6 +157,6 @@ returns-in_err-combine c start conds r i place less is_visit h =
     let m = went (board_of start) c.meet_visit.new.enc c.meet_visit.new.board.slots.items _ c.meet_visit.result _ c.in_ok-meet_visit.was (c.meet_visit.ensures start conds r i place less is_visit h) in
     let at = m.visits.stay.ready in
     let turns = subst (λ k. TurnsFit Growing (within_round start conds r) (states_at (c.meet_visit.new.enc, c.meet_visit.new.board.slots.items) k)) (sym place) (met_turns start conds (c.meet_visit.new.enc, c.meet_visit.new.board.slots.items) r i less m) in
-    let t = answered start (c.turn_all.new.enc, c.turn_all.new.board.slots.items) _ c.turn_all.result _ c.in_ok-steps.was (c.turn_all.ensures (within_round start conds r) at turns) in
+    let t = found_of (board_of start) c.turn_all.new.enc c.turn_all.new.board.slots.items _ c.turn_all.result _ c.in_ok-steps.was (c.turn_all.ensures (within_round start conds r) at turns) in
     let last = subst (λ k. HasLast Growing (within_round start conds r) (c.meet_visit.new.enc, c.meet_visit.new.board.slots.items) (c.turn_all.new.enc, c.turn_all.new.board.slots.items) (states_at (c.meet_visit.new.enc, c.meet_visit.new.board.slots.items) k)) place t.0 in
-    refused start (c.combine.new.enc, c.combine.new.self.slots.items) _ _ c.combine.result c.from_residual-in_err-combine.result _ c.in_err-combine.was (err_from_is_err_and c.from_residual-in_err-combine.result c.from_residual-in_err-combine.ensures.1) (c.combine.ensures (board_of start) t.0.worked.ready.at (kept_fits start conds (c.meet_visit.new.enc, c.meet_visit.new.board.slots.items) (c.turn_all.new.enc, c.turn_all.new.board.slots.items) r i less m last))
+    passed_on (board_of start) c.combine.new.enc c.combine.new.self.slots.items _ _ c.combine.result c.from_residual-in_err-combine.result _ c.in_err-combine.was (err_from_is_err_and c.from_residual-in_err-combine.result c.from_residual-in_err-combine.ensures.1) (c.combine.ensures (board_of start) t.0.worked.ready.at (kept_fits start conds (c.meet_visit.new.enc, c.meet_visit.new.board.slots.items) (c.turn_all.new.enc, c.turn_all.new.board.slots.items) r i less m last))

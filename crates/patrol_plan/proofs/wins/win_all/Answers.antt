@@ -1,10 +1,10 @@
 use Rattle.patrol_plan.proofs.HandedSteps.{stages_more, stages_none}
-use Rattle.patrol_plan.proofs.NotedSteps.{answered, refused, wants_memory}
 use Rattle.patrol_plan.proofs.FitSteps.{end_fits, stage_fits_at}
 use Rattle.std.proofs.Common.{◌≡◌, ◌<◌, length, ◌-◌, ◌∙◌, ◌∷◌, arith, ap, drop, map, refl, slice_index_or, suc, sym}
 use Rattle.ctl_syntax.specs.GoalValues.{stage_sets}
 use Rattle.ctl_syntax.specs.declared.context_goals.UntilStage.{UntilStage}
 use Rattle.slot_board.proofs.BoardSlots.{went}
+use Rattle.slot_board.proofs.Endings.{found_of, memory_passed, passed_on}
 use Rattle.std.proofs.lemmas.Result.{err_from_is_err_and}
 use Rattle.patrol_plan.specs.Chains.{until_sets}
 use Rattle.patrol_plan.specs.Scenes.{board_of}
@@ -32,7 +32,7 @@ win_stage-requires-clause-ready c =
 pub loop-i-preserved : goal.loop-i-preserved
 loop-i-preserved c start at n fits =
     let h = (c.loop-i.invariant start at n fits).0 in
-    let won = answered start (c.win_stage.new.enc, c.win_stage.new.board.slots.items) _ c.win_stage.result _ c.in_ok-steps.was (c.win_stage.ensures start h.changed.ready (stage_fits_at start (c.args.enc.now, c.args.board.now.slots.items) (c.loop-i.enc, c.loop-i.board.slots.items) c.args.chain.now c.loop-i.i c.win_at-in-loop-i.result c.index.result.now (omega arith) (omega (arith, n)) c.win_at-in-loop-i.ensures (let l : c.loop-i.i - 1 < length c.args.chain.now.stages.items = omega (arith, n) in l) c.index.ensures h fits)) in
+    let won = found_of (board_of start) c.win_stage.new.enc c.win_stage.new.board.slots.items _ c.win_stage.result _ c.in_ok-steps.was (c.win_stage.ensures start h.changed.ready (stage_fits_at start (c.args.enc.now, c.args.board.now.slots.items) (c.loop-i.enc, c.loop-i.board.slots.items) c.args.chain.now c.loop-i.i c.win_at-in-loop-i.result c.index.result.now (omega arith) (omega (arith, n)) c.win_at-in-loop-i.ensures (let l : c.loop-i.i - 1 < length c.args.chain.now.stages.items = omega (arith, n) in l) c.index.ensures h fits)) in
     let items = c.args.chain.now.stages.items in
     let same : slice_index_or items (c.loop-i.i - 1) c.index.result.now ≡ c.index.result.now = sym c.index.ensures in (
       wins_more_at start (c.args.enc.now, c.args.board.now.slots.items) (c.loop-i.enc, c.loop-i.board.slots.items) (c.win_stage.new.enc, c.win_stage.new.board.slots.items) (until_sets c.args.chain.now) c.loop-i.i c.win_at-in-loop-i.result c.index.result.now
@@ -45,8 +45,8 @@ loop-i-preserved c start at n fits =
 pub returns-in_err-keep_steps : goal.returns-in_err-keep_steps
 returns-in_err-keep_steps c start at n fits =
     let h = (c.loop-i.invariant start at n fits).0 in
-    let won = answered start (c.win_stage.new.enc, c.win_stage.new.board.slots.items) _ c.win_stage.result _ c.in_ok-steps.was (c.win_stage.ensures start h.changed.ready (stage_fits_at start (c.args.enc.now, c.args.board.now.slots.items) (c.loop-i.enc, c.loop-i.board.slots.items) c.args.chain.now c.loop-i.i c.win_at-in-loop-i.result c.index.result.now (omega arith) (omega (arith, n)) c.win_at-in-loop-i.ensures (let l : c.loop-i.i - 1 < length c.args.chain.now.stages.items = omega (arith, n) in l) c.index.ensures h fits)) in
-    wants_memory start (c.win_stage.new.enc, c.win_stage.new.board.slots.items) _ c.keep_steps.result c.from_residual-in_err-keep_steps.result _ c.in_err-keep_steps.was (err_from_is_err_and c.from_residual-in_err-keep_steps.result c.from_residual-in_err-keep_steps.ensures.1) c.keep_steps.ensures.never_full won.0.changed.ready.at
+    let won = found_of (board_of start) c.win_stage.new.enc c.win_stage.new.board.slots.items _ c.win_stage.result _ c.in_ok-steps.was (c.win_stage.ensures start h.changed.ready (stage_fits_at start (c.args.enc.now, c.args.board.now.slots.items) (c.loop-i.enc, c.loop-i.board.slots.items) c.args.chain.now c.loop-i.i c.win_at-in-loop-i.result c.index.result.now (omega arith) (omega (arith, n)) c.win_at-in-loop-i.ensures (let l : c.loop-i.i - 1 < length c.args.chain.now.stages.items = omega (arith, n) in l) c.index.ensures h fits)) in
+    memory_passed (board_of start) c.win_stage.new.enc c.win_stage.new.board.slots.items _ c.keep_steps.result c.from_residual-in_err-keep_steps.result _ c.in_err-keep_steps.was (err_from_is_err_and c.from_residual-in_err-keep_steps.result c.from_residual-in_err-keep_steps.ensures.1) c.keep_steps.ensures.never_full won.0.changed.ready.at
 
 pub win_end-requires-clause-ready : goal.win_end-requires-clause-ready
 win_end-requires-clause-ready c = let r = c.requires.ready in (r.0, r.1, end_fits r.0 c.args.chain.now r.3)
@@ -54,13 +54,13 @@ win_end-requires-clause-ready c = let r = c.requires.ready in (r.0, r.1, end_fit
 pub returns-in_err-win_end : goal.returns-in_err-win_end
 returns-in_err-win_end c start at n fits =
     let p = err_from_is_err_and c.from_residual.result c.from_residual.ensures.1 in
-    refused start (c.win_end.new.enc, c.win_end.new.board.slots.items) _ _ c.win_end.result c.from_residual.result _ c.in_err-win_end.was p (c.win_end.ensures start at (end_fits start c.args.chain.now fits))
+    passed_on (board_of start) c.win_end.new.enc c.win_end.new.board.slots.items _ _ c.win_end.result c.from_residual.result _ c.in_err-win_end.was p (c.win_end.ensures start at (end_fits start c.args.chain.now fits))
 
 pub returns-in_err-steps : goal.returns-in_err-steps
 returns-in_err-steps c start at n fits =
     let p = err_from_is_err_and c.from_residual-in_err-steps.result c.from_residual-in_err-steps.ensures.1 in
     let h = (c.loop-i.invariant start at n fits).0 in
-    refused start (c.win_stage.new.enc, c.win_stage.new.board.slots.items) _ _ c.win_stage.result c.from_residual-in_err-steps.result _ c.in_err-steps.was p (c.win_stage.ensures start h.changed.ready (stage_fits_at start (c.args.enc.now, c.args.board.now.slots.items) (c.loop-i.enc, c.loop-i.board.slots.items) c.args.chain.now c.loop-i.i c.win_at-in-loop-i.result c.index.result.now (omega arith) (omega (arith, n)) c.win_at-in-loop-i.ensures (let l : c.loop-i.i - 1 < length c.args.chain.now.stages.items = omega (arith, n) in l) c.index.ensures h fits))
+    passed_on (board_of start) c.win_stage.new.enc c.win_stage.new.board.slots.items _ _ c.win_stage.result c.from_residual-in_err-steps.result _ c.in_err-steps.was p (c.win_stage.ensures start h.changed.ready (stage_fits_at start (c.args.enc.now, c.args.board.now.slots.items) (c.loop-i.enc, c.loop-i.board.slots.items) c.args.chain.now c.loop-i.i c.win_at-in-loop-i.result c.index.result.now (omega arith) (omega (arith, n)) c.win_at-in-loop-i.ensures (let l : c.loop-i.i - 1 < length c.args.chain.now.stages.items = omega (arith, n) in l) c.index.ensures h fits))
 
 pub win_stage-requires-clause-guard : goal.win_stage-requires-clause-guard
 win_stage-requires-clause-guard c =

@@ -2,13 +2,13 @@
 use Rattle.std.proofs.Common.{◌≡◌, ◌∙◌, ◌++◌, ◌+◌, [], ◌∷◌, arith, get_or, length, subst, sym, take}
 use Rattle.std.proofs.lemmas.List.{take_all, take_more}
 use Rattle.std.proofs.lemmas.Result.{err_from_is_err_and}
-use Rattle.slot_board.proofs.BoardSlots.{made_at, passed, same_actions, went}
+use Rattle.slot_board.proofs.BoardSlots.{goal_live, made_at, passed, same_actions, went}
 use Rattle.reach_plan.proofs.PlaceFits.{goal_copy_fits, goal_fits, may_step}
 use Rattle.reach_plan.specs.Searches.{HasProgress}
 use Rattle.reach_plan.specs.Steps.{after_steps, at_goal, goal_layer, untaken}
 use Rattle.slot_board.specs.declared.steps.Step.{Step}
 use Rattle.slot_board.specs.declared.steps.Step.TheVariants.{Grow}
-use Rattle.reach_plan.proofs.SearchSteps.{after_one_more, at_first, copied_next, goal_live, step_passes}
+use Rattle.reach_plan.proofs.SearchSteps.{after_one_more, at_first, copied_next, step_passes}
 use Rattle.reach_plan.proofs.retrace.retrace.Goals as goal
 
 pub copy-requires-clause-working : goal.copy-requires-clause-working

@@ -3,12 +3,12 @@ use Rattle.std.proofs.Common.{◌≡◌, ◌<◌, ◌∙◌, ℕ, false, suc, ar
 use Rattle.std.specs.Prelude.{slice_index_or}
 use Rattle.std.proofs.lemmas.Result.{err_from_is_err_and}
 use Rattle.slot_board.specs.Board.{set_at}
-use Rattle.slot_board.proofs.BoardSlots.{made_at, same_actions, went}
+use Rattle.slot_board.proofs.BoardSlots.{goal_live, made_at, same_actions, went}
 use Rattle.slot_board.proofs.Endings.{memory_passed, passed_on}
 use Rattle.reach_plan.specs.Searches.{RoundLeft, SearchLeft}
 use Rattle.reach_plan.specs.declared.search.Round.{Round}
 use Rattle.reach_plan.proofs.PlaceFits.{goal_fits}
-use Rattle.reach_plan.proofs.SearchSteps.{fewer_after, first_round, found_last, found_none, goal_live}
+use Rattle.reach_plan.proofs.SearchSteps.{fewer_after, first_round, found_last, found_none}
 use Rattle.reach_plan.proofs.search.search_back.Goals as goal
 
 pub returns-in_err-spent : goal.returns-in_err-spent

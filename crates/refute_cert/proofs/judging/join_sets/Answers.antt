@@ -1,8 +1,9 @@
 use Rattle.std.proofs.Common.{arith, refl}
+use Rattle.std.proofs.lemmas.List.{drop_all}
 use Rattle.std.proofs.lemmas.Result.{err_from_is_err_and}
 use Rattle.slot_board.proofs.BoardSlots.{passed, went}
 use Rattle.refute_cert.proofs.LoopLemmas.{joined_all, joined_more, next_fits}
-use Rattle.board_steps.proofs.MakeLemmas.{drop_item, drop_none}
+use Rattle.board_steps.proofs.MakeLemmas.{drop_item}
 use Rattle.refute_cert.proofs.judging.join_sets.Goals as goal
 
 pub loop-set-init : goal.loop-set-init
@@ -32,4 +33,4 @@ loop-set-preserved c start class f union fits =
     joined_more start class c.loop-set.enc c.add_set.new.enc c.loop-set.board.slots.items c.add_set.new.board.slots.items f _ _ c.args.sets.now c.set-item.result more half (went start c.add_set.new.enc c.add_set.new.board.slots.items _ c.add_set.result _ c.in_ok-add_set.was (c.add_set.ensures start half.here half.union next.by_set next.joined))
 
 pub returns : goal.returns
-returns c start class f union fits = joined_all start class c.loop-set.enc c.loop-set.board.slots.items f _ c.args.sets.now (drop_none c.args.sets.now c.loop-set.set-index (omega (arith, c.loop-set-test.false))) (c.loop-set.invariant start class f union fits)
+returns c start class f union fits = joined_all start class c.loop-set.enc c.loop-set.board.slots.items f _ c.args.sets.now (drop_all c.loop-set.set-index c.args.sets.now (omega (arith, c.loop-set-test.false))) (c.loop-set.invariant start class f union fits)

@@ -1,9 +1,10 @@
 use Rattle.std.proofs.Common.{◌≡◌, ◌∙◌, arith, length, refl, sym}
+use Rattle.std.proofs.lemmas.List.{drop_all}
 use Rattle.std.proofs.lemmas.Result.{err_from_is_err_and}
 use Rattle.slot_board.proofs.BoardSlots.{same_actions}
 use Rattle.slot_board.proofs.Endings.{found_of, passed_on}
 use Rattle.refute_cert.proofs.LoopLemmas.{looked_all, looked_found, looked_more, next_fits}
-use Rattle.board_steps.proofs.MakeLemmas.{drop_item, drop_none}
+use Rattle.board_steps.proofs.MakeLemmas.{drop_item}
 use Rattle.refute_cert.proofs.judging.some_set_is_left.Goals as goal
 
 pub loop-set-init : goal.loop-set-init
@@ -46,4 +47,4 @@ loop-set-preserved c start f union fits kept =
 pub returns : goal.returns
 returns c start f union fits kept =
     let half = c.loop-set.invariant start f union fits kept in
-    (half.union.at, looked_all start c.args.asked.class c.loop-set.enc c.loop-set.board.slots.items f _ c.args.sets.now (drop_none c.args.sets.now c.loop-set.set-index (omega (arith, c.loop-set-test.false))) half)
+    (half.union.at, looked_all start c.args.asked.class c.loop-set.enc c.loop-set.board.slots.items f _ c.args.sets.now (drop_all c.loop-set.set-index c.args.sets.now (omega (arith, c.loop-set-test.false))) half)
