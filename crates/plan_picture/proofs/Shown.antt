@@ -11,7 +11,7 @@ use Rattle.exec_graph.specs.Orders.{AreInOrderMet, in_first, onward}
 use Rattle.exec_graph.proofs.Listed.{all_added_get}
 use Rattle.exec_graph.specs.Executions.{IsReachedBy}
 use Rattle.exec_graph.specs.Graphs.{IsGraphOf, PlainGraph}
-use Rattle.exec_graph.proofs.Listed.{Contains-number, contains_at}
+use Rattle.exec_graph.proofs.Listed.{Contains-number}
 use Rattle.task_core.specs.Vectors.{Vector}
 use Rattle.task_core.specs.Systems.{AreNumbered, IsSystem, System, goal_states}
 use Rattle.task_core.specs.ContextPlans.{Configuration, IsInitial}
