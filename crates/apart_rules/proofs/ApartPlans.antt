@@ -1,9 +1,8 @@
 -- The plans that are printed, and their parts that serve.
 use Rattle.std.proofs.Common.{◌≡◌, ◌↔◌, ◌⊎◌, ◌<◌, ◌≤◌, ℕ, zero, suc, Bool, true, false, List, [], ◌∷◌, length, get_or, map, max, inl, inr, refl, sym, ap, ◌∙◌, subst, arith, ⊎_elim}
-use Rattle.std.specs.List.{All, Contains}
+use Rattle.std.specs.List.{Contains}
 use Rattle.std.proofs.lemmas.Bool.{cases_lt}
 use Rattle.std.proofs.lemmas.List.{get_or_default}
-use Rattle.std.proofs.lemmas.List.Elements.{All-contains}
 use Rattle.task_core.specs.ContextPlans.{Configuration, first_context}
 use Rattle.task_core.specs.Cubes.{SetOfVectors, matches}
 use Rattle.task_core.specs.Systems.{System, Exec, IsSystem, IsVector}
@@ -26,6 +25,7 @@ use Rattle.list_laws.proofs.Elements.{Contains-cons, Contains-head, Contains-map
 use Rattle.exec_graph.specs.Executions.{IsReachedBy}
 use Rattle.exec_graph.specs.Graphs.{IsGraphOf, PlainGraph}
 use Rattle.exec_graph.proofs.Reaching.{reached_state}
+use Rattle.controller_rules.proofs.Marking.{all_marked}
 use Rattle.controller_rules.specs.AsRun.{IsFirstAt, NamesContext, NamesLastContext, counts_at}
 use Rattle.controller_rules.specs.Checks.{ServesIn}
 use Rattle.controller_rules.specs.Serving.{IsServingPart, MarkServing, greatest_named, marked, marked_part, next_named}
@@ -89,10 +89,6 @@ patrol_plan contexts sys visits ok = record {
 pub part_rules : (marks : List Bool) (plan : PlainPlan) → run_rules (marked_part marks plan) ≡ marked marks (run_rules plan)
 part_rules marks (table class rules) = map-marked in_one_context marks rules
 part_rules marks (automaton contexts rules) = refl
-
--- what holds of each element holds of those that are marked
-pub all_marked : {X : Type 0} (P : X → Type 0) (marks : List Bool) (xs : List X) → All P xs → All P (marked marks xs)
-all_marked P marks xs all = all_of P (marked marks xs) (λ x c. All-contains P xs x all (marked-among marks xs x c))
 
 pub part_told : (marks : List Bool) (plan : PlainPlan) → IsToldInFull plan → IsToldInFull (marked_part marks plan)
 part_told marks (table class rules) told = all_marked (λ (rule : PlanRule). IsInOrder rule.cube) marks rules told

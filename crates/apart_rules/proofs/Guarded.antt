@@ -1,10 +1,10 @@
 -- A rule whose action can be executed in each vector that it matches asks for the action's precondition.
-use Rattle.std.proofs.Common.{◌≡◌, ◌≢◌, ℕ, zero, suc, ◌<◌, ◌&&◌, ◌^◌, ltb, Bool, true, false, cond, List, [], ◌∷◌, length, Option, Some, None, slice_get, refl, sym, ap, ◌∙◌, subst, arith, ⊎_elim}
-use Rattle.std.specs.List.{All, Contains, filter, list_all}
+use Rattle.std.proofs.Common.{◌≡◌, ◌≢◌, ℕ, zero, suc, ◌<◌, ◌&&◌, ◌^◌, ltb, Bool, true, false, cond, [], ◌∷◌, length, Option, Some, None, slice_get, refl, sym, ap, ◌∙◌, arith, ⊎_elim}
+use Rattle.std.specs.List.{All, filter, list_all}
 use Rattle.std.specs.Option.{option_map_or}
 use Rattle.std.proofs.lemmas.Bool.{and_parts, false≢true}
 use Rattle.std.proofs.lemmas.List.Elements.{All-contains}
-use Rattle.list_laws.proofs.Elements.{Contains-cons, Contains-head, list_all-agree, list_all-at}
+use Rattle.list_laws.proofs.Elements.{list_all-agree, list_all-at, contains_at}
 use Rattle.task_core.specs.Actions.{action_within, outcome_within}
 use Rattle.task_core.specs.Conditions.{holds, ids_below}
 use Rattle.task_core.specs.Cubes.{Cube, matches}
@@ -45,11 +45,6 @@ executed_allowed task v a exec = go (is_allowed task v a) refl
     go true e = e
     go false e = absurd (exec (ap (λ (b : Bool). cond b (filter (in_space task) (states_after task v a)) []) e))
 
-got : {X : Type 0} (xs : List X) (k : ℕ) (x : X) → slice_get xs k ≡ Some x → Contains xs x
-got [] k x e = absurd (cc e)
-got (y ∷ ys) zero x e = subst (Contains (y ∷ ys)) (let f : Some y ≡ Some x = e in cc) (Contains-head y ys)
-got (y ∷ ys) (suc k) x e = Contains-cons y ys x (got ys k x e)
-
 -- the precondition of an action names the task's fluents alone
 exec_within : (n : ℕ) (action : GroundAction) → action_within n action ≡ true → ids_below n action.exec ≡ true
 exec_within n action within =
@@ -67,7 +62,7 @@ module _ (task : Task) (v w : Vector) (same : (f : ℕ) → f < fluent_count tas
       go None e = refl
       go (Some action) e =
           let n = fluent_count task in
-          let within = list_all-at (action_within n) task.actions.items action task.actions_within (got task.actions.items a action e) in
+          let within = list_all-at (action_within n) task.actions.items action task.actions_within (contains_at task.actions.items a action e) in
           holds_agree action.exec n (value_of v) (value_of w) (exec_within n action within) same
 
   same_match : (cube : Cube) → IsCubeOf (fluent_count task) cube → matches cube v ≡ matches cube w

@@ -3,13 +3,14 @@
 use Rattle.std.proofs.Common.{◌≡◌, ◌≢◌, ◌+◌, ◌-◌, ◌<◌, ◌≤◌, ◌&&◌, if◌then◌else◌, ◌==◌, ℕ, zero, suc, Bool, true, false, List, [], ◌∷◌, length, map, Option, Some, refl, sym, ap, ◌∙◌, subst, arith, ⊎_elim}
 use Rattle.std.specs.List.{Contains, list_any, range_with_len}
 use Rattle.std.proofs.lemmas.Bool.{and_from, and_parts, eq-eqb, eqb-true, true≢false}
+use Rattle.std.proofs.lemmas.Option.{same_Some}
 use Rattle.task_core.specs.ContextPlans.{Configuration}
 use Rattle.task_core.specs.Cubes.{Cube, SetOfVectors, cubes_of, matches}
 use Rattle.task_core.specs.Systems.{System, Exec, IsState, IsSystem, IsVector}
 use Rattle.task_core.specs.Vectors.{Vector}
 use Rattle.plan_document.specs.Faithful.{IsToldRule}
 use Rattle.plan_rules.specs.Rules.{ContextRule}
-use Rattle.plan_theory.specs.ContextRules.{StatesOfRules, action_rules, context_rules, next_rules, rules_in_context, rule_for}
+use Rattle.plan_theory.specs.ContextRules.{StatesOfRules, action_rules, context_rules, next_rules, rules_in_context}
 use Rattle.plan_theory.specs.LayerPlans.{is_action}
 use Rattle.plan_theory.specs.Layers.{action_numbers, must_lead}
 use Rattle.plan_theory.specs.PatrolPrinted.{patrol_action, patrol_next, patrol_nexts, patrol_rules, patrol_states}
@@ -21,10 +22,11 @@ use Rattle.plan_theory.proofs.Cubes.{cubes_match}
 use Rattle.plan_theory.proofs.PatrolSets.{acts_in_patrol}
 use Rattle.plan_theory.proofs.Tests.{HasOutcome-Exec, is_action-Some}
 use Rattle.plan_theory.proofs.UntilTowards.{chain_acts}
+use Rattle.plan_theory.specs.SetWords.{rule_for}
 use Rattle.list_laws.proofs.Elements.{Contains-cases, Contains-flat_map-witness, Contains-map-witness, Contains-nil, list_any-from, list_any-witness}
 use Rattle.controller_rules.specs.AsRun.{counts_at}
 use Rattle.apart_rules.proofs.ApartCubes.{AreApartCubes, Each, cubes_apart, cubes_matched, cubes_rise}
-use Rattle.apart_rules.proofs.Lists.{Pairwise, pairwise-flat_map, pairwise-map, pairwise-range, pairwise-weaker, range_bounds, some_same}
+use Rattle.apart_rules.proofs.Lists.{Pairwise, pairwise-flat_map, pairwise-map, pairwise-range, pairwise-weaker, range_bounds}
 use Rattle.apart_rules.proofs.Parts.{AreApart, CountsInState, NeverBoth}
 use Rattle.apart_rules.proofs.PrintedTables.{in_order}
 
@@ -172,7 +174,7 @@ module _ (sys : System) (chain : UntilSets) where
   until_one v c i j a b h k =
       let one = until_way v c i a h in
       let two = until_way v c j b k in
-      (sym one.1 ∙ two.1, some_same a b (sym one.2 ∙ two.2))
+      (sym one.1 ∙ two.1, same_Some a b (sym one.2 ∙ two.2))
 
   until_differ : (c : ℕ) → Pairwise (λ (i j : ℕ). i ≢ j) (until_nexts chain c)
   until_differ c = pairwise-weaker (λ (i j : ℕ). i < j) (λ (i j : ℕ). i ≢ j) (until_nexts chain c) (λ i j less same. absurd (omega (arith, less, same))) (pairwise-range c (suc (until_contexts chain) - c))
@@ -181,7 +183,7 @@ module _ (sys : System) (chain : UntilSets) where
   until_executes ok c j a v is first last holds =
       let way = until_way v c j a holds in
       let acts = chain_acts sys chain c v first ok is way.0 in
-      subst (Exec sys v) (some_same acts.action a (sym acts.chosen ∙ way.2)) (leading_executes sys _ v acts.action acts.leads)
+      subst (Exec sys v) (same_Some acts.action a (sym acts.chosen ∙ way.2)) (leading_executes sys _ v acts.action acts.leads)
 
   pub until_apart : AreApart sys.fluents (until_rules sys chain)
   until_apart = contexts_apart sys (until_states sys chain) (until_nexts chain) (until_contexts chain) until_one until_differ
@@ -221,7 +223,7 @@ module _ (sys : System) (visits : List SetOfVectors) where
   patrol_one v c i j a b h k =
       let one = patrol_way v c i a h in
       let two = patrol_way v c j b k in
-      (sym one.1 ∙ two.1, some_same a b (sym one.2 ∙ two.2))
+      (sym one.1 ∙ two.1, same_Some a b (sym one.2 ∙ two.2))
 
   pub patrol_apart : AreApart sys.fluents (patrol_rules sys visits)
   patrol_apart = contexts_apart sys (patrol_states sys visits) (patrol_nexts (length visits)) (length visits) patrol_one (patrol_differ (length visits))
@@ -233,7 +235,7 @@ module _ (sys : System) (visits : List SetOfVectors) where
   patrol_executes ok c j a v is first last holds =
       let way = patrol_way v c j a holds in
       let acts = acts_in_patrol sys ok visits c first last v is way.0 in
-      subst (Exec sys v) (some_same acts.action a (sym acts.chosen ∙ way.2)) (leading_executes sys (patrol_set sys visits) v acts.action acts.leads)
+      subst (Exec sys v) (same_Some acts.action a (sym acts.chosen ∙ way.2)) (leading_executes sys (patrol_set sys visits) v acts.action acts.leads)
 
   pub patrol_executable : IsSystem sys → (rule : ContextRule) (v : Vector) → Contains (patrol_rules sys visits) rule → IsVector sys v → matches rule.cube v ≡ true → Exec sys v rule.action
   patrol_executable ok = contexts_executable sys (patrol_states sys visits) (patrol_nexts (length visits)) (length visits) ok (patrol_executes ok)

@@ -4,6 +4,7 @@ use Rattle.std.proofs.Common.{◌≡◌, ℕ, zero, suc, ◌+◌, ◌<◌, ◌^�
 use Rattle.std.specs.List.{All, Contains, list_any}
 use Rattle.std.proofs.lemmas.Bool.{and_from, and_parts, eq-eqb}
 use Rattle.std.proofs.lemmas.List.Elements.{All-cons, All-nil}
+use Rattle.std.proofs.lemmas.Option.{same_Some}
 use Rattle.task_core.specs.declared.literals.Lit.{Lit}
 use Rattle.task_core.specs.ContextPlans.{first_context}
 use Rattle.task_core.specs.Cubes.{Cube, cubes_of, matches}
@@ -25,7 +26,7 @@ use Rattle.plan_theory.proofs.Tests.{is_action-Some}
 use Rattle.list_laws.proofs.Elements.{Contains-cons, Contains-head, Contains-flat_map-witness, Contains-map-witness, list_any-from}
 use Rattle.controller_rules.specs.AsRun.{counts_at}
 use Rattle.apart_rules.proofs.ApartCubes.{AreApartCubes, Each, RisesFrom, cubes_apart, cubes_matched, cubes_rise}
-use Rattle.apart_rules.proofs.Lists.{Pairwise, pairwise-flat_map, pairwise-map, pairwise-range, pairwise-weaker, pairwise_all, some_same}
+use Rattle.apart_rules.proofs.Lists.{Pairwise, pairwise-flat_map, pairwise-map, pairwise-range, pairwise-weaker, pairwise_all}
 use Rattle.apart_rules.proofs.Parts.{AreApart, CountsInState, NeverBoth, at_first}
 
 -- a cube that rises is in order
@@ -64,7 +65,7 @@ module _ (class : Class) (sys : System) (K : ℕ) where
 
   two_actions : (a b : ℕ) (rule other : PlanRule) → a < b → Contains (rules_of_action class sys K a) rule → Contains (rules_of_action class sys K b) other → NeverMatch sys.fluents rule other
   two_actions a b rule other less c d v long m k =
-      let same : a ≡ b = some_same a b (sym (takes a rule v c long m) ∙ takes b other v d long k) in
+      let same : a ≡ b = same_Some a b (sym (takes a rule v c long m) ∙ takes b other v d long k) in
       absurd (omega (arith, less, same))
 
   pub printed_apart : AreApart sys.fluents (map in_one_context rules)

@@ -5,6 +5,7 @@ use Rattle.std.proofs.lemmas.Bool.{eq-eqb, eqb-true}
 use Rattle.std.proofs.lemmas.List.{map-append, take_more}
 use Rattle.std.proofs.lemmas.List.Folds.{find-append, list_all-append}
 use Rattle.std.specs.declared.alloc.Global.{Global}
+use Rattle.list_laws.proofs.Booleans.{and_true}
 use Rattle.task_core.specs.Cubes.{Cube, matches}
 use Rattle.task_core.specs.Vectors.{Vector, same_value, value_of}
 use Rattle.task_core.specs.declared.literals.Lit.{Lit}
@@ -42,10 +43,6 @@ plan_move_push rules rule context v = found_push (λ (r : ContextRule). (r.conte
 pub matches_push : (cube : Cube) (lit : Lit) (v : Vector)
     → matches (cube ++ lit ∷ []) v ≡ (matches cube v && same_value (value_of v lit.fluent.0) lit.positive)
 matches_push cube lit v = list_all-append (λ (l : Lit). same_value (value_of v l.fluent.0) l.positive) cube (lit ∷ []) ∙ ap (λ b. matches cube v && b) (and_true (same_value (value_of v lit.fluent.0) lit.positive))
-  where
-    and_true : (b : Bool) → (b && true) ≡ b
-    and_true true = refl
-    and_true false = refl
 
 -- one rule more of those that are left
 first_more : (rules : List LeftRule) (i : ℕ) (rule : LeftRule) → i < length rules → rule ≡ get_or rules i rule → (v : Vector)

@@ -1,6 +1,5 @@
 -- What the configurations of a graph say of all that a plan may reach.
 use Rattle.std.proofs.Common.{◌≡◌, ◌⊎◌, ◌+◌, ◌++◌, ◌<◌, ◌≤◌, ℕ, Bool, List, length, take, inl, inr, arith, subst, sym}
-use Rattle.std.specs.Prelude.{IfOk, Result, Ok, Err}
 use Rattle.std.proofs.lemmas.Bool.{cases_lt}
 use Rattle.std.proofs.Math.Seq.{take-append_seam}
 use Rattle.std.proofs.lemmas.List.{length-map}
@@ -59,11 +58,6 @@ module _ (sys : System) (plan : PlainPlan) (graph : PlainGraph) (rules : List Co
 -- there are as many plain rules
 pub rule_inside : (run : RunRules) (k : ℕ) → k < length (plain_rules run) → k < length run.rules.items
 rule_inside run k inside = subst (λ m. k < m) (length-map run.rules.items run_value) inside
-
--- the same of a result
-pub ok_map : {X E : Type 0} (P Q : X → Type 0) (r : Result X E) → ((x : X) → P x → Q x) → IfOk r P → IfOk r Q
-ok_map P Q (Ok x) f h = f x h
-ok_map P Q (Err e) f h = tt
 
 -- all marks, before what was behind them
 pub marks_are : (len : ℕ) (marks rest : List Bool) → length marks ≡ len → take len (marks ++ rest) ≡ marks

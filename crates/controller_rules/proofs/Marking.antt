@@ -180,7 +180,7 @@ record GoesOnAs (n m contexts : ℕ) (rule : ContextRule) : Type 0 where
   next : ℕ
   is : rule.next ≡ always next
 
-all_marked : {X : Type 0} (P : X → Type 0) (marks : List Bool) (xs : List X) → All P xs → All P (marked marks xs)
+pub all_marked : {X : Type 0} (P : X → Type 0) (marks : List Bool) (xs : List X) → All P xs → All P (marked marks xs)
 all_marked P [] xs all = All-nil P
 all_marked P (mark ∷ marks) [] all = All-nil P
 all_marked P (true ∷ marks) (x ∷ xs) all = All-cons P x (marked marks xs) (All-head P x xs all) (all_marked P marks xs (All-tail P x xs all))

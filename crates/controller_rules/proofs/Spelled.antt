@@ -10,7 +10,7 @@ use Rattle.task_core.specs.Tasks.{action_count, action_names, fluent_count, flue
 use Rattle.task_core.specs.declared.tasks.Task.{Task}
 use Rattle.plan_document.specs.Faithful.{IsOneNext, IsToldInFull, IsToldRule}
 use Rattle.std.proofs.lemmas.List.{get_or_default, length-map}
-use Rattle.plan_rules.specs.Plans.{most_contexts, IsAutomatonOf, IsRuleOf, IsContextOf, IsContextRuleOf, IsNextOf, IsPlainPlanOf, IsPlanOf}
+use Rattle.plan_rules.specs.Plans.{most_contexts, IsAutomatonOf, IsRuleOf, IsContextRuleOf, IsNextOf, IsPlainPlanOf, IsPlanOf}
 use Rattle.plan_rules.specs.Readings.{AreSpellable, SpellsPlain}
 use Rattle.plan_rules.specs.Rules.{ContextRule, PlainPlan, PlanNext, PlanRule, always, automaton, by_cases, plain_of, table}
 use Rattle.plan_rules.specs.declared.rules.Plan.{Plan}
@@ -18,7 +18,7 @@ use Rattle.plan_rules.specs.Texts.{atom_text, class_word, context_rule_text, cub
 use Rattle.plan_rules.proofs.Decimals.{decimal-word}
 use Rattle.plan_rules.proofs.Pieces.{Reads, reads_group, reads_none, reads_space, reads_then, reads_word, spelled_whole}
 use Rattle.plan_rules.proofs.Printed.{class_is_word, cube_row, fixed, groups, reads_atom, reads_cube, reads_rule, reads_word_then, rule_row, table_shape}
-use Rattle.plan_rules.proofs.PrintedContexts.{context_rule_row, next_row, automaton_shape, rule_shape}
+use Rattle.plan_rules.proofs.PrintedContexts.{context_rule_row, next_row, automaton_shape, rule_shape, context-word}
 use Rattle.plan_rules.proofs.Spelled.{kind_row, from-row}
 use Rattle.controller_rules.specs.Texts.{controller_text, noted_text}
 use Rattle.controller_rules.proofs.Comments.{reads_noted}
@@ -38,12 +38,8 @@ reads_list d kind w z lines kind_is w_is reads =
     reads_then (in_parentheses inner) (10 ∷ []) (suc e) (row.group whole row.nil) row.nil (λ _ _. refl)
     (reads_group inner e whole inside) (reads_space 10 [] (suc e) row.nil refl (reads_none (suc e)))
 
--- the line of an automaton's rule, whose next context is one number
-context_word : (contexts n : ℕ) → contexts ≤ most_contexts → IsContextOf contexts n → IsWord (decimal n)
-context_word contexts n small is = let high : n ≤ contexts = is.last in decimal-word n (omega arith)
-
 reads_next : (fluents : List Name) (contexts d : ℕ) (next : PlanNext) → contexts ≤ most_contexts → IsOneNext next → IsNextOf (length fluents) contexts next → Reads (next_text fluents next) d (next_row fluents next)
-reads_next fluents contexts d (always n) small one is = reads_word (decimal n) d (context_word contexts n small is)
+reads_next fluents contexts d (always n) small one is = reads_word (decimal n) d (context-word contexts n small is)
 reads_next fluents contexts d (by_cases cases) small never is = absurd never
 
 reads_context_rule : (fluents actions : List Name) (contexts d : ℕ) (rule : ContextRule) → contexts ≤ most_contexts → AreSpellable fluents actions → IsContextRuleOf (length fluents) (length actions) contexts rule → IsToldRule rule
@@ -67,7 +63,7 @@ reads_context_rule fluents actions contexts d rule small names is told =
     (reads_cube fluents d rule.cube names.fluents_are.each is.cube)
     (reads_space 32 (y ++ (32 ∷ z)) e act refl after_cube) in
     let after_rule : Reads (n ++ (32 ∷ (x ++ (32 ∷ (y ++ (32 ∷ z)))))) e (row.word n cube) =
-    reads_word_then n (x ++ (32 ∷ (y ++ (32 ∷ z)))) e cube (context_word contexts rule.context small is.context) after_number in
+    reads_word_then n (x ++ (32 ∷ (y ++ (32 ∷ z)))) e cube (context-word contexts rule.context small is.context) after_number in
     let inner = codes "rule" ++ (32 ∷ (n ++ (32 ∷ (x ++ (32 ∷ (y ++ (32 ∷ z))))))) in
     let inside : Reads inner e whole_row =
     reads_word_then (codes "rule") (n ++ (32 ∷ (x ++ (32 ∷ (y ++ (32 ∷ z)))))) e (row.word n cube) (fixed 114 (codes "ule") refl) after_rule in

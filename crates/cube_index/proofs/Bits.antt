@@ -5,17 +5,10 @@ use Rattle.std.proofs.lemmas.Nat.Bits.{bit_at_and, bit_at-lt, bit_at-zero, bit_a
 use Rattle.std.proofs.lemmas.Bool.{cases_eq, cases_lt, cond-true, cond-false, eq-eqb, ne_eqb, and_left, and_right, lt-ltb, le-ltb, le-leb, lt-leb}
 use Rattle.task_core.specs.Vectors.{same_value}
 use Rattle.cube_index.specs.Agreement.{has_bit, wanted_at}
+use Rattle.list_laws.proofs.Booleans.{and_yes}
 use Rattle.list_laws.proofs.Numbers.{least_bit}
 
--- laws of "and"
-pub and_true : (x y : Bool) → y ≡ true → (x && y) ≡ x
-and_true true y e = e
-and_true false y e = refl
-
-pub and_assoc : (x y z : Bool) → (x && (y && z)) ≡ ((x && y) && z)
-and_assoc true y z = refl
-and_assoc false y z = refl
-
+-- the parts of "and" in another order
 pub and_swap : (x y z : Bool) → ((x && y) && z) ≡ ((x && z) && y)
 and_swap true true true = refl
 and_swap true true false = refl
@@ -68,19 +61,19 @@ has_bit_cleared word place k hp hk =
     ap (λ n. eqb n 1) bit ∙ sym (and_right (has_bit word k) (wanted_at place k false) (wanted_here place k false e)))
     (λ (ne : k ≡ place → ⊥).
     ap (λ n. eqb n 1) (bit_at_clear_other w64 word place hp k hk ne)
-    ∙ sym (and_true (has_bit word k) (wanted_at place k false) (wanted_elsewhere place k false ne)))
+    ∙ sym (and_yes (has_bit word k) (wanted_at place k false) (wanted_elsewhere place k false ne)))
     (cases_eq k place)
 
 -- the words of a test of which the cube at a place wants the fluent true, and false
 pub wants_true : (value : Bool) (if_true if_false place k : ℕ) → place < 64 → k < 64
     → has_bit (cond value if_true (cleared if_false place)) k ≡ (has_bit (cond value if_true if_false) k && wanted_at place k (same_value value true))
-wants_true true t f place k hp hk = sym (and_true (has_bit t k) (wanted_at place k true) (wanted_any place k))
+wants_true true t f place k hp hk = sym (and_yes (has_bit t k) (wanted_at place k true) (wanted_any place k))
 wants_true false t f place k hp hk = has_bit_cleared f place k hp hk
 
 pub wants_false : (value : Bool) (if_true if_false place k : ℕ) → place < 64 → k < 64
     → has_bit (cond value (cleared if_true place) if_false) k ≡ (has_bit (cond value if_true if_false) k && wanted_at place k (same_value value false))
 wants_false true t f place k hp hk = has_bit_cleared t place k hp hk
-wants_false false t f place k hp hk = sym (and_true (has_bit f k) (wanted_at place k true) (wanted_any place k))
+wants_false false t f place k hp hk = sym (and_yes (has_bit f k) (wanted_at place k true) (wanted_any place k))
 
 -- the word of all ones, moved up and down
 has_bit_from : (from k : ℕ) → from ≤ 64 → k < 64 → has_bit (18446744073709551615 * 2 ^ from % 18446744073709551616) k ≡ leb from k

@@ -1,11 +1,12 @@
 -- The list of the outcomes that leave a run, step by step and outcome by outcome.
-use Rattle.std.proofs.Common.{◌≡◌, ◌<◌, ◌++◌, ◌+◌, ◌≤◌, ◌||◌, ℕ, zero, suc, Bool, drop, get_or, List, [], ◌∷◌, None, Option, Some, length, map, refl, subst, sym, ap, ◌∙◌, append_assoc, arith}
+use Rattle.std.proofs.Common.{◌≡◌, ◌<◌, ◌++◌, ◌+◌, ◌≤◌, ◌||◌, ℕ, suc, Bool, drop, get_or, List, [], ◌∷◌, None, Option, Some, length, map, refl, subst, sym, ap, ◌∙◌, append_assoc, arith}
 use Rattle.std.specs.List.{All, filter_map, list_any, range_with_len}
 use Rattle.std.specs.Option.{option_map}
 use Rattle.std.specs.Prelude.{IfSome}
 use Rattle.std.proofs.Math.Seq.{drop-cons}
 use Rattle.std.proofs.lemmas.List.{append-nil, drop_all, map-append}
 use Rattle.std.proofs.lemmas.List.Elements.{All-cons, All-map, All-push, filter_map-append}
+use Rattle.list_laws.proofs.Ranges.{range-more}
 use Rattle.plan_witness.specs.Runs.{PlainStep}
 use Rattle.plan_witness.specs.Values.{run_value, step_value, steps_value}
 use Rattle.plan_witness.specs.Within.{IsRunWithin}
@@ -19,17 +20,6 @@ use Rattle.dead_ends.specs.Values.{AreWithin, listed_if, stray_value}
 use Rattle.dead_ends.specs.declared.strays.Stray.{Stray}
 use Rattle.task_core.specs.States.{IsWithin, vector}
 use Rattle.task_core.specs.declared.states.State.{State}
-
-range_more : (a k : ℕ) → range_with_len a (suc k) ≡ range_with_len a k ++ (a + k) ∷ []
-range_more a zero = let e : a ≡ a + 0 = omega arith in ap (λ x. x ∷ []) e
-range_more a (suc k) = let e : a + 1 + k ≡ a + suc k = omega arith in ap (λ l. a ∷ l) (range_more (a + 1) k ∙ ap (λ x. range_with_len (a + 1) k ++ x ∷ []) e)
-
--- one number more
-numbers_more : (k : ℕ) → range_with_len 0 (k + 1) ≡ range_with_len 0 k ++ k ∷ []
-numbers_more k =
-    let e : k + 1 ≡ suc k = omega arith in
-    let z : 0 + k ≡ k = omega arith in
-    ap (range_with_len 0) e ∙ range_more 0 k ∙ ap (λ x. range_with_len 0 k ++ x ∷ []) z
 
 one_value : (n : ℕ) (f : ℕ → Option PlainStray) (k : ℕ) (found : Option Stray) → option_map (stray_value n) found ≡ f k
     → map (stray_value n) (listed_if found) ≡ filter_map f (k ∷ [])
@@ -48,7 +38,7 @@ found_more n f k first now after found so_far is value =
     ∙ ap (λ xs. map (stray_value n) first ++ xs)
     (ap (λ xs. filter_map f (range_with_len 0 k) ++ xs) (one_value n f k found value)
     ∙ sym (filter_map-append f (range_with_len 0 k) (k ∷ []))
-    ∙ ap (filter_map f) (sym (numbers_more k)))
+    ∙ ap (filter_map f) (sym (range-more k)))
 
 -- each of them leads to a state of the task's fluents
 pub within_more : (n : ℕ) (now after : List Stray) (found : Option Stray) → after ≡ now ++ listed_if found

@@ -18,7 +18,7 @@ ghost use Rattle.task_core.specs.States.{vector};
 ghost use Rattle.task_core.specs.Tasks.{action_names, fluent_count, fluent_names};
 
 use crate::strays::Stray;
-use plan_rules::push_number;
+use plan_rules::{push_number, word_of};
 use plan_witness::{Run, RunStep};
 use state_text::{push_action, push_changes, push_step_number, push_true};
 use std::alloc::AllocError;
@@ -145,9 +145,5 @@ fn push_next(out: &mut String, step: usize) -> Result<(), AllocError>
 fn push_class(out: &mut String, class: Class) -> Result<(), AllocError>
     ensures { OnOk result (string_bytes out.new ≡ string_bytes out.old ++ class_word class) }
 {
-    match class {
-        Class::Weak => out.push_str("weak"),
-        Class::Strong => out.push_str("strong"),
-        Class::Cyclic => out.push_str("cyclic"),
-    }
+    out.push_str(word_of(class))
 }

@@ -1,18 +1,14 @@
 -- Places that were found already, by their numbers.
-use Rattle.std.proofs.Common.{◌≡◌, ℕ, zero, suc, ◌<◌, ◌≤◌, List, [], ◌∷◌, length, slice_get, slice_index_or, Some, refl, sym, ◌∙◌, ap, arith}
+use Rattle.std.proofs.Common.{◌≡◌, ℕ, ◌<◌, ◌≤◌, List, length, slice_get, slice_index_or, Some, sym, ◌∙◌, ap, arith}
 use Rattle.std.specs.Option.{option_map}
 use Rattle.std.proofs.lemmas.Option.{get_or_from_slice_get, slice_get-map, slice_get_within}
+use Rattle.list_laws.proofs.Elements.{contains_at}
 use Rattle.exec_graph.specs.Counting.{add_configuration}
 use Rattle.exec_graph.specs.Moves.{configuration_of, found_by, nowhere}
 use Rattle.exec_graph.specs.declared.graphs.Place.{Place}
 use Rattle.exec_graph.specs.declared.moves.Moves.{Moves}
-use Rattle.exec_graph.proofs.Listed.{added_same, number-Contains}
-
--- the place of a number that there is
-there : {X : Type 0} (xs : List X) (i : ℕ) → i < length xs → (x : X) × (slice_get xs i ≡ Some x)
-there [] i h = absurd (omega arith)
-there (x ∷ xs) zero h = (x, refl)
-there (x ∷ xs) (suc i) h = there xs i (omega arith)
+use Rattle.exec_graph.proofs.Listed.{added_same}
+use Rattle.exec_graph.proofs.Skipped.{element}
 
 -- and its configuration
 pub found_at : (n : ℕ) (moves : Moves) (number : ℕ) (place : Place) → slice_get moves.places.keys number ≡ Some place
@@ -33,12 +29,12 @@ pub record KnownPlace (n : ℕ) (moves : Moves) (number : ℕ) : Type 0 where
 
 pub known_place : (n : ℕ) (moves : Moves) (number : ℕ) → number < length moves.places.keys → KnownPlace n moves number
 known_place n moves number h =
-    let w = there moves.places.keys number h in
+    let w = element moves.places.keys number h in
     let at = found_at n moves number w.0 w.1 in
     record {
       place = w.0;
       found = at;
-      same = sym (added_same (found_by n moves) (configuration_of n w.0) (number-Contains (found_by n moves) number (configuration_of n w.0) at));
+      same = sym (added_same (found_by n moves) (configuration_of n w.0) (contains_at (found_by n moves) number (configuration_of n w.0) at));
       here = here_is n moves number w.0 w.1;
       marked = λ marks e. (let l = slice_get_within (found_by n moves) number (configuration_of n w.0) at in omega (arith, e, l));
     }

@@ -48,6 +48,10 @@ pub added_all : (P : Configuration → Type 0) (xs : List Configuration) (x : Co
 added_all P xs x all here = add_cases (All P) xs x (λ _. all) (λ _. All-push P xs x all here)
 
 -- what stands at a place of the front
+pub get-last : {X : Type 0} (xs : List X) (y : X) → slice_get (xs ++ y ∷ []) (length xs) ≡ Some y
+get-last [] y = refl
+get-last (x ∷ xs) y = get-last xs y
+
 pub get-front : {X : Type 0} (xs ys : List X) (i : ℕ) (x : X) → slice_get xs i ≡ Some x → slice_get (xs ++ ys) i ≡ Some x
 get-front [] ys i x e = absurd (none-some x e)
 get-front (y ∷ xs) ys zero x e = e
@@ -117,9 +121,6 @@ fold_different xs differ = fold_apart [] xs (λ y c d. Contains-nil y c) differ
 -- the place of an element
 pub Contains-number : {X : Type 0} (xs : List X) (x : X) → Contains xs x → (i : ℕ) × (i < length xs) × (slice_get xs i ≡ Some x)
 Contains-number xs x c = (c.0, c.1, slice_get-get_or xs c.0 x c.1 ∙ ap Some c.2)
-
-pub number-Contains : {X : Type 0} (xs : List X) (i : ℕ) (x : X) → slice_get xs i ≡ Some x → Contains xs x
-number-Contains xs i x e = (i, slice_get_within xs i x e, get_or_from_slice_get xs i x x e)
 
 pub All-number : {X : Type 0} (P : X → Type 0) (xs : List X) (i : ℕ) (x : X) → All P xs → slice_get xs i ≡ Some x → P x
 All-number P xs i x all e = subst P (get_or_from_slice_get xs i x x e) (all i x (slice_get_within xs i x e))

@@ -11,9 +11,9 @@ use Rattle.exec_graph.specs.Counting.{add_configuration}
 use Rattle.exec_graph.specs.Moves.{AreListed, AreMoves, HasGrown, IsBeforeVisit, IsMarkedAt, IsPlaceWithin, configuration_of, found_by, listed_at, moves_value, nowhere, with_configuration}
 use Rattle.exec_graph.specs.declared.graphs.Place.{Place}
 use Rattle.exec_graph.specs.declared.moves.Moves.{Moves}
-use Rattle.exec_graph.proofs.Listed.{AreDifferent, add_cases, added_differ, added_get, added_same, all_added_has, number-Contains, one_number}
+use Rattle.exec_graph.proofs.Listed.{AreDifferent, add_cases, added_differ, added_get, added_same, all_added_has, one_number}
 use Rattle.list_laws.proofs.Booleans.{not_false}
-use Rattle.list_laws.proofs.Elements.{Contains-cases, Contains-cons, Contains-head, Contains-map, Contains-map-witness, Contains-nil}
+use Rattle.list_laws.proofs.Elements.{Contains-cases, Contains-cons, Contains-head, Contains-map, Contains-map-witness, Contains-nil, contains_at}
 
 -- the place at which an added configuration stands, one of before or the next one
 pub number_before : (found : List Configuration) (x : Configuration) (k : ℕ) → k < length found
@@ -22,7 +22,7 @@ number_before found x k l at =
     let before : slice_get found k ≡ Some (slice_index_or found k x) = slice_get-get_or found k x l in
     let same : slice_index_or found k x ≡ x =
     same_Some (slice_index_or found k x) x (sym (added_get found x k (slice_index_or found k x) before) ∙ at) in
-    number-Contains found k x (before ∙ ap Some same)
+    contains_at found k x (before ∙ ap Some same)
 
 pub number_next : (found : List Configuration) (x : Configuration) (k : ℕ)
     → slice_get (add_configuration found x) k ≡ Some x → length found ≤ k → (k ≡ length found) × (length (add_configuration found x) ≡ length found + 1)

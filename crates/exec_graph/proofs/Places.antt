@@ -24,7 +24,7 @@ place_eq_is : (a b : Place) → place_eq a b ≡ (state_eq a.state b.state && eq
 place_eq_is a b = refl
 
 -- it is that of their configurations
-same_places : (n : ℕ) (a b : Place) → IsPlaceWithin n a → IsPlaceWithin n b
+pub same_places : (n : ℕ) (a b : Place) → IsPlaceWithin n a → IsPlaceWithin n b
     → place_eq a b ≡ same_configuration (configuration_of n a) (configuration_of n b)
 same_places n a b wa wb =
     place_eq_is a b ∙ ap (λ t. t && eqb a.context b.context) (same_as_vectors n a.state b.state wa wb)

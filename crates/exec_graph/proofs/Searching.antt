@@ -19,14 +19,14 @@ use Rattle.exec_graph.specs.Orders.{AreInOrderMet, in_first, onward}
 use Rattle.exec_graph.proofs.Ordered.{order_kept}
 use Rattle.exec_graph.specs.Executions.{GoesTo, IsReachedBy, IsStuckAt, IsUnexecutableAt, ReachesMoreThan}
 use Rattle.exec_graph.specs.Graphs.{IsGraphOf, PlainGraph}
-use Rattle.exec_graph.proofs.Listed.{AreDifferent, All-number, Contains-number, all_added_all, all_added_differ, all_added_get, all_added_length, get-front, number-Contains, one_number}
+use Rattle.exec_graph.proofs.Listed.{AreDifferent, All-number, Contains-number, all_added_all, all_added_differ, all_added_get, all_added_length, get-front, one_number, get-last}
 use Rattle.exec_graph.proofs.Places.{same_configuration_equal, same_configuration_refl}
 use Rattle.exec_graph.proofs.Reaching.{goes_to_state, reached_first, reached_keeps, reached_next}
 use Rattle.exec_graph.specs.Rows.{edges_of, sources}
 use Rattle.exec_graph.proofs.RowFacts.{source_from, source_means, sources_once}
 use Rattle.exec_graph.proofs.RuleMoves.{goes_next, lost_means, next_differ, next_goes, refused_means}
 use Rattle.list_laws.proofs.Distinct.{first_once, rest_once}
-use Rattle.list_laws.proofs.Elements.{Contains-cases, Contains-cons, Contains-head, Contains-map-witness, Contains-nil, map-range}
+use Rattle.list_laws.proofs.Elements.{Contains-cases, Contains-cons, Contains-head, Contains-map-witness, Contains-nil, map-range, contains_at}
 
 -- `same_configuration` decides whether two configurations are the same
 same_decides : (x y : Configuration) → Decides (same_configuration x y) (x ≡ y)
@@ -87,10 +87,6 @@ get-before : {X : Type 0} (xs ys : List X) (i : ℕ) (x : X) → i < length xs �
 get-before xs ys i x h e =
     let k = get-known xs i x h in
     k.1 ∙ sym (get-front xs ys i k.0 k.1) ∙ e
-
-get-last : {X : Type 0} (xs : List X) (y : X) → slice_get (xs ++ y ∷ []) (length xs) ≡ Some y
-get-last [] y = refl
-get-last (x ∷ xs) y = get-last xs y
 
 module _ (sys : System) (plan : PlainPlan) where
   -- what is known of a visited configuration stays when more are found
@@ -220,7 +216,7 @@ module _ (sys : System) (plan : PlainPlan) where
       let s = get-known sys.initial i x.state l in
       let known = d.begun i (in_first s.0) (slice_get-map in_first sys.initial i ∙ ap (option_map in_first) s.1) in
       let same : in_first s.0 ≡ x = same_Some (in_first s.0) x (sym known ∙ at) in
-      subst (IsInitial sys) same (record { state = number-Contains sys.initial i s.0 s.1; context = refl })
+      subst (IsInitial sys) same (record { state = contains_at sys.initial i s.0 s.1; context = refl })
 
   -- a draft in which every configuration was visited has all that the plan reaches
   module _ (draft : PlainDraft) (d : IsSearched sys plan draft) (whole : length draft.next ≡ length draft.found) where
@@ -232,11 +228,11 @@ module _ (sys : System) (plan : PlainPlan) where
 
     pub all_found : (x : Configuration) → IsReachedBy sys plan x → Contains draft.found x
     all_found = reached_keeps sys (Contains draft.found) plan
-        (λ x first. let w = begun_found draft d x first in number-Contains draft.found w.0 x w.2)
+        (λ x first. let w = begun_found draft d x first in contains_at draft.found w.0 x w.2)
         (λ x y c g.
         let at = Contains-number draft.found x c in
         let w = (visited at.0 x at.2).2.whole y g in
-        number-Contains draft.found w.number y w.is)
+        contains_at draft.found w.number y w.is)
 
     mark_whole : (P : Configuration → Type 0) (b : Bool) → (IsTrue b ↔ SomeOfFirst P draft.found (length draft.next))
         → IsTrue b ↔ ((x : Configuration) × IsReachedBy sys plan x × P x)

@@ -12,9 +12,9 @@ use task_core::State;
 
 /// A configuration: a state, and the context that the plan is in.
 #[derive(Clone, Copy, Debug, PartialEq, Eq, Hash)]
-pub(crate) struct Place {
-    pub(crate) state: State,
-    pub(crate) context: u32,
+pub struct Place {
+    pub state: State,
+    pub context: u32,
 }
 
 /// The graph of a plan in a task: the configurations that the plan may reach, numbered from 0 in

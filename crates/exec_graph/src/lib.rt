@@ -18,5 +18,5 @@ mod rules;
 mod steps;
 
 pub use exploration::{GraphErr, MAX_CONFIGURATIONS, explore};
-pub use graphs::Graph;
+pub use graphs::{Graph, Place};
 pub use steps::Steps;

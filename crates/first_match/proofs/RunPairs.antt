@@ -1,6 +1,6 @@
 -- The pairs of the table of first matching rules, and the states that it may reach.
-use Rattle.std.proofs.Common.{◌≡◌, ℕ, Bool, true, ◌&&◌, ◌==◌, ◌<◌, eqb, false, List, [], ◌∷◌, Option, Some, None, refl, sym, ap, ◌∙◌, subst}
-use Rattle.std.specs.List.{Contains, filter, find, list_any, range_with_len}
+use Rattle.std.proofs.Common.{◌≡◌, ℕ, Bool, true, ◌&&◌, ◌==◌, ◌<◌, eqb, false, List, Option, Some, None, refl, sym, ap, ◌∙◌, subst}
+use Rattle.std.specs.List.{Contains, filter, find, range_with_len}
 use Rattle.std.specs.Option.{option_map_or}
 use Rattle.std.proofs.lemmas.Bool.{and_from, and_parts, eq-eqb, eqb-true, false≢true}
 use Rattle.list_laws.proofs.Elements.{Contains-filter, Contains-filter-witness, Contains-flat_map, Contains-flat_map-witness, Contains-map, Contains-map-witness, Contains-range_with_len, Contains-range_with_len-below, find-found, list_any-from}
@@ -12,7 +12,7 @@ use Rattle.task_core.proofs.Paths.{path_keeps}
 use Rattle.task_core.proofs.Vectors.{all_vectors_has, all_vectors_length}
 use Rattle.plan_rules.specs.Denoted.{advises, can_execute, denoted}
 use Rattle.plan_rules.specs.Rules.{PlanRule}
-use Rattle.plan_rules.proofs.DenotedPairs.{can_execute-Exec, denoted-from}
+use Rattle.plan_rules.proofs.DenotedPairs.{can_execute-Exec, denoted-from, Exec-can_execute}
 use Rattle.task_core.specs.Cubes.{matches}
 use Rattle.first_match.specs.FirstMatch.{begins_with_action, first_rule, run_at, run_table}
 use Rattle.first_match.proofs.SameRuns.{reached_onward, reached_start}
@@ -89,15 +89,8 @@ module _ (sys : System) where
       denoted-from sys rules s a (record { vector = is.vector; below = is.below; advised = begins_advised rules s a is.begins; executable = is.executable })
 
 module _ (sys : System) (ok : IsSystem sys) (rules : List PlanRule) where
-  pub exec_can : (s : Vector) (a : ℕ) → Exec sys s a → can_execute sys s a ≡ true
-  exec_can s a exec = go (sys.next s a) exec
-    where
-      go : (ts : List Vector) → (ts ≡ [] → ⊥) → list_any (λ (t : Vector). true) ts ≡ true
-      go [] some = absurd (some refl)
-      go (t ∷ ts) some = refl
-
   pub pair_in : (s : Vector) (a : ℕ) → IsPair sys rules s a → Contains (run_table sys rules) (s, a)
-  pair_in s a p = run_from sys rules s a (record { vector = p.vector; below = ok.actions s a p.executable; begins = p.advised; executable = exec_can s a p.executable })
+  pair_in s a p = run_from sys rules s a (record { vector = p.vector; below = ok.actions s a p.executable; begins = p.advised; executable = Exec-can_execute sys s a p.executable })
 
   pub pair_of : (s : Vector) (a : ℕ) → Contains (run_table sys rules) (s, a) → IsPair sys rules s a
   pair_of s a c = let is = run_pair sys rules s a c in record { vector = is.vector; advised = is.begins; executable = can_execute-Exec sys s a is.executable }

@@ -3,11 +3,11 @@
 ghost use Rattle.never_executed.specs.Goals.{IsGoalNever, goal_is_false};
 ghost use Rattle.never_executed.specs.Parts.{IsFalsePart};
 ghost use Rattle.relaxed_reach.specs.Literals.{has};
-ghost use Rattle.std.specs.Prelude.{◌≡◌, IfNone, IfSome, IsTrue, None, Some, false, true};
+ghost use Rattle.std.specs.Prelude.{◌≡◌, IfNone, IfSome, IsTrue, false};
 ghost use Rattle.task_core.specs.Conditions.{ids_below};
 
 use crate::parts::is_false_part;
-use relaxed_reach::{Literals, can_be};
+use relaxed_reach::{Literals, can_be, goal_of};
 use task_core::{Cond, Task};
 
 /// That a goal never holds.
@@ -31,15 +31,6 @@ pub fn goal_never(task: &Task, literals: &Literals) -> Option<GoalNever>
     Some(GoalNever {
         part: false_part(goal, literals),
     })
-}
-
-/// The goal of a task.
-fn goal_of(task: &Task) -> Option<&Cond>
-    ensures wanted { IfSome result (λ goal. task.now.goal ≡ Some goal.now) }
-    ensures none { IfNone result (task.now.goal ≡ None) }
-    ensures below { IfSome result (λ goal. ids_below 256 goal.now ≡ true) }
-{
-    task.goal.as_ref()
 }
 
 /// The first part of a condition that can't hold.

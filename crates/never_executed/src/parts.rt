@@ -1,12 +1,12 @@
 //! Parts of a condition by their numbers.
 
 ghost use Rattle.never_executed.specs.Parts.{IsFalseAt, IsFalsePart};
-ghost use Rattle.never_reasons.specs.Blocked.{conjuncts};
-ghost use Rattle.relaxed_reach.specs.Literals.{can_be as can_have, has};
+ghost use Rattle.relaxed_reach.specs.Literals.{has};
 ghost use Rattle.std.specs.List.{list_all};
-ghost use Rattle.std.specs.Prelude.{◌≡◌, ◌∷◌, [], IfNone, IfSome, IsTrue, false, true};
+ghost use Rattle.std.specs.Prelude.{◌≡◌, ◌∷◌, [], IsTrue, true};
 ghost use Rattle.task_core.specs.Conditions.{ids_below};
 
+use never_reasons::parts_of;
 use relaxed_reach::{Literals, can_be};
 use task_core::Cond;
 
@@ -19,19 +19,6 @@ pub(crate) fn is_false_part(cond: &Cond, part: usize, literals: &Literals) -> bo
     match parts_of(cond) {
         Some(parts) => is_false_at(parts, part, literals),
         None => is_false_alone(cond, part, literals),
-    }
-}
-
-/// The parts of a conjunction.
-fn parts_of(cond: &Cond) -> Option<&[Cond]>
-    ensures some { IfSome result (λ parts. parts.now ≡ conjuncts cond.now) }
-    ensures none { IfNone result (cond.now ∷ [] ≡ conjuncts cond.now) }
-    ensures below { IfSome result (λ parts. IsTrue (ids_below 256 cond.now)
-        → list_all (ids_below 256) parts.now ≡ true) }
-{
-    match cond {
-        Cond::All(parts) => Some(parts),
-        _ => None,
     }
 }
 

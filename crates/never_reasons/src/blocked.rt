@@ -40,7 +40,7 @@ pub fn push_blocked<'a>(
 }
 
 /// The parts of a conjunction.
-fn parts_of(cond: &Cond) -> Option<&[Cond]>
+pub fn parts_of(cond: &Cond) -> Option<&[Cond]>
     ensures some { IfSome result (λ parts. parts.now ≡ conjuncts cond.now) }
     ensures none { IfNone result (cond.now ∷ [] ≡ conjuncts cond.now) }
     ensures below { IfSome result (λ parts. IsTrue (ids_below 256 cond.now)

@@ -8,7 +8,7 @@ mod queue;
 mod relaxed;
 mod texts;
 
-pub use blocked::push_blocked;
+pub use blocked::{parts_of, push_blocked};
 pub use makers::{Maker, lacks_of, makers_of};
 pub use queue::never_literals;
 pub use relaxed::Relaxed;

@@ -2,9 +2,9 @@
 use Rattle.std.proofs.Common.{◌≡◌, ℕ, ◌<◌, ◌≤◌, Bool, true, false, not, ◌&&◌, ◌||◌, ◌⊎◌, if◌then◌else◌, List, refl, sym, ◌∙◌, ap, subst, inl, inr, ⊎_elim}
 use Rattle.std.specs.Prelude.{◌==◌}
 use Rattle.std.specs.List.{All, Contains, list_all, list_any}
-use Rattle.std.proofs.lemmas.Bool.{and_parts, and_from, cases_Bool, cases_eq, cases_lt, eqb-true, false≢true, or_cases}
+use Rattle.std.proofs.lemmas.Bool.{and_parts, and_from, cases_Bool, cases_eq, cases_lt, false≢true, or_cases, eqb-true}
 use Rattle.std.proofs.lemmas.List.Elements.{All-weaker}
-use Rattle.list_laws.proofs.Booleans.{not_true}
+use Rattle.list_laws.proofs.Booleans.{not_true, true_and_false}
 use Rattle.list_laws.proofs.Elements.{list_all-at, list_any-false, list_any-from, list_any-witness}
 use Rattle.task_core.specs.Actions.{after_value, change_makes}
 use Rattle.task_core.specs.Conditions.{holds}
@@ -23,9 +23,6 @@ use Rattle.relaxed_reach.proofs.Monotone.{can_be_sound}
 use Rattle.one_of_groups.specs.Cases.{AreIn, IsFew, KeepsAt, Moves, adds_other, are_paired, is_other, is_sure, makes_surely, may_add_other, may_move}
 use Rattle.one_of_groups.specs.Groups.{Group, HasOne, IsTheOne}
 
-pub never : (b : Bool) → b ≡ true → b ≡ false → ⊥
-never b there gone = false≢true (sym gone ∙ there)
-
 -- the values are in the set of literals in which the one member is true, and no other
 pub those_are_in : (set : Literals) (others : ℕ → Bool) (g : ℕ)
     → truth set.possible g ≡ true → ((f : ℕ) → (f ≡ g → ⊥) → truth set.possible f ≡ others f)
@@ -43,10 +40,10 @@ those_are_in set others g here there certain group value opposite is few f =
     by true t =
         ⊎_elim (λ (e : f ≡ g). subst (λ k. truth set.possible k ≡ true) (sym e) here)
         (λ (n : f ≡ g → ⊥). there f n ∙ ⊎_elim (λ (h : f < 256). opposite f h ∙ outside (group f) refl t n)
-        (λ (h : 256 ≤ f). absurd (never (value f) t (few f h))) (cases_lt f 256))
+        (λ (h : 256 ≤ f). absurd (true_and_false (value f) t (few f h))) (cases_lt f 256))
         (cases_eq f g)
     by false t =
-        ⊎_elim (λ (e : f ≡ g). absurd (never (value f) (subst (λ k. value k ≡ true) (sym e) is.holds) t))
+        ⊎_elim (λ (e : f ≡ g). absurd (true_and_false (value f) (subst (λ k. value k ≡ true) (sym e) is.holds) t))
         (λ (n : f ≡ g → ⊥). ap not (certain f n))
         (cases_eq f g)
 
@@ -88,7 +85,7 @@ moved_on group value adds deletes g to is member alone on back =
             (λ (kept : (deletes other ≡ false) × (value other ≡ true)).
             let same : other ≡ g = is.only other there kept.1 in
             ⊎_elim (λ (e : g ≡ to). same ∙ e)
-            (λ (b : adds to ≡ true → deletes g ≡ true). absurd (never (deletes other) (subst (λ k. deletes k ≡ true) (sym same) (b added)) kept.0)) back)
+            (λ (b : adds to ≡ true → deletes g ≡ true). absurd (true_and_false (deletes other) (subst (λ k. deletes k ≡ true) (sym same) (b added)) kept.0)) back)
             (changed_true (adds other) (deletes other) (value other) now);
       };
     }
@@ -99,17 +96,14 @@ moved_on group value adds deletes g to is member alone on back =
       is = record {
         member = is.member;
         holds = changed_not (adds g) (deletes g) (value g)
-            (⊎_elim (λ (d : deletes g ≡ true). absurd (never (adds to) (on d) none)) (λ (d : deletes g ≡ false). d) (cases_Bool (deletes g)))
+            (⊎_elim (λ (d : deletes g ≡ true). absurd (true_and_false (adds to) (on d) none)) (λ (d : deletes g ≡ false). d) (cases_Bool (deletes g)))
             is.holds;
         only = λ other there now.
-            ⊎_elim (λ (a : adds other ≡ true). absurd (never (adds to) (subst (λ k. adds k ≡ true) (alone other there a) a) none))
+            ⊎_elim (λ (a : adds other ≡ true). absurd (true_and_false (adds to) (subst (λ k. adds k ≡ true) (alone other there a) a) none))
             (λ (kept : (deletes other ≡ false) × (value other ≡ true)). is.only other there kept.1)
             (changed_true (adds other) (deletes other) (value other) now);
       };
     }
-
-pub equal_to : (a b : ℕ) → (a == b) ≡ true → a ≡ b
-equal_to a b e = eqb-true a b e
 
 -- what the tests of literals say of them
 pub alone_in : (group : Group) (lits : Cube) (to : ℕ) → adds_other group to lits ≡ false → (f : ℕ) → group f ≡ true → names_it true f lits ≡ true → f ≡ to
@@ -117,9 +111,9 @@ alone_in group lits to none f there named =
     let found = list_any-witness (λ (lit : Lit). (lit.fluent.0 == f) && same_value lit.positive true) lits named in
     let lit = found.0 in
     let says = and_parts (lit.fluent.0 == f) (same_value lit.positive true) found.2 in
-    let same : lit.fluent.0 ≡ f = equal_to lit.fluent.0 f says.0 in
+    let same : lit.fluent.0 ≡ f = eqb-true lit.fluent.0 f says.0 in
     let not_other : is_other group to lit ≡ false = list_any-false (is_other group to) lits lit none found.1 in
-    sym same ∙ equal_to lit.fluent.0 to
+    sym same ∙ eqb-true lit.fluent.0 to
     (third lit.positive (group lit.fluent.0) (lit.fluent.0 == to) (same_value_equal lit.positive true says.1) (subst (λ k. group k ≡ true) (sym same) there) not_other)
   where
     third : (a b c : Bool) → a ≡ true → b ≡ true → ((a && b) && not c) ≡ false → c ≡ true
@@ -155,7 +149,7 @@ module _ (set : LiteralSet) (value : ℕ → Bool) (are : AreIn set value) where
   must : (c : Change) → can_be c.cond set false ≡ false → holds c.cond value ≡ true
   must c never_false =
       ⊎_elim (λ (h : holds c.cond value ≡ true). h)
-      (λ (h : holds c.cond value ≡ false). absurd (never (can_be c.cond set false) (subst (λ b. can_be c.cond set b ≡ true) h (can_be_sound c.cond set value are)) never_false))
+      (λ (h : holds c.cond value ≡ false). absurd (true_and_false (can_be c.cond set false) (subst (λ b. can_be c.cond set b ≡ true) h (can_be_sound c.cond set value are)) never_false))
       (cases_Bool (holds c.cond value))
 
   -- what is added or deleted is so by a change that comes about
@@ -205,7 +199,7 @@ module _ (set : LiteralSet) (value : ℕ → Bool) (are : AreIn set value) where
       let lands : (is_sure set to true changes && (g == to || is_sure set g false changes)) ≡ true → HasOne group (after_value o value) = λ h.
       let parts = and_parts (is_sure set to true changes) (g == to || is_sure set g false changes) h in
       moved_on group value adds deletes g to is moves.member alone (λ _. sure_makes changes true to parts.0)
-      (⊎_elim (λ (e : (g == to) ≡ true). inl (equal_to g to e)) (λ (e : is_sure set g false changes ≡ true). inr (λ _. sure_makes changes false g e))
+      (⊎_elim (λ (e : (g == to) ≡ true). inl (eqb-true g to e)) (λ (e : is_sure set g false changes ≡ true). inr (λ _. sure_makes changes false g e))
       (or_cases (g == to) (is_sure set g false changes) parts.1)) in
       let pairs : list_all (may_move set g to) changes ≡ true → HasOne group (after_value o value) = λ h.
       let pair : (c : Change) → Contains changes c → holds c.cond value ≡ true → are_paired g to c.lits.items ≡ true = λ c listed comes.
@@ -213,7 +207,7 @@ module _ (set : LiteralSet) (value : ℕ → Bool) (are : AreIn set value) where
       moved_on group value adds deletes g to is moves.member alone
       (λ deleted. let by = made_by changes false g deleted in
       makes changes true to by.change by.listed (paired_on g to by.change.lits.items (pair by.change by.listed by.comes) by.names) by.comes)
-      (⊎_elim (λ (e : (g == to) ≡ true). inl (equal_to g to e))
+      (⊎_elim (λ (e : (g == to) ≡ true). inl (eqb-true g to e))
       (λ (e : (g == to) ≡ false). inr (λ added. let by = made_by changes true to added in
       makes changes false g by.change by.listed (paired_back g to by.change.lits.items (pair by.change by.listed by.comes) e by.names) by.comes))
       (cases_Bool (g == to))) in
@@ -224,7 +218,7 @@ pub idle_keeps : (group : Group) (g : ℕ) (set : LiteralSet) (action : GroundAc
     → ((value : ℕ → Bool) → IsTheOne group g value → IsFew value → AreIn set value)
     → can_be action.exec set true ≡ false → KeepsAt group g action
 idle_keeps group g set action are never_holds value is few holding =
-    absurd (never (can_be action.exec set true) (subst (λ b. can_be action.exec set b ≡ true) holding (can_be_sound action.exec set value (are value is few))) never_holds)
+    absurd (true_and_false (can_be action.exec set true) (subst (λ b. can_be action.exec set b ≡ true) holding (can_be_sound action.exec set value (are value is few))) never_holds)
 
 -- one whose outcomes move the truth keeps it
 pub moving_keeps : (group : Group) (g : ℕ) (set : LiteralSet) (action : GroundAction)

@@ -7,6 +7,7 @@ use Rattle.std.specs.Option.{option_map_or}
 use Rattle.std.proofs.lemmas.Bool.{and_parts, cases_Bool, cases_lt, false≢true}
 use Rattle.std.proofs.lemmas.List.{get_or_past}
 use Rattle.std.proofs.lemmas.List.Elements.{All-contains}
+use Rattle.list_laws.proofs.Booleans.{true_and_false}
 use Rattle.list_laws.proofs.Elements.{Contains-nil, list_all-from, contains_at}
 use Rattle.task_core.specs.Actions.{after, after_value}
 use Rattle.task_core.specs.Conditions.{holds}
@@ -33,14 +34,13 @@ use Rattle.relaxed_reach.proofs.Soundness.{outcomes_of}
 use Rattle.one_of_groups.specs.Cases.{AreIn, IsFew, Keeps, KeepsAt}
 use Rattle.one_of_groups.specs.Follows.{ExcludesNothing, Follows, FollowsAt, FollowsFrom}
 use Rattle.one_of_groups.specs.Groups.{AreInductive, Group, HasOne, IsInductive, IsOneOf, IsTheOne, precondition_holds}
-use Rattle.one_of_groups.proofs.CaseLemmas.{never}
 use Rattle.one_of_groups.proofs.StartLemmas.{one_in_mapped}
 
 -- an action keeps it, whichever member is the one: there are none past the last
 pub keeps_all : (members : State) (action : GroundAction) (count : ℕ) → IsWithin count members
     → ((f : ℕ) → f < count → truth members f ≡ true → KeepsAt (truth members) f action) → Keeps (truth members) action
 keeps_all members action count within keeps g there =
-    ⊎_elim (λ (h : g < count). keeps g h there) (λ (h : count ≤ g). absurd (never (truth members g) there (within g h))) (cases_lt g count)
+    ⊎_elim (λ (h : g < count). keeps g h there) (λ (h : count ≤ g). absurd (true_and_false (truth members g) there (within g h))) (cases_lt g count)
 
 -- past the last fluent none is true
 few : (task : Task) (v : Vector) → length v ≡ fluent_count task → IsFew (value_of v)
@@ -126,7 +126,7 @@ pub follows_from_each : (group : Group) (cond : Cond) → ((f : ℕ) → 256 ≤
     → ((f : ℕ) → f < 256 → group f ≡ true → FollowsAt group f cond) → FollowsFrom group cond
 follows_from_each group cond within at value one is_few =
     ⊎_elim (λ (h : one.fluent < 256). at one.fluent h one.is.member value one.is is_few)
-    (λ (h : 256 ≤ one.fluent). absurd (never (group one.fluent) one.is.member (within one.fluent h)))
+    (λ (h : 256 ≤ one.fluent). absurd (true_and_false (group one.fluent) one.is.member (within one.fluent h)))
     (cases_lt one.fluent 256)
 
 -- where it can't be false, it holds
@@ -134,7 +134,7 @@ pub cannot_fail : (group : Group) (g : ℕ) (cond : Cond) (set : LiteralSet) →
     → can_be cond set false ≡ false → FollowsAt group g cond
 cannot_fail group g cond set are never_false value is is_few =
     ⊎_elim (λ (h : holds cond value ≡ true). h)
-    (λ (h : holds cond value ≡ false). absurd (never (can_be cond set false) (subst (λ b. can_be cond set b ≡ true) h (can_be_sound cond set value (are value is is_few))) never_false))
+    (λ (h : holds cond value ≡ false). absurd (true_and_false (can_be cond set false) (subst (λ b. can_be cond set b ≡ true) h (can_be_sound cond set value (are value is is_few))) never_false))
     (cases_Bool (holds cond value))
 
 -- a conjunction follows where each part does

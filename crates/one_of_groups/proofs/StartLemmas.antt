@@ -3,10 +3,11 @@ use Rattle.std.proofs.Common.{◌≡◌, ℕ, ◌+◌, ◌<◌, ◌≤◌, Bool,
 use Rattle.std.specs.Prelude.{◌==◌, Vec}
 use Rattle.std.specs.declared.alloc.Global.{Global}
 use Rattle.std.specs.List.{All, Contains, flat_map, list_all, list_any, range_with_len}
-use Rattle.std.proofs.lemmas.Bool.{and_from, and_parts, cases_Bool, cases_lt, false≢true}
+use Rattle.std.proofs.lemmas.Bool.{and_from, and_parts, cases_Bool, cases_lt, false≢true, eqb-true}
 use Rattle.std.proofs.lemmas.List.{take_all}
 use Rattle.std.proofs.lemmas.List.Elements.{All-contains, All-map, Contains-append_cases}
 use Rattle.std.proofs.lemmas.List.FromFn.{get_or-map-range_with_len}
+use Rattle.list_laws.proofs.Booleans.{true_and_false}
 use Rattle.list_laws.proofs.Elements.{Contains-cases, Contains-cons, Contains-head, Contains-nil, list_any-false, list_any-none}
 use Rattle.task_core.specs.Cubes.{Cube}
 use Rattle.task_core.specs.Initial.{Entry, add_state, after_entries, after_entry, applied, applied_value, entries_of, entry_of, facts_of, lit_within, names_it}
@@ -24,7 +25,7 @@ use Rattle.one_of_groups.specs.Groups.{Group, HasOne}
 use Rattle.one_of_groups.specs.Starts.{AreAfter, HasNone, KeepsOne, LeadsTo, Says}
 use Rattle.one_of_groups.specs.declared.starts.Known.{Known}
 use Rattle.one_of_groups.specs.declared.starts.Known.TheVariants.{NoneTrue, OneTrue, Unknown}
-use Rattle.one_of_groups.proofs.CaseLemmas.{alone_in, changed_true, equal_to, moved_on, never, paired_back, paired_on}
+use Rattle.one_of_groups.proofs.CaseLemmas.{alone_in, changed_true, moved_on, paired_back, paired_on}
 
 -- what is said of a group is said of any values that agree on its members
 pub one_agrees : (group : Group) (value other : ℕ → Bool) → ((f : ℕ) → group f ≡ true → value f ≡ other f) → HasOne group value → HasOne group other
@@ -66,10 +67,10 @@ none_added group lits none value says f there =
       where
         by : (lit : Lit) (b : Bool) → (lit.fluent.0 == f) ≡ b → (lit.positive && group lit.fluent.0) ≡ false → (b && same_value lit.positive true) ≡ false
         by lit false e out = refl
-        by lit true e out = go lit.positive (group lit.fluent.0) (subst (λ k. group k ≡ true) (sym (equal_to lit.fluent.0 f e)) there) out
+        by lit true e out = go lit.positive (group lit.fluent.0) (subst (λ k. group k ≡ true) (sym (eqb-true lit.fluent.0 f e)) there) out
           where
             go : (p g : Bool) → g ≡ true → (p && g) ≡ false → same_value p true ≡ false
-            go true g among out = absurd (never g among out)
+            go true g among out = absurd (true_and_false g among out)
             go false g among out = refl
 
     kept : (a d v : Bool) → a ≡ false → v ≡ false → (if a then true else if d then false else v) ≡ false
@@ -86,7 +87,7 @@ one_added group lits to there named alone value says = record {
     holds = ap (λ b. if b then true else if names_it false to lits then false else value to) named;
     only = λ f among now.
         ⊎_elim (alone_in group lits to alone f among)
-        (λ (kept : (names_it false f lits ≡ false) × (value f ≡ true)). absurd (never (value f) kept.1 (says f among)))
+        (λ (kept : (names_it false f lits ≡ false) × (value f ≡ true)). absurd (true_and_false (value f) kept.1 (says f among)))
         (changed_true (names_it true f lits) (names_it false f lits) (value f) now);
   };
 }
@@ -95,20 +96,20 @@ one_added group lits to there named alone value says = record {
 pub pair_keeps : (group : Group) (lits : Cube) (g to : ℕ) → group to ≡ true → adds_other group to lits ≡ false → are_paired g to lits ≡ true → KeepsOne group g lits
 pair_keeps group lits g to there alone pair value is =
     moved_on group value (λ f. names_it true f lits) (λ f. names_it false f lits) g to is there (alone_in group lits to alone) (paired_on g to lits pair)
-    (⊎_elim (λ (e : (g == to) ≡ true). inl (equal_to g to e)) (λ (e : (g == to) ≡ false). inr (paired_back g to lits pair e)) (cases_Bool (g == to)))
+    (⊎_elim (λ (e : (g == to) ≡ true). inl (eqb-true g to e)) (λ (e : (g == to) ≡ false). inr (paired_back g to lits pair e)) (cases_Bool (g == to)))
 
 -- whichever member was the one
 pub keeps_one_of_all : (members : State) (lits : Cube) → IsWithin 256 members → ((f : ℕ) → f < 256 → truth members f ≡ true → KeepsOne (truth members) f lits)
     → LeadsTo (truth members) OneTrue OneTrue lits
 keeps_one_of_all members lits within keeps value one =
     ⊎_elim (λ (h : one.fluent < 256). keeps one.fluent h one.is.member value one.is)
-    (λ (h : 256 ≤ one.fluent). absurd (never (truth members one.fluent) one.is.member (within one.fluent h)))
+    (λ (h : 256 ≤ one.fluent). absurd (true_and_false (truth members one.fluent) one.is.member (within one.fluent h)))
     (cases_lt one.fluent 256)
 
 -- what is known of a state
 pub none_is_true : (members : State) (value : ℕ → Bool) → IsWithin 256 members → ((f : ℕ) → f < 256 → truth members f ≡ true → value f ≡ false) → HasNone (truth members) value
 none_is_true members value within none f there =
-    ⊎_elim (λ (h : f < 256). none f h there) (λ (h : 256 ≤ f). absurd (never (truth members f) there (within f h))) (cases_lt f 256)
+    ⊎_elim (λ (h : f < 256). none f h there) (λ (h : 256 ≤ f). absurd (true_and_false (truth members f) there (within f h))) (cases_lt f 256)
 
 pub one_is_true : (members : State) (value : ℕ → Bool) (g : ℕ) → IsWithin 256 members → truth members g ≡ true → value g ≡ true
     → ((f : ℕ) → f < 256 → truth members f ≡ true → value f ≡ true → f ≡ g) → HasOne (truth members) value
@@ -118,7 +119,7 @@ one_is_true members value g within there holds only = record {
     member = there;
     holds = holds;
     only = λ f among now.
-        ⊎_elim (λ (h : f < 256). only f h among now) (λ (h : 256 ≤ f). absurd (never (truth members f) among (within f h))) (cases_lt f 256);
+        ⊎_elim (λ (h : f < 256). only f h among now) (λ (h : 256 ≤ f). absurd (true_and_false (truth members f) among (within f h))) (cases_lt f 256);
   };
 }
 
@@ -127,7 +128,7 @@ module _ (n : ℕ) (group : Group) (within : (f : ℕ) → n ≤ f → group f �
   mapped_agrees : (g : ℕ → Bool) (f : ℕ) → group f ≡ true → g f ≡ value_of (map g (range_with_len 0 n)) f
   mapped_agrees g f there =
       ⊎_elim (λ (h : f < n). sym (get_or-map-range_with_len g 0 n f f false h (omega arith)))
-      (λ (h : n ≤ f). absurd (never (group f) there (within f h)))
+      (λ (h : n ≤ f). absurd (true_and_false (group f) there (within f h)))
       (cases_lt f n)
 
   pub one_in_mapped : (g : ℕ → Bool) → HasOne group g → HasOne group (value_of (map g (range_with_len 0 n)))

@@ -18,7 +18,7 @@ use Rattle.task_core.specs.declared.classes.Class.TheVariants.{Weak, Strong, Cyc
 use Rattle.plan_certs.specs.Certificates.{CubeSet, PlainCertificate, CanAct, HasNoWayOut, IsAccepted, holds_state, set_at, some_holds}
 use Rattle.plan_certs.proofs.Lists.{number_of_set, some_holds-at, some_holds-last}
 use Rattle.plan_theory.proofs.Cubes.{all_vectors-holds}
-use Rattle.plan_theory.proofs.NoStrong.{reach_more, here}
+use Rattle.plan_theory.proofs.NoStrong.{reach_more, here, reached_more}
 use Rattle.plan_theory.proofs.Tests.{same_vector-itself, same_vector-true}
 use Rattle.list_laws.proofs.Elements.{Contains-cases, Contains-nil, list_all-at, list_any-from, list_any-witness}
 use Rattle.list_laws.proofs.Distinct.{Apart, Apart-few}
@@ -37,10 +37,6 @@ reached_on sys table s t reached on =
         ends = last_append reached.start before.rest on.rest ∙ (ap (λ v. last_of v on.rest) before.ends ∙ on.ends);
       };
     }
-
-reached_next : (sys : System) (table : Table) (s t : Vector) → IsReached sys table s → Leads sys table s t → IsReached sys table t
-reached_next sys table s t reached lead =
-    record { start = reached.start; initial = reached.initial; path = reach_more sys table reached.start s t reached.path lead }
 
 -- what holds of a state, and stays along each step of the table, holds of what is reached from it
 reaches-keeps : (sys : System) (table : Table) (P : Vector → Type 0) → ((s t : Vector) → P s → Leads sys table s t → P t) → (s t : Vector) → P s → Reaches sys table s t → P t
@@ -82,7 +78,7 @@ module _ (sys : System) (ok : IsSystem sys) (sets : List CubeSet) (no_goal : (s 
         by_pair a pair =
             let w = list_any-witness (holds_state (set_at sets i)) (sys.next s a) (no_way i s a (acting Strong i s a within inside.held pair)) in
             let lead : Leads sys table s w.0 = record { action = a; pair = pair; outcome = w.1 } in
-            (w.0, lead, record { state = (ok.next s a w.0 w.1).vector; reached = reached_next sys table s w.0 inside.reached lead; held = w.2 })
+            (w.0, lead, record { state = (ok.next s a w.0 w.1).vector; reached = reached_more sys table s w.0 inside.reached lead; held = w.2 })
 
     -- different states, from each of which the path leads to s
     record IsWalk (seen : List Vector) (s : Vector) : Type 0 where
@@ -137,11 +133,11 @@ module _ (sys : System) (ok : IsSystem sys) (sets : List CubeSet) (no_goal : (s 
     cyclic-step : (i : ℕ) → i < length sets → NoneBefore i → (s t : Vector) → IsKept i s → Leads sys table s t → IsKept i t
     unfolding NoneBefore
     cyclic-step i within none s t kept lead =
-        let reached = reached_next sys table s t kept.reached lead in
+        let reached = reached_more sys table s t kept.reached lead in
         let stays = no_way i s lead.action (acting Cyclic i s lead.action within kept.held lead.pair) in
         let next = sys.next s lead.action in
         ⊎_elim (λ earlier. let w = list_any-witness (some_holds (take i sets)) next earlier in
-        absurd (none w.0 (reached_next sys table s w.0 kept.reached (record { action = lead.action; pair = lead.pair; outcome = w.1 })) w.2))
+        absurd (none w.0 (reached_more sys table s w.0 kept.reached (record { action = lead.action; pair = lead.pair; outcome = w.1 })) w.2))
         (λ all. ⊎_elim (λ before. absurd (none t reached before)) (λ held. record { reached = reached; held = held })
         (some_holds-last sets i t (list_all-at (some_holds (take (suc i) sets)) next t all lead.outcome)))
         (or_cases (list_any (some_holds (take i sets)) next) (list_all (some_holds (take (suc i) sets)) next) stays)

@@ -31,7 +31,8 @@ use Rattle.plan_theory.proofs.Restricted.{progress_connected, progress_step}
 use Rattle.plan_theory.proofs.RoundSteps.{connected_more, kept_from, later_rounds, round_shrinks, rounds_end, rounds_shrink_to}
 use Rattle.plan_theory.proofs.Survives.{last_is_largest, left_state}
 use Rattle.plan_rules.proofs.DenotedPairs.{denoted-table}
-use Rattle.list_laws.proofs.Elements.{Contains-range_with_len, list_all-at, list_all-from, list_any-false, list_any-from, list_any-none}
+use Rattle.list_laws.proofs.Booleans.{or_false}
+use Rattle.list_laws.proofs.Elements.{Contains-range_with_len, list_all-at, list_all-from, list_any-false, list_any-from, list_any-none, some_element}
 use Rattle.plan_certs.specs.Certificates.{CanAct, CubeSet, HasNoWayOut, HoldsInitial, HoldsNoGoal, IsAccepted, PlainCertificate, holds_state, is_no_way_out, set_at, some_holds}
 use Rattle.plan_certs.specs.Printed.{IsFirstWhole, IsPrinted, lost_set, lost_sets, outside_layers, set_cubes}
 
@@ -47,9 +48,6 @@ one_of p x xs true e rest = ⊎_elim (λ all. inl (and_from (p x) (list_all p xs
 none_or_one : {X : Type 0} (p : X → Bool) (xs : List X) → (list_all p xs ≡ true) ⊎ ((x : X) × Contains xs x × (p x ≡ false))
 none_or_one p [] = inl refl
 none_or_one p (x ∷ xs) = one_of p x xs (p x) refl (none_or_one p xs)
-
-not_from : (b : Bool) → b ≡ false → not b ≡ true
-not_from b e = ap not e
 
 -- weak and strong
 module _ (class : Class) (by_layers : IsFoundByLayers class) (sys : System) (ok : IsSystem sys) where
@@ -90,7 +88,7 @@ module _ (class : Class) (by_layers : IsFoundByLayers class) (sys : System) (ok 
   unfolding last set
   in_set v state off =
       cubes_hold sys (outside_layers class sys) v state.vector
-      ∙ and_from (sys.in_space v) (not (layer class sys (2 ^ sys.fluents) v)) state.inside (not_from (layer class sys (2 ^ sys.fluents) v) off)
+      ∙ and_from (sys.in_space v) (not (layer class sys (2 ^ sys.fluents) v)) state.inside (ap not off)
 
   off_layers : (v : Vector) → IsVector sys v → holds_state set v ≡ true → layer class sys last v ≡ false
   unfolding last set
@@ -121,10 +119,6 @@ module _ (class : Class) (by_layers : IsFoundByLayers class) (sys : System) (ok 
       at_zero zero v a acts = no_way v a acts.state acts.held acts.executable
       at_zero (suc i) v a acts = let l : suc i < 1 = acts.set in absurd (omega (arith, l))
 
-some_next : {X : Type 0} (xs : List X) → xs ≢ [] → (x : X) × Contains xs x
-some_next [] some = absurd (some refl)
-some_next (x ∷ xs) some = (x, (0, omega arith, refl))
-
 weak_way : (sys : System) (ok : IsSystem sys) (s : Vector) (a : ℕ) → IsState sys s → holds_state (set Weak tt sys ok) s ≡ true → Exec sys s a → is_no_way_out Weak (set Weak tt sys ok ∷ []) 0 (sys.next s a) ≡ true
 weak_way sys ok s a state held exec =
     list_all-from (holds_state (set Weak tt sys ok)) (sys.next s a) (λ t has. by_test t has (layer Weak sys (last Weak tt sys ok) t) refl)
@@ -139,7 +133,7 @@ strong_way : (sys : System) (ok : IsSystem sys) (s : Vector) (a : ℕ) → IsSta
 strong_way sys ok s a state held exec =
     ⊎_elim
     (λ (all : list_all (layer Strong sys (last Strong tt sys ok)) (sys.next s a) ≡ true).
-    let t = some_next (sys.next s a) exec in
+    let t = some_element (sys.next s a) exec in
     let may = list_any-from (layer Strong sys (last Strong tt sys ok)) (sys.next s a) t.0 t.1 (list_all-at (layer Strong sys (last Strong tt sys ok)) (sys.next s a) t.0 all t.1) in
     absurd (true≢false (sym (next_layer Strong tt sys ok s state.vector (or_right (layer Strong sys (last Strong tt sys ok) s) _ (list_any-from (leads_by Strong sys (layer Strong sys (last Strong tt sys ok)) s) (action_numbers sys) a (Contains-range_with_len sys.actions a (ok.actions s a exec))
     (and_from (list_any (layer Strong sys (last Strong tt sys ok)) (sys.next s a)) (list_all (layer Strong sys (last Strong tt sys ok)) (sys.next s a)) may all))))
@@ -175,11 +169,7 @@ module _ (sys : System) (ok : IsSystem sys) where
   held_more : (k : ℕ) (v : Vector) → IsState sys v → some_holds (lost_sets sys (suc k)) v ≡ (some_holds (lost_sets sys k) v || lost_set sys k v)
   held_more k v state =
       ap (λ s. some_holds s v) (one_more k) ∙ list_any-append (λ set. holds_state set v) (lost_sets sys k) (set_cubes sys (lost_set sys k) ∷ [])
-      ∙ ap (λ b. some_holds (lost_sets sys k) v || b) (or_end (holds_state (set_cubes sys (lost_set sys k)) v) ∙ cubes_hold sys (lost_set sys k) v state.vector)
-    where
-      or_end : (b : Bool) → (b || false) ≡ b
-      or_end true = refl
-      or_end false = refl
+      ∙ ap (λ b. some_holds (lost_sets sys k) v || b) (or_false (holds_state (set_cubes sys (lost_set sys k)) v) ∙ cubes_hold sys (lost_set sys k) v state.vector)
 
   held_off : (k : ℕ) (v : Vector) → IsState sys v → some_holds (lost_sets sys k) v ≡ true → round sys k v ≡ false
   held_off zero v state h = absurd (false≢true h)
@@ -202,7 +192,7 @@ module _ (sys : System) (ok : IsSystem sys) where
       by_test true e before =
           held_more k v state
           ∙ or_right (some_holds (lost_sets sys k) v) (lost_set sys k v)
-          (and_from (sys.in_space v) (round sys k v && not (round sys (suc k) v)) state.inside (and_from (round sys k v) (not (round sys (suc k) v)) e (not_from (round sys (suc k) v) off)))
+          (and_from (sys.in_space v) (round sys k v && not (round sys (suc k) v)) state.inside (and_from (round sys k v) (not (round sys (suc k) v)) e (ap not off)))
 
   -- each goal state is left by every round
   goal_left : (k : ℕ) (v : Vector) → Contains (goal_states sys) v → round sys k v ≡ true
@@ -256,7 +246,7 @@ module _ (sys : System) (ok : IsSystem sys) where
         by_test : (b : Bool) → round sys (suc n) v ≡ b → round sys (suc n) v ≡ true
         by_test true e = e
         by_test false e =
-            absurd (true≢false (sym (and_from (sys.in_space v) (round sys n v && not (round sys (suc n) v)) state.inside (and_from (round sys n v) (not (round sys (suc n) v)) h (not_from (round sys (suc n) v) e))) ∙ none_lost v state))
+            absurd (true≢false (sym (and_from (sys.in_space v) (round sys n v && not (round sys (suc n) v)) state.inside (and_from (round sys n v) (not (round sys (suc n) v)) h (ap not e))) ∙ none_lost v state))
 
     later_same : (d : ℕ) (v : Vector) → IsState sys v → round sys (d + n) v ≡ true → round sys (suc (d + n)) v ≡ true
     later_same zero v state h =
@@ -327,7 +317,7 @@ module _ (sys : System) (ok : IsSystem sys) where
           (subst (λ j. is_empty_set sys.fluents (lost_set sys j) ≡ true) same whole)
 
   last_whole : (r : ℕ) → IsLastRound sys r → is_empty_set sys.fluents (lost_set sys r) ≡ true
-  last_whole r still = not_from (list_any (lost_set sys r) (all_vectors sys.fluents)) (list_any-none (lost_set sys r) (all_vectors sys.fluents) (λ v has.
+  last_whole r still = ap not (list_any-none (lost_set sys r) (all_vectors sys.fluents) (λ v has.
       let same = still v (all_vectors_length sys.fluents v has) in
       ap (λ b. sys.in_space v && (round sys r v && not b)) same ∙ none_both (sys.in_space v) (round sys r v)))
     where

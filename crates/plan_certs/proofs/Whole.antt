@@ -2,9 +2,7 @@
 use Rattle.std.proofs.Common.{◌≡◌, ℕ, ◌+◌, Bool, true, false, List, [], ◌∷◌, ◌++◌, length, codes, refl, ap, sym, subst, ◌∙◌, inr, arith}
 use Rattle.std.specs.Prelude.{Option, Some, None, unwrap_or, if◌then◌else◌, Result, Ok, Err, IfOk, IfErr}
 use Rattle.std.specs.Option.{option_map, option_map_or}
-use Rattle.std.specs.List.{All}
 use Rattle.std.proofs.lemmas.List.{length-map}
-use Rattle.std.proofs.lemmas.List.Elements.{All-nil, All-cons}
 use Rattle.sexpr_text.specs.declared.faults.FaultKind.TheVariants.{BadForm}
 use Rattle.sexpr_text.specs.declared.faults.ReadErr.{ReadErr}
 use Rattle.sexpr_text.specs.declared.faults.ReadErr.TheVariants.{Fault, Memory}
@@ -32,19 +30,11 @@ use Rattle.plan_certs.specs.Readings.{HasCertificateFault, SpellsCertificateAt, 
 use Rattle.plan_certs.specs.declared.certificates.CertificateRead.{CertificateRead}
 use Rattle.plan_certs.proofs.CubeForms.{cube-in_task}
 use Rattle.plan_certs.proofs.InOrder.{text_flaws-in_order}
-use Rattle.list_laws.proofs.Options.{nil-first, nil-second, in_option}
-use Rattle.plan_rules.proofs.InTask.{a_flaw}
+use Rattle.list_laws.proofs.Options.{in_option}
+use Rattle.plan_rules.proofs.InTask.{a_flaw, in_groups}
 use Rattle.plan_certs.proofs.Spelled.{sets_of}
 
 -- what is read where there are no flaws, along an option
-
-in_groups : {X : Type 0} (P : X → Type 0) (flaws : Span → Forest → List Flaw) (tree : Forest → X)
-    → ((span : Span) (parts : Forest) → flaws span parts ≡ [] → P (tree parts)) → (row : Forest) → flaws_of_groups flaws row ≡ [] → All P (each_group tree row)
-in_groups P flaws tree each nothing h = All-nil P
-in_groups P flaws tree each (word span text rest) h = absurd (let none : ⊥ = cc in none)
-in_groups P flaws tree each (group span parts rest) h =
-    All-cons P (tree parts) (each_group tree rest) (each span parts (nil-first (flaws span parts) (flaws_of_groups flaws rest) h))
-    (in_groups P flaws tree each rest (nil-second (flaws span parts) (flaws_of_groups flaws rest) h))
 
 set : (fluents : List Name) (span : Span) (parts : Forest) → set_flaws fluents span parts ≡ [] → IsSetOf (length fluents) (set_tree fluents parts)
 set fluents span parts h =

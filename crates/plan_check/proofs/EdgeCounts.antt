@@ -26,7 +26,7 @@ times_once (y ∷ ys) x once c =
     omega arith)
     (cases_eq x y)
 
-contained : (xs : List ℕ) (x : ℕ) → Contains xs x ⊎ (Contains xs x → ⊥)
+pub contained : (xs : List ℕ) (x : ℕ) → Contains xs x ⊎ (Contains xs x → ⊥)
 contained [] x = inr (Contains-nil x)
 contained (y ∷ ys) x =
     ⊎_elim

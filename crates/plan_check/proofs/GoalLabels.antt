@@ -2,7 +2,7 @@
 use Rattle.std.proofs.Common.{◌≡◌, ◌⊎◌, ◌↔◌, ℕ, ◌+◌, ◌<◌, ◌≤◌, Bool, true, false, List, [], ◌∷◌, length, drop, get_or, map, sym, ap, ◌∙◌, subst, arith, ⊎_elim, inl, inr}
 use Rattle.std.proofs.lemmas.Bool.{false≢true, or_cases, or_left, or_right, and_from}
 use Rattle.std.proofs.lemmas.List.{drop_more, drop_all}
-use Rattle.std.specs.Prelude.{Box, IfOk, Result, Ok, Err}
+use Rattle.std.specs.Prelude.{Box}
 use Rattle.std.specs.declared.alloc.Global.{Global}
 use Rattle.ctl_syntax.specs.Goals.{CtlTree, all, any, implication, ax, ex, af, ef, ag, eg, au, eu, aw, ew, goal_row}
 use Rattle.ctl_syntax.specs.Truth.{Anything, Nothing, Satisfies}
@@ -124,11 +124,6 @@ module _ (graph : Graph) (goals : List Ctl) where
 pub joined_as : (join : Join) (left right first second now : List Bool) → first ≡ left → second ≡ right → IsJoined (length first) join first second now → IsJoined (length left) join left right now
 joined_as join left right first second now is too h =
     subst (λ xs. IsJoined (length xs) join xs right now) is (subst (λ ys. IsJoined (length first) join first ys now) too h)
-
--- an answer that has P has what follows from P
-pub ok_with : {T E : Type 0} (r : Result T E) (P Q : T → Type 0) → ((x : T) → P x → Q x) → IfOk r P → IfOk r Q
-ok_with (Ok x) P Q follows p = follows x p
-ok_with (Err e) P Q follows p = tt
 
 module _ (n : ℕ) (graph : Graph) (inside : HasFollowersInside graph) (full : HasFollowers graph) where
   abbrev size : ℕ

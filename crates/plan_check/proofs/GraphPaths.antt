@@ -5,6 +5,7 @@ use Rattle.std.specs.List.{Contains, filter, flat_map, list_any, range_with_len}
 use Rattle.std.proofs.lemmas.Bool.{false≢true, and_parts}
 use Rattle.std.proofs.lemmas.List.{length-append, length-map}
 use Rattle.std.proofs.lemmas.List.Elements.{Contains-append_cases}
+use Rattle.list_laws.proofs.Elements.{Contains-nil}
 use Rattle.task_core.proofs.Paths.{last_append, path_append}
 use Rattle.task_core.specs.Vectors.{Vector, all_vectors}
 use Rattle.task_core.specs.Systems.{System, HasOutcome}
@@ -127,10 +128,7 @@ module _ (sys : System) (word : Class) (rules : List PlanRule) (graph : PlainGra
   end_terminal i l none a c =
       let out = pair_outcome sys rules (state i) a c in
       let at = step_of i out.0 l (record { action = a; pair = c; outcome = out.1 }) in
-      none_in at.0 (subst (λ xs. Contains xs at.0) none at.2)
-    where
-      none_in : (j : ℕ) → Contains [] j → ⊥
-      none_in j (k, below, is) = omega arith
+      Contains-nil at.0 (subst (λ xs. Contains xs at.0) none at.2)
 
   pub terminal_end : (i : ℕ) → i < graph.size → IsTerminal (denoted sys rules) (state i) → graph.next i ≡ []
   terminal_end i l terminal = go (graph.next i) refl

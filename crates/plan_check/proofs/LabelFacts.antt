@@ -1,7 +1,8 @@
 -- Labels that are written mark by mark, and what a label reaches in rounds.
-use Rattle.std.proofs.Common.{◌≡◌, ◌⊎◌, ℕ, zero, suc, ◌+◌, ◌<◌, Bool, true, false, ◌&&◌, ◌||◌, List, [], ◌∷◌, ◌++◌, length, get_or, set, refl, sym, ap, ◌∙◌, subst, arith, ⊎_elim, inl, inr}
+use Rattle.std.proofs.Common.{◌≡◌, ◌⊎◌, ℕ, zero, suc, ◌+◌, ◌<◌, Bool, true, false, ◌&&◌, ◌||◌, List, [], ◌∷◌, ◌++◌, length, get_or, set, refl, sym, ap, ◌∙◌, subst, arith, ⊎_elim}
+pub use Rattle.std.proofs.lemmas.Bool.{cases_Bool as decided}
 use Rattle.std.specs.List.{All, Contains}
-use Rattle.std.proofs.lemmas.Bool.{false≢true, or_cases, or_left, or_right, and_from}
+use Rattle.std.proofs.lemmas.Bool.{false≢true, or_cases, or_left, or_right, and_from, cases_Bool}
 use Rattle.std.proofs.lemmas.List.{get_or_append_left, get_or_push}
 use Rattle.std.proofs.lemmas.List.Elements.{Contains-get_or}
 use borrow.Author.Count.{below_more}
@@ -29,10 +30,6 @@ followers_below graph inside i n read l size is = λ k d within.
     subst (λ m. get_or read k d < m) (sym size) (inside i (get_or read k d) l (subst (λ xs. Contains xs (get_or read k d)) (sym is) (Contains-get_or read k d within)))
 
 -- truth values
-
-pub decided : (a : Bool) → (a ≡ true) ⊎ (a ≡ false)
-decided true = inl refl
-decided false = inr refl
 
 -- one, or each, of some numbers
 pub one_of : (has : ℕ → Bool) (xs : List ℕ) → is_led One has xs ≡ true → (j : ℕ) × Contains xs j × (has j ≡ true)
@@ -62,7 +59,7 @@ each_fails has (x ∷ xs) e =
     ⊎_elim
     (λ (h : has x ≡ true). let w = each_fails has xs (sym (ap (λ a. a && is_led Each has xs) h) ∙ e) in (w.0, (suc w.1.0, omega arith, w.1.2), w.2))
     (λ h. (x, (0, omega arith, refl), h))
-    (decided (has x))
+    (cases_Bool (has x))
 
 pub led_weaker : (need : Need) (has may : ℕ → Bool) (xs : List ℕ) → ((j : ℕ) → has j ≡ true → may j ≡ true) → is_led need has xs ≡ true → is_led need may xs ≡ true
 led_weaker One has may xs weaker e = let w = one_of has xs e in one_from may xs w.0 w.1 (weaker w.0 w.2)

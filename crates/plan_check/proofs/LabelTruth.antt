@@ -3,7 +3,7 @@
 -- for every number of steps.
 use Rattle.std.proofs.Common.{◌≡◌, ◌⊎◌, ℕ, zero, suc, ◌<◌, Bool, true, false, not, ◌&&◌, ◌||◌, List, [], ◌∷◌, length, refl, sym, ap, ◌∙◌, arith, ⊎_elim, inl, inr}
 use Rattle.std.specs.List.{Contains}
-use Rattle.std.proofs.lemmas.Bool.{false≢true, or_cases}
+use Rattle.std.proofs.lemmas.Bool.{false≢true, or_cases, cases_Bool}
 use Rattle.ctl_syntax.specs.Paths.{Meets, MeetsOrKeeps, SomeNext, EveryPathMeets, SomePathMeets, EveryPathKeeps, SomePathKeeps}
 use Rattle.task_core.specs.Paths.{IsPath}
 use Rattle.ctl_syntax.proofs.Meeting.{meets_here, meets_later, meets_cases, meets_nothing, keeps_nothing, keeps_more, holds_here, holds_later, opposite}
@@ -11,7 +11,7 @@ use Rattle.plan_check.specs.Labels.{IsJoined, IsLeast, IsNegated, IsNext, IsWeak
 use Rattle.plan_check.specs.Walks.{StaysBelow}
 use Rattle.plan_check.specs.declared.spreading.Need.TheVariants.{One, Each}
 use Rattle.plan_check.specs.declared.labelling.Join.TheVariants.{And, Or, Implies, Neither}
-use Rattle.plan_check.proofs.LabelFacts.{decided, each_fails, each_from, each_of, one_from, one_of}
+use Rattle.plan_check.proofs.LabelFacts.{each_fails, each_from, each_of, one_from, one_of}
 use Rattle.list_laws.proofs.Booleans.{and_first, and_second, not_true}
 
 -- what a label says of a number
@@ -26,7 +26,7 @@ module _ (n : ℕ) (G : ℕ → Type 0) (label : List Bool) (shows : Shows n G l
   is_not_so i l e g = false≢true (sym e ∙ is_marked i l g)
 
   pub is_decided : (i : ℕ) → i < n → G i ⊎ (G i → ⊥)
-  is_decided i l = ⊎_elim (λ t. inl (is_so i l t)) (λ f. inr (is_not_so i l f)) (decided (mark_at label i))
+  is_decided i l = ⊎_elim (λ t. inl (is_so i l t)) (λ f. inr (is_not_so i l f)) (cases_Bool (mark_at label i))
 
   pub negated_shows : (marks : List Bool) → IsNegated n label marks → Shows n (λ i. G i → ⊥) marks
   negated_shows marks h =
@@ -34,7 +34,7 @@ module _ (n : ℕ) (G : ℕ → Type 0) (label : List Bool) (shows : Shows n G l
         count = h.count;
         each = λ i l. (
           λ m. is_not_so i l (not_true (mark_at label i) (sym (h.each i l) ∙ m)),
-          λ none. ⊎_elim (λ t. absurd (none (is_so i l t))) (λ (f : mark_at label i ≡ false). h.each i l ∙ ap not f) (decided (mark_at label i)),
+          λ none. ⊎_elim (λ t. absurd (none (is_so i l t))) (λ (f : mark_at label i ≡ false). h.each i l ∙ ap not f) (cases_Bool (mark_at label i)),
         );
       }
 
@@ -61,7 +61,7 @@ module _ (n : ℕ) (G H : ℕ → Type 0) (left right : List Bool) (first : Show
               (λ more. ⊎_elim
               (λ (t : mark_at left i ≡ true). h.each i l ∙ ap (λ a. a || mark_at right i) t)
               (λ (f : mark_at left i ≡ false). h.each i l ∙ (ap (λ a. a || mark_at right i) f ∙ is_marked n H right second i l more))
-              (decided (mark_at left i))) some,
+              (cases_Bool (mark_at left i))) some,
         );
       }
 
@@ -74,7 +74,7 @@ module _ (n : ℕ) (G H : ℕ → Type 0) (left right : List Bool) (first : Show
           λ implies. ⊎_elim
               (λ (t : mark_at left i ≡ true). h.each i l ∙ (ap (λ a. not a || mark_at right i) t ∙ is_marked n H right second i l (implies (is_so n G left first i l t))))
               (λ (f : mark_at left i ≡ false). h.each i l ∙ ap (λ a. not a || mark_at right i) f)
-              (decided (mark_at left i)),
+              (cases_Bool (mark_at left i)),
         );
       }
 
@@ -88,15 +88,15 @@ module _ (n : ℕ) (G H : ℕ → Type 0) (left right : List Bool) (first : Show
             λ more. ⊎_elim
                 (λ (t : mark_at left i ≡ true). false≢true (sym none ∙ ap (λ a. a || mark_at right i) t))
                 (λ (f : mark_at left i ≡ false). false≢true (sym none ∙ (ap (λ a. a || mark_at right i) f ∙ is_marked n H right second i l more)))
-                (decided (mark_at left i)),
+                (cases_Bool (mark_at left i)),
           ),
           λ none. ⊎_elim
               (λ t. absurd (none.0 (is_so n G left first i l t)))
               (λ (f : mark_at left i ≡ false). ⊎_elim
               (λ t. absurd (none.1 (is_so n H right second i l t)))
               (λ (e : mark_at right i ≡ false). h.each i l ∙ ap not (ap (λ a. a || mark_at right i) f ∙ e))
-              (decided (mark_at right i)))
-              (decided (mark_at left i)),
+              (cases_Bool (mark_at right i)))
+              (cases_Bool (mark_at left i)),
         );
       }
 
@@ -206,7 +206,7 @@ module _ (n : ℕ) (next : ℕ → List ℕ) (inside : StaysBelow n next) where
           (λ later. ⊎_elim
           (λ (t : mark_at marks j ≡ true). false≢true (sym f ∙ least.closed i l (is_marked n G guard first i l later.0) (one_from (mark_at marks) (next i) j p.0 t)))
           (λ (e : mark_at marks j ≡ false). never_meets rest j (inside i j l p.0) e p.1 later.1)
-          (decided (mark_at marks j)))
+          (cases_Bool (mark_at marks j)))
           (meets_cases G H i (j ∷ rest) m)
 
       pub some_until : Shows n (SomePathMeets Follows G H) marks
@@ -215,7 +215,7 @@ module _ (n : ℕ) (next : ℕ → List ℕ) (inside : StaysBelow n next) where
             count = least.count;
             each = λ i l. (
               λ m. some_in least.within.rounds i l (least.within.each i m),
-              λ s. ⊎_elim (λ t. t) (λ (f : mark_at marks i ≡ false). absurd (never_meets s.rest i l f s.path s.meets)) (decided (mark_at marks i)),
+              λ s. ⊎_elim (λ t. t) (λ (f : mark_at marks i ≡ false). absurd (never_meets s.rest i l f s.path s.meets)) (cases_Bool (mark_at marks i)),
             );
           }
 
@@ -262,7 +262,7 @@ module _ (n : ℕ) (next : ℕ → List ℕ) (inside : StaysBelow n next) where
             path = (w.1, more.path);
             avoids = λ m. ⊎_elim (λ h. no_target i l f h) (λ later. more.avoids later.1) (meets_cases G H i (w.0 ∷ more.rest) m);
           })
-          (decided (is_led Each (mark_at marks) (next i))))
+          (cases_Bool (is_led Each (mark_at marks) (next i))))
           (λ no_g. avoid_at_once i (suc k) l f no_g)
           (is_decided n G guard first i l)
 
@@ -272,7 +272,7 @@ module _ (n : ℕ) (next : ℕ → List ℕ) (inside : StaysBelow n next) where
             count = least.count;
             each = λ i l. (
               λ m. record { steps = least.within.rounds; meets = λ rest len p. meets_in least.within.rounds i l (least.within.each i m) rest len p },
-              λ e. ⊎_elim (λ t. t) (λ (f : mark_at marks i ≡ false). let a = avoiding e.steps i l f in absurd (a.avoids (e.meets a.rest a.long a.path))) (decided (mark_at marks i)),
+              λ e. ⊎_elim (λ t. t) (λ (f : mark_at marks i ≡ false). let a = avoiding e.steps i l f in absurd (a.avoids (e.meets a.rest a.long a.path))) (cases_Bool (mark_at marks i)),
             );
           }
 

@@ -1,7 +1,7 @@
 -- A label that spreads from edge to edge.
 use Rattle.std.proofs.Common.{◌≡◌, ◌≢◌, ◌⊎◌, ◌↔◌, ℕ, zero, suc, ◌+◌, ◌-◌, ◌<◌, ◌≤◌, ◌==◌, Bool, true, false, not, ◌&&◌, ◌||◌, cond, List, [], ◌∷◌, ◌++◌, length, map, take, drop, get_or, set, refl, sym, ap, ◌∙◌, subst, arith, ⊎_elim, inl, inr, append_assoc, take_all}
 use Rattle.std.specs.List.{All, AllPairs, Contains, count_by}
-use Rattle.std.proofs.lemmas.Bool.{cases_eq, cases_lt, eq-eqb, eqb-true, false≢true, or_cases, or_left, or_right, and_from}
+use Rattle.std.proofs.lemmas.Bool.{cases_eq, cases_lt, eq-eqb, eqb-true, false≢true, or_cases, or_left, or_right, and_from, cases_Bool}
 use Rattle.std.proofs.lemmas.List.{append-nil, length-append, length-map, length-set, length-take, length_push, get_or-set_same, get_or-set_other, get_or-take, get_or_append_left, get_or_push, get_or_default, map-append, take_more, take-append-drop, take-append-le}
 use Rattle.std.proofs.lemmas.List.Concat.{flat_map-append}
 use Rattle.std.proofs.lemmas.List.Elements.{All-contains, All-push, Contains-append_cases, Contains-append_left, Contains-push}
@@ -22,7 +22,7 @@ use Rattle.plan_check.specs.Spreads.{IsSpreading, NeedsFollowers, Reaches, edges
 use Rattle.plan_check.specs.Walks.{IsMarked, LeadsToMarked, StaysBelow}
 use Rattle.plan_check.specs.declared.spreading.Need.{Need}
 use Rattle.plan_check.specs.declared.spreading.Need.TheVariants.{One, Each}
-use Rattle.plan_check.proofs.LabelFacts.{decided, each_from, each_of, led_weaker, one_from, one_of, within_more}
+use Rattle.plan_check.proofs.LabelFacts.{each_from, each_of, led_weaker, one_from, one_of, within_more}
 use Rattle.plan_check.proofs.EdgeCounts.{edges_even, edges_most}
 use Rattle.plan_check.proofs.MarkFacts.{closed_leads, fewer_unmarked, leads_before, marked_below, marked_cases, marked_more, marked_same}
 use Rattle.list_laws.proofs.Elements.{Contains-cases, Contains-cons, Contains-flat_map, Contains-flat_map-witness, Contains-head, Contains-map, Contains-map-witness, Contains-nil, list_any-from, list_any-witness}
@@ -72,7 +72,7 @@ count_none p (x ∷ xs) e =
     ⊎_elim
     (λ (t : p x ≡ true). let z : one_if (not (p x)) ≡ 0 = ap (λ (b : Bool). one_if (not b)) t in and_from (p x) (is_led Each p xs) t (count_none p xs (omega (arith, s, z, e))))
     (λ (f : p x ≡ false). let o : one_if (not (p x)) ≡ 1 = ap (λ (b : Bool). one_if (not b)) f in absurd (omega (arith, s, o, e)))
-    (decided (p x))
+    (cases_Bool (p x))
 
 count_all : (p : ℕ → Bool) (xs : List ℕ) → is_led Each p xs ≡ true → count_by (λ j. not (p j)) xs ≡ 0
 count_all p [] e = refl
@@ -128,8 +128,8 @@ module _ (edges : List Edge) (i x : ℕ) where
       ⊎_elim
       (λ (t : is_looked (edges ++ edge i x ∷ []) a b ≡ true). ⊎_elim (λ o. t ∙ sym o) (λ p. absurd (none p)) (looked_cases a b t))
       (λ (f : is_looked (edges ++ edge i x ∷ []) a b ≡ false).
-      ⊎_elim (λ o. absurd (false≢true (sym f ∙ looked_old a b o))) (λ g. f ∙ sym g) (decided (is_looked edges a b)))
-      (decided (is_looked (edges ++ edge i x ∷ []) a b))
+      ⊎_elim (λ o. absurd (false≢true (sym f ∙ looked_old a b o))) (λ g. f ∙ sym g) (cases_Bool (is_looked edges a b)))
+      (cases_Bool (is_looked (edges ++ edge i x ∷ []) a b))
 
 looked_from : (edges : List Edge) (i j : ℕ) → Contains edges (edge i j) → is_looked edges i j ≡ true
 looked_from edges i j c =
@@ -168,7 +168,7 @@ fresh prev found done x k i different left at once within is =
     absurd (not_before (prev x) k i once within is (subst (Contains (take k (prev x))) (ap (λ (f : Edge). f.source) m.2 ∙ w.2) m.1)))
     (Contains-append_cases before part w.0 w.1))
     (λ f. f)
-    (decided (is_looked (before ++ part) i x))
+    (cases_Bool (is_looked (before ++ part) i x))
 
 pub reaches_none : (need : Need) (next : ℕ → List ℕ) (guard marks : List Bool) → Reaches need next guard marks marks
 reaches_none need next guard marks = record { kept = λ i m. m; within = λ target w. w }
@@ -242,7 +242,7 @@ module _ (n : ℕ) (need : Need) (next : ℕ → List ℕ) (guard marks : List B
             and_from (not (mark_at marks i)) (mark_at guard i && is_enough need left) (ap not f)
             (and_from (mark_at guard i) (is_enough need left) guarded (enough_from need left (is_looked (edges ++ edge i x ∷ []) i) (next i) left_here here)) in
             absurd (false≢true (sym none ∙ due)))
-            (decided (mark_at marks i)))
+            (cases_Bool (mark_at marks i)))
             (λ (ne : a ≢ i). due_other a l ne g led)
             (cases_eq a i);
       };

@@ -1,5 +1,6 @@
 -- No document has a float.
-use Rattle.std.proofs.Common.{◌≡◌, ◌∙◌, ℕ, List, [], ◌∷◌, map, false, true, Bool, ◌||◌, refl, ap, subst, sym, Option, None, Some, slice_get, Ordering, Less, Equal, Greater}
+use Rattle.std.proofs.Common.{◌≡◌, ◌∙◌, ℕ, List, [], ◌∷◌, map, false, Bool, refl, ap, subst, sym, Option, None, Some, slice_get, Ordering, Less, Equal, Greater}
+use Rattle.std.proofs.lemmas.Bool.{or_parts}
 use Rattle.std.specs.List.{fold}
 use Rattle.std.specs.Option.{option_map_or}
 use Rattle.std.specs.Cmp.Lexicographic.{slice_cmp}
@@ -20,19 +21,11 @@ by_order Less a b c ea eb ec = ea
 by_order Equal a b c ea eb ec = eb
 by_order Greater a b c ea eb ec = ec
 
-or_left : (a b : Bool) → (a || b) ≡ false → a ≡ false
-or_left false b is = refl
-or_left true b is = is
-
-or_right : (a b : Bool) → (a || b) ≡ false → b ≡ false
-or_right false b is = is
-or_right true b is = absurd (cc is)
-
 put_free : (key : List ℕ) (value : Bool) (members : Members) → members_have_float members ≡ false → members_have_float (put key (boolean value) members) ≡ false
 put_free key value no_members free = refl
 put_free key value (member k d members) free =
-    let first = or_left (has_float d) (members_have_float members) free in
-    let rest = or_right (has_float d) (members_have_float members) free in
+    let first = (or_parts (has_float d) (members_have_float members) free).0 in
+    let rest = (or_parts (has_float d) (members_have_float members) free).1 in
     by_order (slice_cmp nat_cmp key k) _ _ _ free rest (rw first (put_free key value members rest))
 
 literals_free : (fluents : List Name) (cube : Cube) (so_far : Members) → members_have_float so_far ≡ false → members_have_float (fold (with_literal fluents) so_far cube) ≡ false

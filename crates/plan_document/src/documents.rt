@@ -4,7 +4,6 @@ ghost use Rattle.plan_document.specs.Documents.{document, document_text, plan_ob
 ghost use Rattle.plan_document.specs.Faithful.{IsToldInFull};
 ghost use Rattle.plan_rules.specs.Plans.{IsPlanOf};
 ghost use Rattle.plan_rules.specs.Rules.{plain_of};
-ghost use Rattle.plan_rules.specs.Texts.{class_word as word_of_class};
 ghost use Rattle.serde_json.specs.Data.{Data, array};
 ghost use Rattle.serde_json.specs.View.{items_of, view};
 ghost use Rattle.std.specs.Prelude.{◌≡◌, IfOk, List};
@@ -13,7 +12,7 @@ ghost use Rattle.task_core.specs.Tasks.{action_count, fluent_count, fluent_names
 use crate::names::{action_array, fluent_array};
 use crate::rules::{context_rules, table_rules};
 use crate::values::{count_value, value_text};
-use plan_rules::{Class, Plan};
+use plan_rules::{Plan, word_of};
 use serde_json::{Map, Value, put};
 use std::alloc::{AllocError, Global};
 use task_core::Task;
@@ -41,23 +40,12 @@ fn plan_value(alloc: Global, plan: &Plan, task: &Task) -> Result<Value, AllocErr
     match plan {
         Plan::Table(table) => {
             let rules = table_rules(alloc, &task.fluents, &task.actions, &table.rules)?;
-            plan_object(alloc, task, class_word(table.class), 1, rules)
+            plan_object(alloc, task, word_of(table.class), 1, rules)
         }
         Plan::Auto(automaton) => {
             let rules = context_rules(alloc, &task.fluents, &task.actions, &automaton.rules)?;
             plan_object(alloc, task, "ctl", automaton.contexts, rules)
         }
-    }
-}
-
-/// The word for a class.
-fn class_word(class: Class) -> &'static str
-    ensures { result.now ≡ word_of_class class }
-{
-    match class {
-        Class::Weak => "weak",
-        Class::Strong => "strong",
-        Class::Cyclic => "cyclic",
     }
 }
 

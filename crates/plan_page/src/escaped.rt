@@ -3,6 +3,7 @@
 ghost use Rattle.plan_page.specs.Pages.{escaped as escaped_text, escaped_byte};
 ghost use Rattle.std.specs.Prelude.{◌≡◌, ◌++◌, OnOk};
 
+use plan_picture::push_text;
 use std::alloc::AllocError;
 
 /// Appends JSON, with `<`, `>` and `&` as their escapes.
@@ -25,13 +26,5 @@ fn push_byte(out: &mut Vec<u8>, byte: u8) -> Result<(), AllocError>
         b'&' => push_text(out, "\\u0026")?,
         _ => out.push(byte)?,
     }
-    Ok(())
-}
-
-/// Appends a text.
-pub(crate) fn push_text(out: &mut Vec<u8>, text: &str) -> Result<(), AllocError>
-    ensures { OnOk result (out.new.items ≡ out.old.items ++ text.now) }
-{
-    out.extend_from_slice(text.as_bytes())?;
     Ok(())
 }

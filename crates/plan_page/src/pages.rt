@@ -11,14 +11,14 @@ ghost use Rattle.std.specs.Option.{option_map};
 ghost use Rattle.std.specs.Prelude.{◌≡◌, IfOk, string_bytes};
 ghost use Rattle.task_core.specs.Tasks.{action_names, fluent_count, fluent_names, system_of};
 
-use crate::escaped::{push_escaped, push_text};
+use crate::escaped::push_escaped;
 use crate::explanations::Explanation;
 use crate::frame::{page_head, page_middle, page_tail};
 use crate::plans::plan_values;
 use crate::told::handed_value;
 use crate::values::{node_values, outcome_counts};
 use plan_document::{action_array, fluent_array};
-use plan_picture::Picture;
+use plan_picture::{Picture, push_text};
 use plan_rules::Plan;
 use serde_json::{Map, Value, put};
 use std::alloc::{AllocError, Global};

@@ -16,13 +16,12 @@ ghost use Rattle.plan_rules.specs.Rules.{
   plain_of,
   rule_of,
 };
-ghost use Rattle.plan_rules.specs.Texts.{class_word as word_of_class};
 ghost use Rattle.serde_json.specs.View.{view};
 ghost use Rattle.std.specs.Prelude.{◌≡◌, IfOk, map};
 
 use crate::values::{cube_value, pair_value};
 use plan_document::count_value;
-use plan_rules::{AutoRule, Case, Class, Next, Plan, Rule};
+use plan_rules::{AutoRule, Case, Next, Plan, Rule, word_of};
 use serde_json::{Map, Value, put};
 use std::alloc::{AllocError, Global};
 use task_core::ActionId;
@@ -46,7 +45,7 @@ pub(crate) fn plan_values(alloc: Global, plan: &Plan) -> Result<PlanValues, Allo
 {
     match plan {
         Plan::Table(table) => Ok(PlanValues {
-            class: Value::try_from_str(alloc, class_word(table.class))?,
+            class: Value::try_from_str(alloc, word_of(table.class))?,
             contexts: count_value(1),
             rules: table_rules(alloc, &table.rules)?,
         }),
@@ -55,17 +54,6 @@ pub(crate) fn plan_values(alloc: Global, plan: &Plan) -> Result<PlanValues, Allo
             contexts: count_value(automaton.contexts),
             rules: context_rules(alloc, &automaton.rules)?,
         }),
-    }
-}
-
-/// The word for a class.
-fn class_word(class: Class) -> &'static str
-    ensures { result.now ≡ word_of_class class }
-{
-    match class {
-        Class::Weak => "weak",
-        Class::Strong => "strong",
-        Class::Cyclic => "cyclic",
     }
 }
 

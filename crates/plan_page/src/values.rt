@@ -21,17 +21,16 @@ ghost use Rattle.std.specs.Prelude.{
   IfOk,
   OnOk,
   if◌then◌else◌,
-  length,
   map,
 };
 ghost use Rattle.task_core.specs.States.{vector};
-ghost use Rattle.task_core.specs.Tasks.{action_count, fluent_count, outcomes_at, system_of};
+ghost use Rattle.task_core.specs.Tasks.{action_count, fluent_count, system_of};
 
 use plan_document::count_value;
 use plan_picture::{Node, Step};
 use serde_json::{Map, Value, put};
 use std::alloc::{AllocError, Global};
-use task_core::{ActionId, FluentId, Lit, State, Task};
+use task_core::{ActionId, FluentId, Lit, State, Task, outcome_count};
 
 /// How many outcomes each action has.
 pub(crate) fn outcome_counts(alloc: Global, task: &Task) -> Result<Value, AllocError>
@@ -43,14 +42,6 @@ pub(crate) fn outcome_counts(alloc: Global, task: &Task) -> Result<Value, AllocE
         counts.push(count_value(outcome_count(task, ActionId(number))))?;
     }
     Ok(Value::from(counts))
-}
-
-/// How many outcomes an action has.
-fn outcome_count(task: &Task, action: ActionId) -> u32
-    requires { action.0 < action_count task.now }
-    ensures { result ≡ length (outcomes_at task.now action.0) }
-{
-    task.actions[action.0 as usize].outcomes.len() as u32
 }
 
 /// A list of literals.

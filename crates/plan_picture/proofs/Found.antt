@@ -1,26 +1,16 @@
 -- Where a configuration stands among others.
-use Rattle.std.proofs.Common.{◌≡◌, ℕ, zero, suc, ◌+◌, ◌<◌, ◌⊎◌, inl, inr, ⊎_elim, Bool, true, false, cond, ◌&&◌, eqb, List, [], ◌∷◌, ◌++◌, drop, get_or, length, slice_get, Some, refl, sym, ap, ◌∙◌, subst, arith}
+use Rattle.std.proofs.Common.{◌≡◌, ℕ, zero, suc, ◌+◌, ◌<◌, ◌⊎◌, inl, inr, ⊎_elim, Bool, true, false, cond, List, [], ◌∷◌, ◌++◌, drop, get_or, length, slice_get, Some, refl, sym, ap, ◌∙◌, subst, arith}
 use Rattle.std.proofs.Math.Seq.{drop-cons}
-use Rattle.std.proofs.lemmas.Bool.{and_parts, and_from, eqb-true, eq-eqb, cond-true, cond-false}
+use Rattle.std.proofs.lemmas.Bool.{cond-true, cond-false}
 use Rattle.std.proofs.lemmas.Option.{none-some, same_Some, slice_get_within, get_or_from_slice_get}
-use Rattle.exec_graph.proofs.Listed.{get-front}
+use Rattle.exec_graph.proofs.Listed.{get-front, get-last}
+use Rattle.exec_graph.proofs.Places.{place_eq, same_places, same_configuration_equal, same_configuration_refl}
+use Rattle.exec_graph.specs.Counting.{same_configuration}
+use Rattle.exec_graph.specs.Moves.{configuration_of}
+use Rattle.exec_graph.specs.declared.graphs.Place.{Place}
 use Rattle.task_core.specs.States.{IsWithin}
 use Rattle.task_core.specs.ContextPlans.{Configuration}
-use Rattle.task_core.specs.Vectors.{same_vector}
-use Rattle.task_core.proofs.StateLists.{same_as_vectors}
-use Rattle.task_core.proofs.Vectors.{same_vector_refl, same_vector_equal}
-use Rattle.plan_picture.specs.Places.{AreWithin, configuration_of, configurations_of, is_same, place_from}
-use Rattle.plan_picture.specs.declared.places.Place.{Place}
-use Rattle.plan_picture.specs.contracts.places.PlacePartialEq.TheImpl.{eq-value}
-
--- the derived `==` of places
-abbrev pub place_eq : Place → Place → Bool
-place_eq = eq-value.it
-
--- it is that of their configurations
-same_places : (n : ℕ) (a b : Place) → IsWithin n a.state → IsWithin n b.state
-    → place_eq a b ≡ is_same (configuration_of n a) (configuration_of n b)
-same_places n a b wa wb = ap (λ t. t && eqb a.context b.context) (same_as_vectors n a.state b.state wa wb)
+use Rattle.plan_picture.specs.Places.{AreWithin, configurations_of, place_from}
 
 -- a place is looked at
 pub looked : (n : ℕ) (xs : List Place) (i : ℕ) (p w : Place) → AreWithin n xs → IsWithin n w.state → slice_get xs i ≡ Some p
@@ -35,14 +25,6 @@ looked n xs i p w wx ww e =
     ∙ ap (λ q. place_from i (configurations_of n (q ∷ drop (suc i) xs)) (configuration_of n w)) at
     ∙ ap (λ b. cond b (Some i) rest) (sym (same_places n p w within ww))
 
-pub same_equal : (x y : Configuration) → is_same x y ≡ true → x ≡ y
-same_equal x y e =
-    let parts = and_parts (same_vector x.state y.state) (eqb x.context y.context) e in
-    λ i. record { state = same_vector_equal x.state y.state parts.0 i; context = eqb-true x.context y.context parts.1 i }
-
-pub same_refl : (x : Configuration) → is_same x x ≡ true
-same_refl x = and_from (same_vector x.state x.state) (eqb x.context x.context) (same_vector_refl x.state) (eq-eqb x.context x.context refl)
-
 -- no configuration stands at two places
 abbrev pub AreDistinct : List Configuration → Type 0
 AreDistinct places = (i j : ℕ) (x : Configuration) → slice_get places i ≡ Some x → slice_get places j ≡ Some x → i ≡ j
@@ -55,14 +37,14 @@ pub record IsFound (k : ℕ) (ys : List Configuration) (x : Configuration) (i : 
 
 pub found : (k : ℕ) (ys : List Configuration) (x : Configuration) (i : ℕ) → place_from k ys x ≡ Some i → IsFound k ys x i
 found k [] x i e = absurd (none-some i e)
-found k (y ∷ ys) x i e = go (is_same y x) refl (found (suc k) ys x i)
+found k (y ∷ ys) x i e = go (same_configuration y x) refl (found (suc k) ys x i)
   where
-    go : (b : Bool) → is_same y x ≡ b → (place_from (suc k) ys x ≡ Some i → IsFound (suc k) ys x i) → IsFound k (y ∷ ys) x i
+    go : (b : Bool) → same_configuration y x ≡ b → (place_from (suc k) ys x ≡ Some i → IsFound (suc k) ys x i) → IsFound k (y ∷ ys) x i
     go true h rest =
-        let s : k ≡ i = same_Some k i (sym (cond-true (is_same y x) (Some k) (place_from (suc k) ys x) h) ∙ e) in
-        record { number = 0; is = omega (arith, s); there = ap Some (same_equal y x h) }
+        let s : k ≡ i = same_Some k i (sym (cond-true (same_configuration y x) (Some k) (place_from (suc k) ys x) h) ∙ e) in
+        record { number = 0; is = omega (arith, s); there = ap Some (same_configuration_equal y x h) }
     go false h rest =
-        let r = rest (sym (cond-false (is_same y x) (Some k) (place_from (suc k) ys x) h) ∙ e) in
+        let r = rest (sym (cond-false (same_configuration y x) (Some k) (place_from (suc k) ys x) h) ∙ e) in
         record { number = suc r.number; is = omega (arith, r.is); there = r.there }
 
 -- and what stands somewhere is found there, where it stands nowhere else
@@ -70,15 +52,15 @@ pub finds : (k : ℕ) (ys : List Configuration) (x : Configuration) (j : ℕ) �
 finds k [] x j differ e = absurd (none-some x e)
 finds k (y ∷ ys) x zero differ e =
     let same : y ≡ x = same_Some y x e in
-    let h : is_same y x ≡ true = ap (λ z. is_same z x) same ∙ same_refl x in
-    cond-true (is_same y x) (Some k) (place_from (suc k) ys x) h ∙ ap Some (omega arith)
+    let h : same_configuration y x ≡ true = ap (λ z. same_configuration z x) same ∙ same_configuration_refl x in
+    cond-true (same_configuration y x) (Some k) (place_from (suc k) ys x) h ∙ ap Some (omega arith)
 finds k (y ∷ ys) x (suc j) differ e =
-    go (is_same y x) refl (finds (suc k) ys x j (λ a b z f g. let d = differ (suc a) (suc b) z f g in omega (arith, d)) e)
+    go (same_configuration y x) refl (finds (suc k) ys x j (λ a b z f g. let d = differ (suc a) (suc b) z f g in omega (arith, d)) e)
   where
-    go : (b : Bool) → is_same y x ≡ b → place_from (suc k) ys x ≡ Some (suc k + j) → place_from k (y ∷ ys) x ≡ Some (k + suc j)
+    go : (b : Bool) → same_configuration y x ≡ b → place_from (suc k) ys x ≡ Some (suc k + j) → place_from k (y ∷ ys) x ≡ Some (k + suc j)
     go true h rest =
-        let d : 0 ≡ suc j = differ 0 (suc j) x (ap Some (same_equal y x h)) e in absurd (omega (arith, d))
-    go false h rest = cond-false (is_same y x) (Some k) (place_from (suc k) ys x) h ∙ rest ∙ ap Some (omega arith)
+        let d : 0 ≡ suc j = differ 0 (suc j) x (ap Some (same_configuration_equal y x h)) e in absurd (omega (arith, d))
+    go false h rest = cond-false (same_configuration y x) (Some k) (place_from (suc k) ys x) h ∙ rest ∙ ap Some (omega arith)
 
 -- one more in a list that lists the values of a function
 pub below_last : (a b : ℕ) → a < suc b → (a < b) ⊎ (b ≡ a)
@@ -87,16 +69,12 @@ below_last zero (suc b) l = inl (omega arith)
 below_last (suc a) zero l = absurd (omega arith)
 below_last (suc a) (suc b) l = ⊎_elim (λ (h : a < b). inl (omega arith)) (λ (h : b ≡ a). inr (ap suc h)) (below_last a b (omega arith))
 
-get_last : {X : Type 0} (xs : List X) (x : X) → slice_get (xs ++ x ∷ []) (length xs) ≡ Some x
-get_last [] x = refl
-get_last (y ∷ ys) x = get_last ys x
-
 pub get_pushed : {X : Type 0} (xs : List X) (x : X) (k i : ℕ) (y : X) → length xs ≡ k → i < suc k → (i < k → slice_get xs i ≡ Some y) → (k ≡ i → x ≡ y)
     → slice_get (xs ++ x ∷ []) i ≡ Some y
 get_pushed xs x k i y l b old new =
     ⊎_elim
     (λ (h : i < k). get-front xs (x ∷ []) i y (old h))
-    (λ (h : k ≡ i). ap (slice_get (xs ++ x ∷ [])) (sym h ∙ sym l) ∙ get_last xs x ∙ ap Some (new h))
+    (λ (h : k ≡ i). ap (slice_get (xs ++ x ∷ [])) (sym h ∙ sym l) ∙ get-last xs x ∙ ap Some (new h))
     (below_last i k b)
 
 pub pushed_cases : {X : Type 0} (xs : List X) (x : X) (i : ℕ) (y : X) → slice_get (xs ++ x ∷ []) i ≡ Some y → (slice_get xs i ≡ Some y) ⊎ ((i ≡ length xs) × (x ≡ y))

@@ -4,6 +4,5 @@ pub mod Goals
 pub mod Stepped
 pub mod Shown
 pub mod Numbered
-pub mod Taken
 pub mod Anys
 pub mod TextOfShown

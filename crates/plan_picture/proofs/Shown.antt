@@ -6,12 +6,12 @@ use Rattle.std.proofs.lemmas.List.{length-map}
 use Rattle.std.proofs.lemmas.Option.{none-some, same_Some, slice_get-map, slice_get_within}
 use Rattle.std.specs.List.{flat_map, range_with_len}
 use Rattle.std.proofs.lemmas.List.{map-id}
-use Rattle.list_laws.proofs.Elements.{map-range}
+use Rattle.list_laws.proofs.Elements.{map-range, contains_at}
 use Rattle.exec_graph.specs.Orders.{AreInOrderMet, in_first, onward}
 use Rattle.exec_graph.proofs.Listed.{all_added_get}
 use Rattle.exec_graph.specs.Executions.{IsReachedBy}
 use Rattle.exec_graph.specs.Graphs.{IsGraphOf, PlainGraph}
-use Rattle.exec_graph.proofs.Listed.{Contains-number, number-Contains}
+use Rattle.exec_graph.proofs.Listed.{Contains-number}
 use Rattle.task_core.specs.Vectors.{Vector}
 use Rattle.task_core.specs.Systems.{AreNumbered, IsSystem, System, goal_states}
 use Rattle.task_core.specs.ContextPlans.{Configuration, IsInitial}
@@ -187,7 +187,7 @@ module _ (sys : System) (plan : PlainPlan) (graph : PlainGraph) (places : List C
   reached_has : (x : Configuration) → IsReachedBy sys plan x → Contains places x
   reached_has x r =
       let n = is.listed x r in
-      number-Contains places n.number x (at n.number n.below ∙ ap Some n.is)
+      contains_at places n.number x (at n.number n.below ∙ ap Some n.is)
 
   is_node : (node : PlainNode) → Contains nodes node → IsNode sys plan places node
   is_node node c =

@@ -12,6 +12,7 @@ use Rattle.task_core.specs.ContextPlans.{Configuration}
 use Rattle.plan_rules.specs.Advices.{Advised}
 use Rattle.plan_rules.specs.Denoted.{advises}
 use Rattle.plan_rules.specs.Rules.{PlanRule}
+use Rattle.plan_picture.proofs.Found.{below_last}
 use Rattle.plan_picture.specs.Pictures.{IsBefore, PlainStep}
 use Rattle.plan_picture.specs.Places.{advised_in_table, outcome_steps, outcomes_from, outcomes_steps, place_after, steps_by, table_steps_below}
 use Rattle.list_laws.proofs.Elements.{Contains-cases, Contains-cons, Contains-head, Contains-nil}
@@ -238,13 +239,7 @@ module _ (sys : System) (places : List Configuration) (rules : List PlanRule) (s
       (λ (l : step.action < m). Contains-append_left (table_steps_below sys places rules s m) (by_action m) step
       (table_has m step (record { below = l; has = r.has; led = r.led })))
       (λ (e : m ≡ step.action). Contains-append_right (table_steps_below sys places rules s m) (by_action m) step (here m step e r))
-      (last step.action m r.below)
-    where
-      last : (a b : ℕ) → a < suc b → (a < b) ⊎ (b ≡ a)
-      last zero zero l = inr refl
-      last zero (suc b) l = inl (omega arith)
-      last (suc a) zero l = absurd (omega arith)
-      last (suc a) (suc b) l = ⊎_elim (λ (h : a < b). inl (omega arith)) (λ (h : b ≡ a). inr (ap suc h)) (last a b (omega arith))
+      (below_last step.action m r.below)
 
   action_ordered : (m : ℕ) → AllPairs IsBefore (by_action m)
   action_ordered m = go (advises rules s m)

@@ -1,22 +1,20 @@
 -- Private: the configurations that were found, as the code holds them, and the lists of steps that
 -- it makes.
-use Rattle.std.specs.Prelude.{◌≡◌, ◌↔◌, ℕ, zero, suc, Bool, ◌&&◌, ◌==◌, All, IsTrue, List, [], ◌∷◌, ◌++◌}
+use Rattle.std.specs.Prelude.{◌≡◌, ◌↔◌, ℕ, zero, suc, Bool, All, IsTrue, List, [], ◌∷◌, ◌++◌}
 use Rattle.std.specs.Prelude.{Option, Some, None, map, option_to_list, slice_get, if◌then◌else◌}
 use Rattle.std.specs.List.{Contains, range_with_len}
 use Rattle.std.specs.Option.{option_map, option_and_then}
-use Rattle.task_core.specs.States.{IsWithin, vector}
-use Rattle.task_core.specs.Vectors.{Vector, same_vector}
+use Rattle.task_core.specs.States.{IsWithin}
+use Rattle.task_core.specs.Vectors.{Vector}
 use Rattle.task_core.specs.Systems.{System, goal_states}
 use Rattle.task_core.specs.ContextPlans.{Configuration, first_context}
 use Rattle.plan_rules.specs.Advices.{Advised, advised_by}
 use Rattle.plan_rules.specs.Denoted.{advises, next_context, rule_at}
 use Rattle.plan_rules.specs.Rules.{PlainPlan, PlanNext, PlanRule, always, table, automaton}
+use Rattle.exec_graph.specs.Counting.{same_configuration}
+use Rattle.exec_graph.specs.Moves.{configuration_of}
+use Rattle.exec_graph.specs.declared.graphs.Place.{Place}
 use Rattle.plan_picture.specs.Pictures.{PlainNode, PlainStep}
-use Rattle.plan_picture.specs.declared.places.Place.{Place}
-
--- Private: a configuration over n fluents
-abbrev pub configuration_of : ℕ → Place → Configuration
-configuration_of n place = record { state = vector n place.state; context = place.context }
 
 abbrev pub configurations_of : ℕ → List Place → List Configuration
 configurations_of n places = map (configuration_of n) places
@@ -25,14 +23,10 @@ configurations_of n places = map (configuration_of n) places
 abbrev pub AreWithin : ℕ → List Place → Type 0
 AreWithin n places = All (λ (place : Place). IsWithin n place.state) places
 
--- Private: whether two configurations are the same
-abbrev pub is_same : Configuration → Configuration → Bool
-is_same x y = same_vector x.state y.state && (x.context == y.context)
-
 -- Private: the first place of a configuration in a list whose places are counted from k
 abbrev pub place_from : ℕ → List Configuration → Configuration → Option ℕ
 place_from k [] x = None
-place_from k (y ∷ ys) x = if is_same y x then Some k else place_from (suc k) ys x
+place_from k (y ∷ ys) x = if same_configuration y x then Some k else place_from (suc k) ys x
 
 -- Private: the place of the new state t with the context in which to go on there
 abbrev pub place_after : List Configuration → PlanNext → Vector → Option ℕ

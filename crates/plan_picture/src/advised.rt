@@ -1,8 +1,8 @@
 //! The steps of a plan from one configuration.
 
+ghost use Rattle.exec_graph.specs.Moves.{configuration_of};
 ghost use Rattle.plan_picture.specs.Places.{
   AreWithin,
-  configuration_of,
   configurations_of,
   outcome_steps,
   place_after,
@@ -42,7 +42,8 @@ ghost use Rattle.task_core.specs.Systems.{Exec};
 ghost use Rattle.task_core.specs.Tasks.{action_count, fluent_count, if_state, outcomes_at, system_of};
 
 use crate::pictures::Step;
-use crate::places::{Place, number_of};
+use crate::places::number_of;
+use exec_graph::Place;
 use plan_rules::{
     Advice, AutoRule, FIRST_CONTEXT, Onward, Plan, Rule, context_in, has_all, onward_of,
 };

@@ -3,13 +3,13 @@
 ghost use Rattle.exec_graph.specs.Executions.{ReachesMoreThan};
 ghost use Rattle.exec_graph.specs.Graphs.{IsGraphOf};
 ghost use Rattle.exec_graph.specs.Initials.{HasTooManyInitial};
+ghost use Rattle.exec_graph.specs.Moves.{configuration_of};
 ghost use Rattle.exec_graph.specs.Values.{IsWithinFluents, graph_size, plain_graph};
 ghost use Rattle.plan_picture.specs.Pictures.{IsPictureOf};
 ghost use Rattle.plan_picture.specs.Places.{
   AreWithin,
   ShowEach,
   Shows,
-  configuration_of,
   configurations_of,
 };
 ghost use Rattle.plan_picture.specs.Values.{node_value, nodes_of};
@@ -23,8 +23,8 @@ ghost use Rattle.task_core.specs.Systems.{goal_states};
 ghost use Rattle.task_core.specs.Tasks.{action_count, fluent_count, in_space, system_of};
 
 use crate::advised::steps_from;
-use crate::places::{Place, place_at, places_of};
-use exec_graph::{Graph, GraphErr, explore};
+use crate::places::{place_at, places_of};
+use exec_graph::{Graph, GraphErr, Place, explore};
 use plan_rules::Plan;
 use std::alloc::{AllocError, Global};
 use task_core::{ActionId, Cond, State, Task, cond_holds, in_space};

@@ -1,25 +1,17 @@
 //! The configurations that a plan may reach, with their places.
 
+ghost use Rattle.exec_graph.specs.Moves.{configuration_of};
 ghost use Rattle.exec_graph.specs.Values.{IsWithinFluents, graph_size, plain_graph};
 ghost use Rattle.plan_picture.specs.Places.{
   AreWithin,
-  configuration_of,
   configurations_of,
   place_from,
 };
 ghost use Rattle.std.specs.Prelude.{◌≡◌, ◌<◌, ℕ, IfOk, Some, length, slice_get};
 ghost use Rattle.task_core.specs.States.{IsWithin};
 
-use exec_graph::Graph;
+use exec_graph::{Graph, Place};
 use std::alloc::{AllocError, Global};
-use task_core::State;
-
-/// A configuration: a state, and the context that the plan is in.
-#[derive(Clone, Copy, PartialEq, Eq)]
-pub(crate) struct Place {
-    pub(crate) state: State,
-    pub(crate) context: u32,
-}
 
 /// The configurations of a graph, in the order of their numbers.
 pub(crate) fn places_of(alloc: Global, graph: &Graph) -> Result<Vec<Place>, AllocError>

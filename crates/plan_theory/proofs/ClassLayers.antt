@@ -20,6 +20,7 @@ use Rattle.plan_theory.proofs.Cubes.{cubes_match}
 use Rattle.plan_theory.proofs.Steps.{along}
 use Rattle.plan_theory.proofs.Tests.{HasOutcome-Exec, is_action-Some, is_action-from, same_vector-itself, same_vector-true}
 use Rattle.plan_rules.proofs.DenotedPairs.{denoted-from, denoted-pair, can_execute-outcome}
+use Rattle.list_laws.proofs.Booleans.{same_truth}
 use Rattle.list_laws.proofs.Elements.{range_with_len-last, list_any-agree, list_all-agree, list_all-at, list_all-from, list_any-from, list_any-none, list_any-witness, find-None, find-Some, find-found, Contains-map, Contains-map-witness, Contains-flat_map, Contains-flat_map-witness, Contains-range_with_len, Contains-range_with_len-below}
 
 -- sets that agree on an action's outcomes are led to alike
@@ -162,12 +163,7 @@ module _ (class : Class) where
       (and_from (a == a) (matches cube.0 v) (eq-eqb a a refl) cube.2)
 
   pub advises_takers : (sys : System) (K : ℕ) (v : Vector) (a : ℕ) → IsVector sys v → a < sys.actions → advises (printed_rules class sys K) v a ≡ takers class sys K a v
-  advises_takers sys K v a is l = go (advises (printed_rules class sys K) v a) (takers class sys K a v) (λ h. is_action-from a (chosen_action class sys K v) (advised_chosen sys K v a is h)) (λ h. chosen_advised sys K v a is l (is_action-Some a (chosen_action class sys K v) h))
-    where
-      go : (x y : Bool) → (x ≡ true → y ≡ true) → (y ≡ true → x ≡ true) → x ≡ y
-      go true y there back = sym (there refl)
-      go false true there back = back refl
-      go false false there back = refl
+  advises_takers sys K v a is l = same_truth (advises (printed_rules class sys K) v a) (takers class sys K a v) (λ h. is_action-from a (chosen_action class sys K v) (advised_chosen sys K v a is h)) (λ h. chosen_advised sys K v a is l (is_action-Some a (chosen_action class sys K v) h))
 
   -- the printed rules can be executed wherever they match
   pub printed_executable : (sys : System) (K : ℕ) → IsExecutable sys (printed_rules class sys K)

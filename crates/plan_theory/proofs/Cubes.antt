@@ -6,6 +6,7 @@ use Rattle.std.proofs.lemmas.Bool.{not-true}
 use Rattle.std.proofs.lemmas.List.Folds.{list_any-append}
 use Rattle.task_core.specs.Vectors.{Vector, all_vectors, same_value, value_of}
 use Rattle.task_core.specs.Cubes.{Cube, SetOfVectors, matches, literal, half, is_empty_set, is_whole_set, ignores_first, cubes_from}
+use Rattle.list_laws.proofs.Booleans.{or_false}
 use Rattle.list_laws.proofs.Elements.{list_any-false, list_all-at, list_any-agree, list_any-none, list_any-map, map-agree}
 use Rattle.plan_theory.proofs.Tests.{same_value-true}
 pub use Rattle.task_core.proofs.Vectors.{all_vectors_has as all_vectors-holds, all_vectors_length as all_vectors-length}
@@ -30,11 +31,7 @@ matching-literal first before x b after cubes e =
 -- of the two halves the value of the first fluent chooses one
 choose : (x : Bool) (set : SetOfVectors) (v : Vector) → ((same_value x false && set (false ∷ v)) || (same_value x true && set (true ∷ v))) ≡ set (x ∷ v)
 choose true set v = refl
-choose false set v = go (set (false ∷ v))
-  where
-    go : (b : Bool) → (b || false) ≡ b
-    go true = refl
-    go false = refl
+choose false set v = or_false (set (false ∷ v))
 
 ignored : (x : Bool) (set : SetOfVectors) (v : Vector) → same_value (set (false ∷ v)) (set (true ∷ v)) ≡ true → set (false ∷ v) ≡ set (x ∷ v)
 ignored true set v h = same_value-true (set (false ∷ v)) (set (true ∷ v)) h

@@ -17,7 +17,7 @@ use Rattle.plan_theory.specs.Layers.{IsLastLayer, action_numbers, covers, layer,
 use Rattle.plan_theory.specs.LayerPlans.{printed_rules}
 use Rattle.plan_theory.proofs.ClassLayers.{layer-grows, layer-zero}
 use Rattle.plan_theory.proofs.Cubes.{all_vectors-agree}
-use Rattle.plan_theory.proofs.NoStrong.{reach_more, stable_no_strong}
+use Rattle.plan_theory.proofs.NoStrong.{stable_no_strong, reached_more}
 use Rattle.plan_theory.proofs.StrongPrinted.{printed_short, printed_strong_solves, reaches_within}
 use Rattle.plan_theory.proofs.Weak.{path_in_layer, same_vector-itself, same_vector-true, stable_no_solution}
 use Rattle.plan_theory.proofs.WeakPrinted.{printed_solves}
@@ -35,9 +35,6 @@ pair_or_terminal table s = go (list_any (λ (pair : Vector × ℕ). same_vector 
     go false e = inr (λ a c. false≢true (sym e ∙ list_any-from (λ (pair : Vector × ℕ). same_vector s pair.0) table (s, a) c (same_vector-itself s)))
 
 module _ (sys : System) (ok : IsSystem sys) (table : Table) (is_table : IsTable sys table) (solves : IsStrongSolution sys table) where
-  onward : (s t : Vector) → IsReached sys table s → Leads sys table s t → IsReached sys table t
-  onward s t reached lead = record { start = reached.start; initial = reached.initial; path = reach_more sys table reached.start s t reached.path lead }
-
   led : (m : ℕ) (s : Vector) (a : ℕ) → Contains table (s, a) → ((t : Vector) → HasOutcome sys s a t → layer Strong sys m t ≡ true) → layer Strong sys (suc m) s ≡ true
   led m s a pair each =
       let exec : Exec sys s a = (is_table s a pair).1 in
@@ -61,7 +58,7 @@ module _ (sys : System) (ok : IsSystem sys) (table : Table) (is_table : IsTable 
   in_layer (suc m) s reached within =
       ⊎_elim (λ pair. led m s pair.0 pair.1 (λ t o.
       let lead : Leads sys table s t = record { action = pair.0; pair = pair.1; outcome = o } in
-      in_layer m t (onward s t reached lead) (λ rest path. let long = within (t ∷ rest) (lead, path) in omega arith)))
+      in_layer m t (reached_more sys table s t reached lead) (λ rest path. let long = within (t ∷ rest) (lead, path) in omega arith)))
       (λ terminal. goal_layer (suc m) s reached terminal)
       (pair_or_terminal table s)
 

@@ -39,6 +39,10 @@ reach_more sys table x s t r lead = record {
   ends = last_onward x r.rest t;
 }
 
+-- and it is reached where the one before is
+pub reached_more : (sys : System) (table : Table) (s t : Vector) → IsReached sys table s → Leads sys table s t → IsReached sys table t
+reached_more sys table s t reached lead = record { start = reached.start; initial = reached.initial; path = reach_more sys table reached.start s t reached.path lead }
+
 pub here : (sys : System) (table : Table) (s : Vector) → Reaches sys table s s
 here sys table s = record { rest = []; path = tt; ends = refl }
 

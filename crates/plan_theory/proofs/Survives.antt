@@ -13,7 +13,7 @@ use Rattle.task_core.specs.Solutions.{HasNoSolution, IsReached, IsStrongCyclicSo
 use Rattle.task_core.specs.declared.classes.Class.TheVariants.{Cyclic, Weak}
 use Rattle.plan_theory.specs.Layers.{action_numbers, may_lead}
 use Rattle.plan_theory.proofs.ClassLayers.{first_layer, layer-grows, layer-zero}
-use Rattle.plan_theory.proofs.NoStrong.{reach_more}
+use Rattle.plan_theory.proofs.NoStrong.{reached_more}
 use Rattle.list_laws.proofs.Elements.{Contains-range_with_len, list_all-from, list_any-from, list_any-witness}
 use Rattle.plan_theory.specs.LargestSets.{IsLargestSet, IsStrongCyclicSet, covers, goal_or_pair}
 use Rattle.plan_theory.specs.Pairs.{Pairs, has_pair, is_goal, restricted}
@@ -126,12 +126,9 @@ module _ (sys : System) (ok : IsSystem sys) (table : Table) (is_table : IsTable 
   abbrev Reachable : Vector → ℕ → Type 0
   Reachable v a = IsReached sys table v × Contains table (v, a) × (is_goal sys v ≡ false)
 
-  onward : (s t : Vector) → IsReached sys table s → Leads sys table s t → IsReached sys table t
-  onward s t reached lead = record { start = reached.start; initial = reached.initial; path = reach_more sys table reached.start s t reached.path lead }
-
   reached_along : (v : Vector) (rest : List Vector) → IsReached sys table v → IsPath (Leads sys table) v rest → IsReached sys table (last_of v rest)
   reached_along v [] reached path = reached
-  reached_along v (t ∷ rest) reached path = reached_along t rest (onward v t reached path.0) path.1
+  reached_along v (t ∷ rest) reached path = reached_along t rest (reached_more sys table v t reached path.0) path.1
 
   state_along : (v : Vector) (rest : List Vector) → IsVector sys v → IsPath (Leads sys table) v rest → IsVector sys (last_of v rest)
   state_along v [] is path = is
@@ -143,7 +140,7 @@ module _ (sys : System) (ok : IsSystem sys) (table : Table) (is_table : IsTable 
   -- a path from a reached state to the goal
   way_along : (v : Vector) (rest : List Vector) → IsReached sys table v → IsPath (Leads sys table) v rest → is_goal sys (last_of v rest) ≡ true → Way sys Reachable (length rest) v
   way_along v [] reached path g = g
-  way_along v (t ∷ rest) reached path g = go (is_goal sys v) refl (way_along t rest (onward v t reached path.0) path.1 g)
+  way_along v (t ∷ rest) reached path g = go (is_goal sys v) refl (way_along t rest (reached_more sys table v t reached path.0) path.1 g)
     where
       go : (b : Bool) → is_goal sys v ≡ b → Way sys Reachable (length rest) t → Way sys Reachable (suc (length rest)) v
       go true e w = inl e
@@ -162,7 +159,7 @@ module _ (sys : System) (ok : IsSystem sys) (table : Table) (is_table : IsTable 
     of_state = λ v a p. p.0;
     outside = λ v a p. p.2;
     executable = λ v a p. (is_table v a p.1).1;
-    stays = λ v a t p o. onward v t p.0 (record { action = a; pair = p.1; outcome = o });
+    stays = λ v a t p o. reached_more sys table v t p.0 (record { action = a; pair = p.1; outcome = o });
     way = ends_in;
   }
 

@@ -1,8 +1,8 @@
 -- In each reachable state the values of the fluents are in a relaxed set.
-use Rattle.std.proofs.Common.{◌≡◌, ℕ, ◌<◌, ◌≤◌, Bool, true, false, ◌&&◌, ◌||◌, cond, if◌then◌else◌, List, [], ◌∷◌, ◌++◌, map, length, slice_get, Option, Some, None, refl, sym, ◌∙◌, ap, subst, arith, ⊎_elim}
+use Rattle.std.proofs.Common.{◌≡◌, ℕ, ◌<◌, ◌≤◌, Bool, true, false, ◌&&◌, cond, if◌then◌else◌, List, [], ◌∷◌, ◌++◌, map, length, slice_get, Option, Some, None, refl, sym, ◌∙◌, ap, subst, arith, ⊎_elim}
 use Rattle.std.specs.List.{Contains, filter, flat_map, fold, list_any, range_with_len}
 use Rattle.std.specs.Option.{option_map, option_map_or, unwrap_or}
-use Rattle.std.proofs.lemmas.Bool.{and_parts, and_from, cases_lt, false≢true}
+use Rattle.std.proofs.lemmas.Bool.{and_parts, and_from, cases_lt, false≢true, or_left, or_right}
 use Rattle.std.proofs.lemmas.List.{get_or_past}
 use Rattle.std.proofs.lemmas.List.Elements.{Contains-append_cases}
 use Rattle.std.proofs.lemmas.List.FromFn.{get_or-map-range_with_len, length-map-range_with_len}
@@ -34,14 +34,6 @@ IsIn set v = (f : ℕ) → set f (value_of v f) ≡ true
 abbrev AreIn : LiteralSet → List Vector → Type 0
 AreIn set vs = (v : Vector) → Contains vs v → IsIn set v
 
-or_first : (a b : Bool) → a ≡ true → (a || b) ≡ true
-or_first true b e = refl
-or_first false b e = absurd (false≢true e)
-
-or_second : (a b : Bool) → b ≡ true → (a || b) ≡ true
-or_second true b e = refl
-or_second false b e = e
-
 -- a test that some element passes, which passes a weaker one
 any_weaker : {X : Type 0} (p q : X → Bool) (xs : List X) → ((x : X) → p x ≡ true → q x ≡ true) → list_any p xs ≡ true → list_any q xs ≡ true
 any_weaker p q [] f h = h
@@ -67,14 +59,14 @@ module _ (task : Task) (set : LiteralSet) (relaxed : IsRelaxed task set) where
   false_above : (f : ℕ) → fluent_count task ≤ f → set f false ≡ true
   false_above f h =
       relaxed.starts f false
-      (or_first (same_value (truth task.init.facts f) false) (list_any (list_any (names_it false f)) (entries_of task.init)) (ap (λ b. same_value b false) (task.facts_within f h)))
+      (or_left (same_value (truth task.init.facts f) false) (list_any (list_any (names_it false f)) (entries_of task.init)) (ap (λ b. same_value b false) (task.facts_within f h)))
 
   facts_in : IsIn set (facts_of (fluent_count task) task.init)
   facts_in f =
       let at : value_of (facts_of (fluent_count task) task.init) f ≡ truth task.init.facts f = ap (λ g. g f) (value_of-vector_within (fluent_count task) task.init.facts task.facts_within) in
       subst (λ b. set f b ≡ true) (sym at)
       (relaxed.starts f (truth task.init.facts f)
-      (or_first (same_value (truth task.init.facts f) (truth task.init.facts f)) (list_any (list_any (names_it (truth task.init.facts f) f)) (entries_of task.init)) (same_value_refl (truth task.init.facts f))))
+      (or_left (same_value (truth task.init.facts f) (truth task.init.facts f)) (list_any (list_any (names_it (truth task.init.facts f) f)) (entries_of task.init)) (same_value_refl (truth task.init.facts f))))
 
   -- values that are in the set, as a vector
   mapped_in : (g : ℕ → Bool) → ((f : ℕ) → set f (g f) ≡ true) → IsIn set (map g (range_with_len 0 (fluent_count task)))
@@ -118,8 +110,8 @@ module _ (task : Task) (set : LiteralSet) (relaxed : IsRelaxed task set) where
   alternatives_in [] v named is s c = absurd (Contains-nil s c)
   alternatives_in (lits ∷ entry) v named is s c =
       ⊎_elim (λ (e : applied (fluent_count task) v lits ≡ s).
-      subst (IsIn set) e (applied_in lits v (λ f value h. named f value (or_first (names_it value f lits) (list_any (names_it value f) entry) h)) is))
-      (alternatives_in entry v (λ f value h. named f value (or_second (names_it value f lits) (list_any (names_it value f) entry) h)) is s)
+      subst (IsIn set) e (applied_in lits v (λ f value h. named f value (or_left (names_it value f lits) (list_any (names_it value f) entry) h)) is))
+      (alternatives_in entry v (λ f value h. named f value (or_right (names_it value f lits) (list_any (names_it value f) entry) h)) is s)
       (Contains-cases (applied (fluent_count task) v lits) (map (applied (fluent_count task) v) entry) s c)
 
   made_in : (entry : Entry) (vs : List Vector) → Names entry → AreIn set vs → AreIn set (flat_map (λ v. map (applied (fluent_count task) v) entry) vs)
@@ -132,15 +124,15 @@ module _ (task : Task) (set : LiteralSet) (relaxed : IsRelaxed task set) where
   entries_in [] vs named are = are
   entries_in (entry ∷ entries) vs named are =
       entries_in entries (after_entry (fluent_count task) vs entry)
-      (λ f value h. named f value (or_second (list_any (names_it value f) entry) (list_any (list_any (names_it value f)) entries) h))
+      (λ f value h. named f value (or_right (list_any (names_it value f) entry) (list_any (list_any (names_it value f)) entries) h))
       (all_added_in (flat_map (λ v. map (applied (fluent_count task) v) entry) vs) []
-      (made_in entry vs (λ f value h. named f value (or_first (list_any (names_it value f) entry) (list_any (list_any (names_it value f)) entries) h)) are)
+      (made_in entry vs (λ f value h. named f value (or_left (list_any (names_it value f) entry) (list_any (list_any (names_it value f)) entries) h)) are)
       (λ s c. absurd (Contains-nil s c)))
 
   initial_in : AreIn set (initial_states task)
   initial_in v c =
       entries_in (entries_of task.init) (facts_of (fluent_count task) task.init ∷ [])
-      (λ f value h. relaxed.starts f value (or_second (same_value (truth task.init.facts f) value) (list_any (list_any (names_it value f)) (entries_of task.init)) h))
+      (λ f value h. relaxed.starts f value (or_right (same_value (truth task.init.facts f) value) (list_any (list_any (names_it value f)) (entries_of task.init)) h))
       (one_in (facts_of (fluent_count task) task.init) facts_in) v
       (Contains-filter_cases (in_space task) (initial_vectors task) v c).0
 

@@ -5,11 +5,13 @@
 #![tactic(auto)]
 
 mod conditions;
+mod goals;
 mod laws;
 mod literals;
 mod reaching;
 
 pub use conditions::can_be;
+pub use goals::goal_of;
 pub use laws::{goals_that_cannot_hold_are_never_reached, relaxed_sets_hold_what_is_reached};
 pub use literals::Literals;
 pub use reaching::{reached_literals, start_literals};

@@ -1,22 +1,23 @@
 use Rattle.std.proofs.Common.{length, refl, sym, ap, ◌∙◌, arith}
+use Rattle.std.proofs.lemmas.Result.{IfOk-weaker}
 use Rattle.plan_check.specs.Labels.{IsJoined, IsNext, IsWeakest, ShowsGoal}
 use Rattle.plan_check.specs.declared.spreading.Need.TheVariants.{One, Each}
 use Rattle.plan_check.specs.declared.labelling.Join.TheVariants.{And, Or, Implies}
 use Rattle.ctl_syntax.specs.Values.{ctl_value}
 use Rattle.exec_graph.specs.Values.{edge_count, followers_at, graph_size}
 use Rattle.plan_check.proofs.GoalCosts.{cost_Af, cost_Ag, cost_All, cost_Any, cost_Au, cost_Aw, cost_Ax, cost_Ef, cost_Eg, cost_Eu, cost_Ew, cost_Ex, cost_Imply, cost_Not, row_step}
-use Rattle.plan_check.proofs.GoalLabels.{all_end, all_step, any_end, any_step, joined_as, of_Af, of_Ag, of_Au, of_Aw, of_Ax, of_Ef, of_Eg, of_Eu, of_Ew, of_Ex, of_Imply, ok_with, sizes_Au, sizes_Aw, sizes_Eu, sizes_Ew, sizes_Imply}
+use Rattle.plan_check.proofs.GoalLabels.{all_end, all_step, any_end, any_step, joined_as, of_Af, of_Ag, of_Au, of_Aw, of_Ax, of_Ef, of_Eg, of_Eu, of_Ew, of_Ex, of_Imply, sizes_Au, sizes_Aw, sizes_Eu, sizes_Ew, sizes_Imply}
 use Rattle.plan_check.proofs.goals.+labelling.Goals as goal
 
 pub labels-returns-in_ok-part-in-Ax-clause-shows : goal.labels-returns-in_ok-part-in-Ax-clause-shows
 labels-returns-in_ok-part-in-Ax-clause-shows t g c = λ n k.
-    ok_with c.next_label.result (λ marks. IsNext (graph_size c.args.graph.now) Each (followers_at c.args.graph.now) c.deref-in-Ax-2.result.now marks.items) (λ marks. ShowsGoal n c.args.graph.now (ctl_value c.args.goal.now) marks.items)
+    IfOk-weaker c.next_label.result (λ marks. IsNext (graph_size c.args.graph.now) Each (followers_at c.args.graph.now) c.deref-in-Ax-2.result.now marks.items) (λ marks. ShowsGoal n c.args.graph.now (ctl_value c.args.goal.now) marks.items)
     (λ marks h. of_Ax n c.args.graph.now c.requires.inside c.requires.followers c.args.goal.now c.in-Ax.part c.deref-in-Ax.result.now c.in_ok-part-in-Ax.part.items c.deref-in-Ax-2.result.now marks.items c.deref-in-Ax.ensures (c.in_ok-part-in-Ax.ensures.shows n) c.deref-in-Ax-2.ensures.value c.in-Ax.is h k)
     c.next_label.ensures.next
 
 pub labels-returns-in_ok-part-in-Ex-clause-shows : goal.labels-returns-in_ok-part-in-Ex-clause-shows
 labels-returns-in_ok-part-in-Ex-clause-shows t g c = λ n k.
-    ok_with c.next_label-in-Ex.result (λ marks. IsNext (graph_size c.args.graph.now) One (followers_at c.args.graph.now) c.deref-in-Ex-2.result.now marks.items) (λ marks. ShowsGoal n c.args.graph.now (ctl_value c.args.goal.now) marks.items)
+    IfOk-weaker c.next_label-in-Ex.result (λ marks. IsNext (graph_size c.args.graph.now) One (followers_at c.args.graph.now) c.deref-in-Ex-2.result.now marks.items) (λ marks. ShowsGoal n c.args.graph.now (ctl_value c.args.goal.now) marks.items)
     (λ marks h. of_Ex n c.args.graph.now c.requires.inside c.requires.followers c.args.goal.now c.in-Ex.part c.deref-in-Ex.result.now c.in_ok-part-in-Ex.part.items c.deref-in-Ex-2.result.now marks.items c.deref-in-Ex.ensures (c.in_ok-part-in-Ex.ensures.shows n) c.deref-in-Ex-2.ensures.value c.in-Ex.is h k)
     c.next_label-in-Ex.ensures.next
 
@@ -38,25 +39,25 @@ labels-returns-in_ok-spread-in-Eu-clause-shows t g c = λ n k.
 
 pub labels-returns-in_ok-target-in-Ag-clause-shows : goal.labels-returns-in_ok-target-in-Ag-clause-shows
 labels-returns-in_ok-target-in-Ag-clause-shows t g c = λ n k.
-    ok_with c.weak_until.result (λ marks. IsWeakest (graph_size c.args.graph.now) Each (followers_at c.args.graph.now) c.deref-in-Ag-2.result.now c.deref-in-Ag-3.result.now marks.items) (λ marks. ShowsGoal n c.args.graph.now (ctl_value c.args.goal.now) marks.items)
+    IfOk-weaker c.weak_until.result (λ marks. IsWeakest (graph_size c.args.graph.now) Each (followers_at c.args.graph.now) c.deref-in-Ag-2.result.now c.deref-in-Ag-3.result.now marks.items) (λ marks. ShowsGoal n c.args.graph.now (ctl_value c.args.goal.now) marks.items)
     (λ marks h. of_Ag n c.args.graph.now c.requires.inside c.requires.followers c.args.goal.now c.in-Ag.part c.deref-in-Ag.result.now c.in_ok-guard-in-Ag.guard.items c.deref-in-Ag-2.result.now c.in_ok-target-in-Ag.target.items c.deref-in-Ag-3.result.now marks.items c.deref-in-Ag.ensures (c.in_ok-guard-in-Ag.ensures.shows n) c.deref-in-Ag-2.ensures.value c.deref-in-Ag-3.ensures.value c.in_ok-target-in-Ag.ensures.count c.in_ok-target-in-Ag.ensures.each c.in-Ag.is h k)
     c.weak_until.ensures.weakest
 
 pub labels-returns-in_ok-target-in-Eg-clause-shows : goal.labels-returns-in_ok-target-in-Eg-clause-shows
 labels-returns-in_ok-target-in-Eg-clause-shows t g c = λ n k.
-    ok_with c.weak_until-in-Eg.result (λ marks. IsWeakest (graph_size c.args.graph.now) One (followers_at c.args.graph.now) c.deref-in-Eg-2.result.now c.deref-in-Eg-3.result.now marks.items) (λ marks. ShowsGoal n c.args.graph.now (ctl_value c.args.goal.now) marks.items)
+    IfOk-weaker c.weak_until-in-Eg.result (λ marks. IsWeakest (graph_size c.args.graph.now) One (followers_at c.args.graph.now) c.deref-in-Eg-2.result.now c.deref-in-Eg-3.result.now marks.items) (λ marks. ShowsGoal n c.args.graph.now (ctl_value c.args.goal.now) marks.items)
     (λ marks h. of_Eg n c.args.graph.now c.requires.inside c.requires.followers c.args.goal.now c.in-Eg.part c.deref-in-Eg.result.now c.in_ok-guard-in-Eg.guard.items c.deref-in-Eg-2.result.now c.in_ok-target-in-Eg.target.items c.deref-in-Eg-3.result.now marks.items c.deref-in-Eg.ensures (c.in_ok-guard-in-Eg.ensures.shows n) c.deref-in-Eg-2.ensures.value c.deref-in-Eg-3.ensures.value c.in_ok-target-in-Eg.ensures.count c.in_ok-target-in-Eg.ensures.each c.in-Eg.is h k)
     c.weak_until-in-Eg.ensures.weakest
 
 pub labels-returns-in_ok-target-in-Aw-clause-shows : goal.labels-returns-in_ok-target-in-Aw-clause-shows
 labels-returns-in_ok-target-in-Aw-clause-shows t g c = λ n k.
-    ok_with c.weak_until-in-Aw.result (λ marks. IsWeakest (graph_size c.args.graph.now) Each (followers_at c.args.graph.now) c.deref-in-Aw-3.result.now c.deref-in-Aw-4.result.now marks.items) (λ marks. ShowsGoal n c.args.graph.now (ctl_value c.args.goal.now) marks.items)
+    IfOk-weaker c.weak_until-in-Aw.result (λ marks. IsWeakest (graph_size c.args.graph.now) Each (followers_at c.args.graph.now) c.deref-in-Aw-3.result.now c.deref-in-Aw-4.result.now marks.items) (λ marks. ShowsGoal n c.args.graph.now (ctl_value c.args.goal.now) marks.items)
     (λ marks h. of_Aw n c.args.graph.now c.requires.inside c.requires.followers c.args.goal.now c.in-Aw.left c.in-Aw.right c.deref-in-Aw.result.now c.deref-in-Aw-2.result.now c.in_ok-guard-in-Aw.guard.items c.deref-in-Aw-3.result.now c.in_ok-target-in-Aw.target.items c.deref-in-Aw-4.result.now marks.items c.deref-in-Aw.ensures c.deref-in-Aw-2.ensures (c.in_ok-guard-in-Aw.ensures.shows n) (c.in_ok-target-in-Aw.ensures.shows n) c.deref-in-Aw-3.ensures.value c.deref-in-Aw-4.ensures.value c.in-Aw.is h k)
     c.weak_until-in-Aw.ensures.weakest
 
 pub labels-returns-in_ok-target-in-Ew-clause-shows : goal.labels-returns-in_ok-target-in-Ew-clause-shows
 labels-returns-in_ok-target-in-Ew-clause-shows t g c = λ n k.
-    ok_with c.weak_until-in-Ew.result (λ marks. IsWeakest (graph_size c.args.graph.now) One (followers_at c.args.graph.now) c.deref-in-Ew-3.result.now c.deref-in-Ew-4.result.now marks.items) (λ marks. ShowsGoal n c.args.graph.now (ctl_value c.args.goal.now) marks.items)
+    IfOk-weaker c.weak_until-in-Ew.result (λ marks. IsWeakest (graph_size c.args.graph.now) One (followers_at c.args.graph.now) c.deref-in-Ew-3.result.now c.deref-in-Ew-4.result.now marks.items) (λ marks. ShowsGoal n c.args.graph.now (ctl_value c.args.goal.now) marks.items)
     (λ marks h. of_Ew n c.args.graph.now c.requires.inside c.requires.followers c.args.goal.now c.in-Ew.left c.in-Ew.right c.deref-in-Ew.result.now c.deref-in-Ew-2.result.now c.in_ok-guard-in-Ew.guard.items c.deref-in-Ew-3.result.now c.in_ok-target-in-Ew.target.items c.deref-in-Ew-4.result.now marks.items c.deref-in-Ew.ensures c.deref-in-Ew-2.ensures (c.in_ok-guard-in-Ew.ensures.shows n) (c.in_ok-target-in-Ew.ensures.shows n) c.deref-in-Ew-3.ensures.value c.deref-in-Ew-4.ensures.value c.in-Ew.is h k)
     c.weak_until-in-Ew.ensures.weakest
 
@@ -291,6 +292,6 @@ labels-weak_until-requires-in-Ew-clause-target t g c =
 pub labels-returns-in_ok-right-in-Imply-clause-shows : goal.labels-returns-in_ok-right-in-Imply-clause-shows
 labels-returns-in_ok-right-in-Imply-clause-shows t g c =
     λ n k.
-    ok_with c.joined.result (λ marks. IsJoined (length c.deref-in-Imply-3.result.now) Implies c.deref-in-Imply-3.result.now c.deref-in-Imply-4.result.now marks.items) (λ marks. ShowsGoal n c.args.graph.now (ctl_value c.args.goal.now) marks.items)
+    IfOk-weaker c.joined.result (λ marks. IsJoined (length c.deref-in-Imply-3.result.now) Implies c.deref-in-Imply-3.result.now c.deref-in-Imply-4.result.now marks.items) (λ marks. ShowsGoal n c.args.graph.now (ctl_value c.args.goal.now) marks.items)
     (λ marks h. of_Imply n c.args.graph.now c.requires.inside c.requires.followers c.args.goal.now c.in-Imply.left c.in-Imply.right c.deref-in-Imply.result.now c.deref-in-Imply-2.result.now c.in_ok-left-in-Imply.left.items c.in_ok-right-in-Imply.right.items c.deref-in-Imply-3.result.now c.deref-in-Imply-4.result.now marks.items c.deref-in-Imply.ensures c.deref-in-Imply-2.ensures (c.in_ok-left-in-Imply.ensures.shows n) (c.in_ok-right-in-Imply.ensures.shows n) c.deref-in-Imply-3.ensures.value c.deref-in-Imply-4.ensures.value c.in-Imply.is h k)
     c.joined.ensures

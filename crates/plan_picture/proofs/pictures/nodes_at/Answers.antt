@@ -2,10 +2,11 @@ use Rattle.std.proofs.Common.{◌∷◌, [], length, map, sym, ap, ◌∙◌, su
 use Rattle.std.specs.Option.{option_map}
 use Rattle.std.proofs.lemmas.List.{length-append, length-map, map_push}
 use Rattle.std.proofs.lemmas.Option.{slice_get-map}
+use Rattle.exec_graph.specs.Moves.{configuration_of}
 use Rattle.exec_graph.specs.Values.{plain_graph}
 use Rattle.plan_rules.specs.Rules.{plain_of}
 use Rattle.task_core.specs.Tasks.{fluent_count, system_of}
-use Rattle.plan_picture.specs.Places.{ShowEach, Shows, configuration_of, configurations_of}
+use Rattle.plan_picture.specs.Places.{ShowEach, Shows, configurations_of}
 use Rattle.plan_picture.specs.Values.{node_value}
 use Rattle.plan_picture.proofs.Shown.{shown_more}
 use Rattle.plan_picture.proofs.pictures.nodes_at.Goals as goal

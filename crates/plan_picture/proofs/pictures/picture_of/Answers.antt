@@ -1,9 +1,10 @@
 use Rattle.std.proofs.Common.{◌∙◌, map, subst}
 use Rattle.std.proofs.lemmas.List.{length-map}
+use Rattle.exec_graph.specs.Moves.{configuration_of}
 use Rattle.exec_graph.specs.Values.{plain_graph}
 use Rattle.plan_rules.specs.Rules.{plain_of}
 use Rattle.task_core.specs.Tasks.{fluent_count, system_of}
-use Rattle.plan_picture.specs.Places.{ShowEach, configuration_of, configurations_of}
+use Rattle.plan_picture.specs.Places.{ShowEach, configurations_of}
 use Rattle.plan_picture.specs.Values.{node_value}
 use Rattle.plan_picture.proofs.Shown.{picture_is}
 use Rattle.plan_picture.proofs.Goals.{numbered_system}

@@ -1,6 +1,7 @@
 use Rattle.std.proofs.Common.{◌≡◌, ◌+◌, suc, arith, cond, drop, slice_get, Some, sym, ap, ◌∙◌}
 use Rattle.std.proofs.lemmas.Option.{slice_get-get_or}
-use Rattle.plan_picture.specs.Places.{configuration_of, configurations_of, place_from}
+use Rattle.exec_graph.specs.Moves.{configuration_of}
+use Rattle.plan_picture.specs.Places.{configurations_of, place_from}
 use Rattle.plan_picture.proofs.Found.{looked}
 use Rattle.plan_picture.proofs.places.number_of.Goals as goal
 

@@ -1,7 +1,8 @@
 -- The place is looked for among those that are left.
 use Rattle.std.proofs.Common.{◌≡◌, ℕ, drop}
 use Rattle.task_core.specs.States.{IsWithin}
-use Rattle.plan_picture.specs.Places.{AreWithin, configuration_of, configurations_of, place_from}
+use Rattle.exec_graph.specs.Moves.{configuration_of}
+use Rattle.plan_picture.specs.Places.{AreWithin, configurations_of, place_from}
 use Rattle.plan_picture.proofs.places.number_of.Given as goal
 
 abbrev pub invariant-loop-number : goal.invariant-loop-number

@@ -1,10 +1,11 @@
 use Rattle.std.proofs.Common.{◌≡◌, ℕ, ◌∷◌, [], length, slice_get, sym, ap, ◌∙◌, subst, arith}
 use Rattle.std.proofs.lemmas.List.{length-append, length-map, map_push}
 use Rattle.std.proofs.lemmas.List.Elements.{All-push}
+use Rattle.exec_graph.specs.Moves.{configuration_of}
 use Rattle.exec_graph.specs.Values.{plain_graph}
 use Rattle.task_core.specs.States.{IsWithin}
-use Rattle.plan_picture.specs.Places.{AreWithin, configuration_of, configurations_of}
-use Rattle.plan_picture.specs.declared.places.Place.{Place}
+use Rattle.plan_picture.specs.Places.{AreWithin, configurations_of}
+use Rattle.exec_graph.specs.declared.graphs.Place.{Place}
 use Rattle.plan_picture.proofs.Found.{get_pushed}
 use Rattle.plan_picture.proofs.places.places_of.Goals as goal
 

@@ -1,0 +1,15 @@
+//! The goal of a task.
+
+ghost use Rattle.std.specs.Prelude.{◌≡◌, IfNone, IfSome, None, Some, true};
+ghost use Rattle.task_core.specs.Conditions.{ids_below};
+
+use task_core::{Cond, Task};
+
+/// The goal of a task.
+pub fn goal_of(task: &Task) -> Option<&Cond>
+    ensures wanted { IfSome result (λ goal. task.now.goal ≡ Some goal.now) }
+    ensures none { IfNone result (task.now.goal ≡ None) }
+    ensures below { IfSome result (λ goal. ids_below 256 goal.now ≡ true) }
+{
+    task.goal.as_ref()
+}
