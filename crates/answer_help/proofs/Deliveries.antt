@@ -1,17 +1,18 @@
 -- What is written with help below it.
-use Rattle.std.proofs.Common.{◌≡◌, ◌≢◌, ◌+◌, ◌<◌, ◌≤◌, ◌⊎◌, ℕ, suc, Bool, false, true, List, [], ◌∷◌, ◌++◌, Option, None, Some, length, take, refl, subst, sym, ap, ◌∙◌, inl, inr, arith, append_assoc, append-nil, length-append}
+use Rattle.std.proofs.Common.{◌≡◌, ◌≢◌, ◌+◌, ◌≤◌, ◌⊎◌, ℕ, Bool, false, true, List, [], ◌++◌, Option, None, Some, length, take, refl, subst, sym, ap, ◌∙◌, inl, inr, arith, append_assoc, append-nil, length-append}
 use Rattle.std.proofs.lemmas.List.{take-append-le}
 use Rattle.std.specs.Io.KnownBytes.{append_known}
+use Rattle.std.proofs.Math.Seq.{take-append-add}
 use Rattle.sexpr_text.specs.declared.faults.InputFault.{InputFault}
 use Rattle.plan_io.specs.Counts.{Rose}
 use Rattle.plan_io.specs.Held.{Gives, Held}
-use Rattle.command_base.specs.Answers.{Answer, affirmed, denied, refused, Refusal, no_command, text_fault, over_limit, read_fault, no_memory, full, stray_outcome, unexecutable, is_shown, status_of, text_of, write_fault_status}
-use Rattle.command_base.specs.Delivery.{CutErrors, CutOutput, IsDelivered, Refused, Seen, Showed, Takes, TakesPart, seen}
+use Rattle.command_base.specs.Answers.{Answer, affirmed, denied, refused, Refusal, no_command, text_fault, over_limit, read_fault, no_memory, full, stray_outcome, unexecutable, is_shown, status_of, text_of}
+use Rattle.command_base.specs.Delivery.{IsDelivered, Seen, Takes, TakesPart}
 use Rattle.command_base.specs.Values.{refusal_of}
 use Rattle.command_base.specs.Words.{Bytes}
 use Rattle.command_base.specs.declared.answers.Refusal.{Refusal as CodeRefusal}
 use Rattle.command_base.specs.declared.answers.Refusal.TheVariants.{NoCommand, TextFault, OverLimit, ReadFault, NoMemory, Full, StrayOutcome, Unexecutable}
-use Rattle.answer_help.specs.Helped.{CutErrorsWith, IsHelpFor, IsHelpedDelivery, IsRefusalHelp, IsPut, RefusedWith}
+use Rattle.answer_help.specs.Helped.{IsHelpFor, IsHelpedDelivery, IsRefusalHelp, IsPut}
 use Rattle.answer_help.specs.WrongWords.{WrongWords}
 
 append_known-append : (known : Option (List ℕ)) (first second : List ℕ) → append_known (append_known known first) second ≡ append_known known (first ++ second)
@@ -36,12 +37,6 @@ part_more text rest s after part =
       written = part.written ∙ ap (append_known s.written) (sym (take-append-le part.taken text rest within));
     }
 
-take_past : (first second : List ℕ) (n : ℕ) → take (length first + n) (first ++ second) ≡ first ++ take n second
-take_past [] second n = let e : 0 + n ≡ n = omega arith in ap (λ (k : ℕ). take k second) e
-take_past (x ∷ xs) second n =
-    let e : length (x ∷ xs) + n ≡ suc (length xs + n) = omega arith in
-    ap (λ (k : ℕ). take k (x ∷ (xs ++ second))) e ∙ ap (λ (l : List ℕ). x ∷ l) (take_past xs second n)
-
 -- a text was written, and then a part of a further one
 pub part_after : (first second : List ℕ) (s between after : Seen) → Takes first s between → TakesPart second between after → TakesPart (first ++ second) s after
 part_after first second s between after one part =
@@ -51,7 +46,7 @@ part_after first second s between after one part =
       short = omega (arith, short, length-append first second);
       written =
           part.written ∙ ap (λ known. append_known known (take part.taken second)) one.written ∙ append_known-append s.written first (take part.taken second)
-          ∙ ap (append_known s.written) (sym (take_past first second part.taken));
+          ∙ ap (append_known s.written) (sym (take-append-add first second part.taken));
     }
 
 -- what was put of a text, and then of a further one

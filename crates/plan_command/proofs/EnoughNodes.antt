@@ -1,8 +1,8 @@
 -- A limit that is tight for the sets of a task, or for those of its planners, is tight for the
 -- nodes that are enough, by both numbers.
-use Rattle.std.proofs.Common.{◌≡◌, ◌≤◌, ◌<◌, ◌+◌, ◌*◌, ◌^◌, ℕ, zero, suc, [], subst, sym, ◌∙◌, inl, inr, arith}
-use native.Mathlib.Nat.{pow-succ'}
+use Rattle.std.proofs.Common.{◌≡◌, ◌≤◌, ◌<◌, ◌+◌, ◌*◌, ◌^◌, ℕ, [], subst, sym, ◌∙◌, inl, inr, arith}
 use Rattle.std.proofs.Math.Nat.{mul-le-mul_right}
+use Rattle.list_laws.proofs.Numbers.{below_power_two}
 use Rattle.ctl_syntax.specs.declared.context_goals.ContextGoal.{ContextGoal}
 use Rattle.ctl_syntax.specs.declared.context_goals.ContextGoal.TheVariants.{Patrol, Until}
 use Rattle.cyclic_plan.specs.WorkingSets.IsWorkingSet.{by_task as of_cyclic}
@@ -53,20 +53,14 @@ task_small Strong t w bounds = λ set made. bounds.each set (of_reach set made)
 task_small Cyclic t w bounds = λ set made. bounds.each set (of_cyclic set made)
 
 -- and each set has fewer nodes than there are lists of truth values
-more_lists : (n : ℕ) → n + 2 ≤ 2 ^ n + 1
-more_lists zero = omega arith
-more_lists (suc n) =
-    let less : n + 2 ≤ 2 ^ n + 1 = more_lists n in
-    omega (arith, pow-succ' 2 n)
-
 pub all_bounds : (class : Class) (t : Task) → BoundsSets class t (2 ^ fluent_count t + 1)
-all_bounds Weak t = record { wide = more_lists (fluent_count t); each = λ set made. every_small (fluent_count t) set }
-all_bounds Strong t = record { wide = more_lists (fluent_count t); each = λ set made. every_small (fluent_count t) set }
-all_bounds Cyclic t = record { wide = more_lists (fluent_count t); each = λ set made. every_small (fluent_count t) set }
+all_bounds Weak t = record { wide = below_power_two (fluent_count t); each = λ set made. every_small (fluent_count t) set }
+all_bounds Strong t = record { wide = below_power_two (fluent_count t); each = λ set made. every_small (fluent_count t) set }
+all_bounds Cyclic t = record { wide = below_power_two (fluent_count t); each = λ set made. every_small (fluent_count t) set }
 
 pub all_goal_bounds : (goal : ContextGoal) (t : Task) → BoundsGoalSets goal t (2 ^ fluent_count t + 1)
-all_goal_bounds (Until chain) t = record { fluents = more_lists (fluent_count t); small = λ set made. every_small (fluent_count t) set }
-all_goal_bounds (Patrol visits) t = record { fluents = more_lists (fluent_count t); small = λ set made. every_small (fluent_count t) set }
+all_goal_bounds (Until chain) t = record { fluents = below_power_two (fluent_count t); small = λ set made. every_small (fluent_count t) set }
+all_goal_bounds (Patrol visits) t = record { fluents = below_power_two (fluent_count t); small = λ set made. every_small (fluent_count t) set }
 
 wide_of_goal : (goal : ContextGoal) (t : Task) (w : ℕ) → BoundsGoalSets goal t w → fluent_count t + 2 ≤ w
 wide_of_goal (Until chain) t w bounds = bounds.fluents

@@ -3,6 +3,7 @@
 use Rattle.std.proofs.Common.{◌≡◌, ◌↔◌, ◌≤◌, List, [], ◌∷◌, map, length, Option, Some, None, refl, sym, subst, ap, ◌∙◌, arith, true}
 use Rattle.std.specs.Prelude.{⊤}
 use Rattle.std.specs.Option.{option_map, option_map_or, option_or}
+use Rattle.list_laws.proofs.Elements.{map-map}
 use Rattle.ctl_syntax.specs.Conditions.{CondTree, all_of, condition_row, condition_value, states_of}
 use Rattle.ctl_syntax.specs.ContextGoals.{PlainGoal, plain_goal, map_goal, plain_patrol, plain_until}
 use Rattle.ctl_syntax.specs.GoalValues.{GoalTree, goal_conditions, tree_of_goal, patrol_goal, until_chain}
@@ -19,10 +20,6 @@ use Rattle.task_core.specs.Systems.{System}
 use Rattle.task_core.specs.declared.conditions.Cond.{Cond}
 use Rattle.plan_command.specs.GoalConditions.{grounded_parts, grounded_formula, sets_of_goal}
 use Rattle.plan_command.specs.GoalSets.{HasSets}
-
-pub map_map : {X Y Z : Type 0} (g : Y → Z) (h : X → Y) (xs : List X) → map g (map h xs) ≡ map (λ x. g (h x)) xs
-map_map g h [] = refl
-map_map g h (x ∷ xs) = ap (λ l. g (h x) ∷ l) (map_map g h xs)
 
 pub map_same : {X Y : Type 0} (f g : X → Y) (xs : List X) → ((x : X) → f x ≡ g x) → map f xs ≡ map g xs
 map_same f g [] same = refl
@@ -71,7 +68,7 @@ module _ {X : Type 0} (h : X → CondTree) where
   pub tree_of_mapped : (g : PlainGoal X) → tree_with h g ≡ tree_with itself (map_goal h g)
   tree_of_mapped (plain_until c) =
       let stages = map_same guarded_tree guarded_image c.stages guarded_same
-      ∙ sym (map_map (λ (s : PlainStage CondTree). record { guard = option_map_or itself s.guard (conjunction []); target = conjunction (map itself s.targets) }) (map_stage h) c.stages) in
+      ∙ sym (map-map (λ (s : PlainStage CondTree). record { guard = option_map_or itself s.guard (conjunction []); target = conjunction (map itself s.targets) }) (map_stage h) c.stages) in
       let keep = given c.keep in
       λ i. until_chain (record { stages = stages i; keep = keep i })
   tree_of_mapped (plain_patrol xs) = ap (λ (ts : List CondTree). patrol_goal ts) (sym (map_itself (map h xs)))

@@ -1,9 +1,11 @@
 -- The sets of states, and the number of stages or visits, of a goal of a task are those of the
 -- problem's goal.
-use Rattle.std.proofs.Common.{◌≡◌, ℕ, ◌≤◌, List, [], ◌∷◌, map, length, Option, Some, None, refl, sym, subst, ap, ◌∙◌, Bool, true, false, ◌&&◌, codes}
-use Rattle.std.specs.List.{list_all}
+use Rattle.std.proofs.Common.{◌≡◌, ℕ, ◌≤◌, List, [], map, length, Option, Some, None, refl, sym, subst, ap, ◌∙◌, codes}
 use Rattle.std.specs.Prelude.{option_to_list, ⊤}
 use Rattle.std.proofs.lemmas.List.{length-map}
+use Rattle.list_laws.proofs.Booleans.{and_one}
+use Rattle.list_laws.proofs.Elements.{map-map}
+use Rattle.pddl_system.proofs.Lists.{list_all-same}
 use Rattle.ctl_syntax.specs.Conditions.{CondTree, condition_value, states_of}
 use Rattle.ctl_syntax.specs.ContextGoals.{PlainGoal, plain_patrol, plain_until}
 use Rattle.ctl_syntax.specs.GoalValues.{GoalTree, tree_of_goal, patrol_goal, stage_sets, stage_value, until_chain}
@@ -26,12 +28,8 @@ use Rattle.plan_command.specs.FoundGoals.{CountsAs}
 use Rattle.plan_command.specs.GoalConditions.{grounded_parts, grounded_formula, grounded_formulas, grounded_or_true, grounded_stage, limit_of_goal, sets_of_goal}
 use Rattle.plan_command.specs.GoalSets.{GoalSets, all_hold, goal_sets, guarded_stage, of_patrol, of_until, one_holds}
 use Rattle.command_base.specs.Words.{Bytes}
-use Rattle.plan_command.proofs.GoalParts.{HasVisit, map_map, map_same}
+use Rattle.plan_command.proofs.GoalParts.{HasVisit, map_same}
 use Rattle.ctl_syntax.specs.GoalSizes.{HasSomeVisit, count_of, most_of, most_stages, most_visits}
-
-all_same : {X : Type 0} (f g : X → Bool) (xs : List X) → ((x : X) → f x ≡ g x) → list_all f xs ≡ list_all g xs
-all_same f g [] same = refl
-all_same f g (x ∷ xs) same = ap (λ b. b && list_all f xs) (same x) ∙ ap (λ b. g x && b) (all_same f g xs same)
 
 -- the states in which a tree of conditions holds
 abbrev set_of_tree : CondTree → SetOfVectors
@@ -49,7 +47,7 @@ of_condition : (c : Cond) → states_of c ≡ set_of_tree (condition_value c)
 of_condition c = λ i v. holds_is c (value_of v) i
 
 of_conditions : (conds : List Cond) → map states_of conds ≡ map set_of_tree (map condition_value conds)
-of_conditions conds = map_same states_of (λ c. set_of_tree (condition_value c)) conds of_condition ∙ sym (map_map set_of_tree condition_value conds)
+of_conditions conds = map_same states_of (λ c. set_of_tree (condition_value c)) conds of_condition ∙ sym (map-map set_of_tree condition_value conds)
 
 of_stage : (s : UntilStage) → stage_sets s ≡ stage_of_tree (stage_value s)
 of_stage s =
@@ -59,7 +57,7 @@ of_stage s =
 
 sets_by_tree : (goal : ContextGoal) → sets_of_goal goal ≡ sets_of_tree (tree_of_goal goal)
 sets_by_tree (Until chain) =
-    let stages = map_same stage_sets (λ s. stage_of_tree (stage_value s)) chain.stages.items of_stage ∙ sym (map_map stage_of_tree stage_value chain.stages.items) in
+    let stages = map_same stage_sets (λ s. stage_of_tree (stage_value s)) chain.stages.items of_stage ∙ sym (map-map stage_of_tree stage_value chain.stages.items) in
     let keep = of_condition chain.keep in
     λ i. of_until (record { stages = stages i; keep = keep i })
 sets_by_tree (Patrol visits) = ap of_patrol (of_conditions visits.items)
@@ -71,18 +69,14 @@ module _ (d : DomainTree) (p : ProblemTree) where
   of_formulas : (fs : List FormulaTree) (v : Vector) → set_of_tree (grounded_formulas d p fs) v ≡ all_hold d p fs v
   of_formulas fs v =
       trees_hold-row (grounded_formula d p) fs (value_of v)
-      ∙ all_same (λ f. tree_holds (grounded_formula d p f) (value_of v)) (λ f. formula_holds (setting d p) (fluents d p) v f []) fs (λ f. one_formula f v)
+      ∙ list_all-same (λ f. tree_holds (grounded_formula d p f) (value_of v)) (λ f. formula_holds (setting d p) (fluents d p) v f []) (λ f. one_formula f v) fs
 
   set_of_formulas : (fs : List FormulaTree) → set_of_tree (grounded_formulas d p fs) ≡ all_hold d p fs
   set_of_formulas fs = λ i v. of_formulas fs v i
 
   -- a single formula holds where the conjunction of it does
-  and_true : (b : Bool) → b ≡ (b && true)
-  and_true true = refl
-  and_true false = refl
-
   of_one : (f : FormulaTree) (v : Vector) → set_of_tree (grounded_formula d p f) v ≡ one_holds d p f v
-  of_one f v = one_formula f v ∙ and_true (formula_holds (setting d p) (fluents d p) v f [])
+  of_one f v = one_formula f v ∙ and_one (formula_holds (setting d p) (fluents d p) v f [])
 
   set_of_one : (f : FormulaTree) → set_of_tree (grounded_formula d p f) ≡ one_holds d p f
   set_of_one f = λ i v. of_one f v i
@@ -99,11 +93,11 @@ module _ (d : DomainTree) (p : ProblemTree) where
 
   sets_of_parts : (parts : PlainGoal FormulaTree) → sets_of_tree (grounded_parts d p parts) ≡ goal_sets d p parts
   sets_of_parts (plain_until c) =
-      let stages = map_map stage_of_tree (grounded_stage d p) c.stages ∙ map_same (λ s. stage_of_tree (grounded_stage d p s)) (guarded_stage d p) c.stages of_guarded in
+      let stages = map-map stage_of_tree (grounded_stage d p) c.stages ∙ map_same (λ s. stage_of_tree (grounded_stage d p s)) (guarded_stage d p) c.stages of_guarded in
       let keep = of_given c.keep in
       λ i. of_until (record { stages = stages i; keep = keep i })
   sets_of_parts (plain_patrol fs) =
-      ap of_patrol (map_map set_of_tree (grounded_formula d p) fs ∙ map_same (λ f. set_of_tree (grounded_formula d p f)) (one_holds d p) fs set_of_one)
+      ap of_patrol (map-map set_of_tree (grounded_formula d p) fs ∙ map_same (λ f. set_of_tree (grounded_formula d p f)) (one_holds d p) fs set_of_one)
 
   pub same_sets : (goal : ContextGoal) (parts : PlainGoal FormulaTree) → tree_of_goal goal ≡ grounded_parts d p parts → sets_of_goal goal ≡ goal_sets d p parts
   same_sets goal parts is = sets_by_tree goal ∙ (ap sets_of_tree is ∙ sets_of_parts parts)
