@@ -27,7 +27,6 @@ use Rattle.patrol_plan.specs.declared.rounds.Way.{Way}
 use Rattle.patrol_plan.specs.declared.rounds.Way.TheVariants.{Growing, Shrinking}
 use Rattle.patrol_plan.proofs.Guards.{must_inside}
 use Rattle.patrol_plan.proofs.SizeSteps.{small_states}
-use Rattle.plan_theory.specs.GuardedSets.{anywhere}
 
 -- a set of states depends on the first values alone
 same_values : (p q : ℕ → Bool) (first n : ℕ) → ((u : ℕ) → first ≤ u → u < first + n → p u ≡ q u) → map p (range_with_len first n) ≡ map q (range_with_len first n)

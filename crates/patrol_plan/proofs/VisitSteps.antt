@@ -48,7 +48,6 @@ use Rattle.patrol_plan.proofs.SizeSteps.{placed_small, fits_small, round_fits_sa
 use Rattle.patrol_plan.proofs.StageLemmas.{near_same}
 use Rattle.patrol_plan.proofs.TakenSteps.{takers_within}
 use Rattle.patrol_plan.proofs.WinSteps.{space_holds}
-use Rattle.plan_theory.specs.GuardedSets.{anywhere}
 
 -- the first of some lists
 pub all_more : {X : Type 0} (f : X → Bool) (xs : List X) (i : ℕ) (other : X) → i < length xs → (list_all f (take i xs) && f (get_or xs i other)) ≡ list_all f (take (suc i) xs)

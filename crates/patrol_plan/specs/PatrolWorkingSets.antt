@@ -19,7 +19,6 @@ use Rattle.task_core.specs.declared.conditions.Cond.{Cond}
 use Rattle.task_core.specs.declared.tasks.Task.{Task}
 use Rattle.patrol_plan.specs.Chains.{visit_sets}
 use Rattle.patrol_plan.specs.WorkingSets.{IsMadeInside, function_of}
-use Rattle.plan_theory.specs.GuardedSets.{anywhere}
 
 -- visit i of some
 abbrev pub visit_at : List SetOfVectors → ℕ → SetOfVectors
