@@ -1,7 +1,7 @@
 -- The stages of an until-chain, and the visits of a patrol.
 use Rattle.std.proofs.Common.{◌≡◌, ℕ, zero, suc, ◌+◌, ◌*◌, ◌-◌, ◌<◌, ◌≤◌, true, false, ◌&&◌, List, [], ◌∷◌, All, drop, length, get_or, map, refl, sym, ap, subst, ◌∙◌, ⊎_elim, arith}
 use Rattle.std.proofs.lemmas.Bool.{cases_eq}
-use Rattle.std.proofs.lemmas.List.{drop_all, length-map}
+use Rattle.std.proofs.lemmas.List.{drop_all, get_or-map, length-map}
 use Rattle.std.proofs.lemmas.List.Elements.{All-get_or}
 use Rattle.dd_nodes.specs.Subfunctions.{Function}
 use Rattle.dd_ops.specs.Operations.{and_of}
@@ -145,11 +145,6 @@ chain_more origin keep stages stage x i win some few is same won =
     (subst (λ (rest : List SetStage). IsChainWin (sys_of origin) keep rest (states_in x win)) (sym list) won)
 
 -- visits
-get_map : {X Y : Type 0} (f : X → Y) (xs : List X) (k : ℕ) (d : Y) (e : X) → k < length xs → get_or (map f xs) k d ≡ f (get_or xs k e)
-get_map f [] k d e l = absurd (omega (arith, l))
-get_map f (x ∷ xs) zero d e l = refl
-get_map f (x ∷ xs) (suc k) d e l = get_map f xs k d e (omega (arith, l))
-
 pub visits_none : (origin : Origin) (visits : List Cond) (first : ℕ) (x : Scene) → HasVisits origin visits first x 0
 visits_none origin visits first x i l = absurd (omega arith)
 
@@ -159,7 +154,7 @@ visits_more origin visits cond first x y n less within is h put i l v vector =
     ⊎_elim
     (λ (same : i ≡ n).
     subst (λ (k : ℕ). states_in y (first + k) v ≡ get_or (map states_of visits) k anywhere v) (sym same)
-    (ap (λ (f : Function). f (value_of v)) put.here ∙ ap (λ (c : Cond). states_of c v) is ∙ sym (ap (λ (f : SetOfVectors). f v) (get_map states_of visits n anywhere cond less))))
+    (ap (λ (f : Function). f (value_of v)) put.here ∙ ap (λ (c : Cond). states_of c v) is ∙ sym (ap (λ (f : SetOfVectors). f v) (get_or-map states_of visits n cond anywhere less))))
     (λ (d : i ≡ n → ⊥).
     let low_i : i < n = let e = d in omega arith in
     ap (λ (f : Function). f (value_of v)) (put.others (first + i) (omega arith) (λ e. d (omega arith))) ∙ h i low_i v vector)

@@ -15,10 +15,6 @@ use Rattle.task_core.specs.Systems.{HasOutcome, IsSystem, System}
 use Rattle.task_core.specs.Vectors.{Vector}
 use Rattle.patrol_plan.specs.WorkingSets.{kept_states}
 
-in_true : (a b : Bool) → a ≡ true → (a && b) ≡ b
-in_true true b e = refl
-in_true false b e = absurd (let h : false ≡ true = e in cc)
-
 from_true : (a b : Bool) → (b ≡ true → a ≡ true) → (a && b) ≡ b
 from_true true b up = refl
 from_true false true up = up refl
@@ -28,7 +24,7 @@ module _ (sys : System) (ok : IsSystem sys) (keep : SetOfVectors) where
   -- an action leads into a set where it leads into the states of the set
   leads_kept : (f g : SetOfVectors) → ((t : Vector) → f t ≡ (sys.in_space t && g t)) → (v : Vector) (a : ℕ) → must_lead sys f v a ≡ must_lead sys g v a
   leads_kept f g same v a =
-      let each : (t : Vector) → HasOutcome sys v a t → f t ≡ g t = λ t o. same t ∙ in_true (sys.in_space t) (g t) (ok.next v a t o).inside in
+      let each : (t : Vector) → HasOutcome sys v a t → f t ≡ g t = λ t o. same t ∙ ap (λ b. b && g t) (ok.next v a t o).inside in
       ap (λ b. b && list_all f (sys.next v a)) (list_any-agree f g (sys.next v a) each)
       ∙ ap (λ b. list_any g (sys.next v a) && b) (list_all-agree f g (sys.next v a) each)
 

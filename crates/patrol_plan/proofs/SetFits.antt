@@ -20,7 +20,7 @@ use Rattle.task_core.specs.Tasks.{action_count, fluent_count, outcomes_at}
 use Rattle.task_core.specs.Vectors.{Vector, value_of}
 use Rattle.task_core.specs.declared.actions.Outcome.{Outcome}
 use Rattle.patrol_plan.specs.Rounds.{turn_by}
-use Rattle.patrol_plan.specs.Scenes.{Start, board_of, guarded, sys_in, sys_of}
+use Rattle.patrol_plan.specs.Scenes.{Start, guarded, sys_in, sys_of}
 use Rattle.patrol_plan.specs.Sizes.{IsSmall, RoundFits}
 use Rattle.patrol_plan.specs.WorkingSets.{function_of, hits_inside}
 use Rattle.patrol_plan.specs.declared.rounds.Way.{Way}

@@ -1,10 +1,10 @@
 -- The rounds of a search for a patrol goal: from the states that are left to those that a round leaves of
 -- them, and the last round.
-use Rattle.std.proofs.Common.{inr, ◌≡◌, ◌≢◌, ℕ, zero, suc, ◌+◌, ◌<◌, ◌≤◌, Bool, true, false, ◌&&◌, List, [], ◌∷◌, get_or, length, map, take, refl, sym, ap, subst, ◌∙◌, ⊎_elim, arith}
+use Rattle.std.proofs.Common.{inr, ◌≡◌, ◌≢◌, ℕ, zero, suc, ◌+◌, ◌<◌, ◌≤◌, Bool, true, false, ◌&&◌, List, [], ◌∷◌, get_or, length, take, refl, sym, ap, subst, ◌∙◌, ⊎_elim, arith}
 use Rattle.std.specs.List.{list_all}
 use Rattle.std.proofs.Math.Bool.{and_self_left}
 use Rattle.std.proofs.lemmas.Bool.{and_parts, cases_Bool, cases_eq, true≢false}
-use Rattle.std.proofs.lemmas.List.{length-map, take_all}
+use Rattle.std.proofs.lemmas.List.{get_or-map, length-map, take_all}
 use Rattle.dd_nodes.specs.Subfunctions.{Function}
 use Rattle.dd_ops.specs.Operations.{and_of}
 use Rattle.dd_sets.specs.LiveSets.{set_of}
@@ -55,11 +55,6 @@ all_more f [] i other less = absurd (omega arith)
 all_more f (x ∷ xs) zero other less = and_one (f x)
 all_more f (x ∷ xs) (suc i) other less =
     and_assoc (f x) (list_all f (take i xs)) (f (get_or xs i other)) ∙ ap (λ b. f x && b) (all_more f xs i other (omega arith))
-
-pub get_map : {X Y : Type 0} (f : X → Y) (xs : List X) (i : ℕ) (other : X) (d : Y) → i < length xs → get_or (map f xs) i d ≡ f (get_or xs i other)
-get_map f [] i other d less = absurd (omega arith)
-get_map f (x ∷ xs) zero other d less = refl
-get_map f (x ∷ xs) (suc i) other d less = get_map f xs i other d (omega arith)
 
 pub and_last : (a b c : Bool) → ((a && b) && c) ≡ (a && (c && b))
 and_last true true c = go c
@@ -136,7 +131,7 @@ module _ (start : Start) (conds : List Cond) (x m : Scene) (r : ℕ) (h : IsLeft
 
 -- the visit of a condition
 visit_is : (conds : List Cond) (cond : Cond) (i : ℕ) → i < length conds → cond ≡ get_or conds i cond → visit_at (visit_sets conds) i ≡ states_of cond
-visit_is conds cond i less is = get_map states_of conds i cond (λ v. false) less ∙ ap states_of (sym is)
+visit_is conds cond i less is = get_or-map states_of conds i cond (λ v. false) less ∙ ap states_of (sym is)
 
 -- where a visit is made
 module _ (start : Start) (conds : List Cond) (x m : Scene) (r i : ℕ) (cond : Cond) (less : i < length conds) (is_visit : cond ≡ get_or conds i cond) (h : HasVisits start conds x r i) (first : Moved start x m (visit_place i) (holds cond)) where

@@ -7,7 +7,7 @@ use Rattle.std.proofs.Math.Path.{fun_ext}
 use Rattle.std.proofs.lemmas.Bool.{cases_eq, cases_lt, cond-false, cond-true, eq-eqb, lt-ltb, ltb-true, ne_eqb, false_from_ne_true}
 use Rattle.std.proofs.lemmas.List.{get_or_past, get_or-set_same, get_or-set_other, length_push, take-append-le}
 use Rattle.std.proofs.lemmas.List.Folds.{list_all-append}
-use Rattle.list_laws.proofs.Booleans.{and_first, and_second, or_assoc, or_none, or_true}
+use Rattle.list_laws.proofs.Booleans.{and_first, and_second, or_assoc, or_none, or_same, or_true}
 use Rattle.dd_nodes.specs.Subfunctions.{DependsOnly, Function}
 use Rattle.dd_ops.specs.Operations.{minus_of, or_of}
 use Rattle.dd_sets.specs.LiveSets.{nothing, set_of}
@@ -221,13 +221,8 @@ preimage_inside Strong task a set values is = and_first (exec_set task a values)
 preimage_inside Cyclic task a set values is = and_first (exec_set task a values) (some_outcome_in task a set values) is
 
 -- joined with a part of itself a set is itself
-absorbed : (g p : Bool) → (p ≡ true → g ≡ true) → (g || p) ≡ g
-absorbed true p up = refl
-absorbed false false up = refl
-absorbed false true up = sym (up refl)
-
 pub joined_part : (g p : Function) → ((values : Values) → p values ≡ true → g values ≡ true) → or_of g p ≡ g
-joined_part g p part = fun_ext (λ values. absorbed (g values) (p values) (part values))
+joined_part g p part = fun_ext (λ values. sym (or_same (g values) (p values) (part values)))
 
 -- and what is new of the part is nothing
 nothing_new : (x g p : Bool) → (g || p) ≡ g → (x || (p && not g)) ≡ x

@@ -1,9 +1,8 @@
 -- The layers of a task's system as sets on diagrams: the goal, one layer more, and the last one.
-use Rattle.std.proofs.Common.{◌≡◌, ℕ, suc, ◌+◌, ◌-◌, ◌<◌, Bool, true, false, cond, not, ◌&&◌, ◌||◌, List, [], Some, None, refl, sym, ap, subst, ◌∙◌, ⊎_elim, arith, nat_lt}
+use Rattle.std.proofs.Common.{◌≡◌, ℕ, suc, ◌-◌, ◌<◌, Bool, true, false, cond, not, ◌&&◌, ◌||◌, List, [], Some, None, refl, sym, ap, subst, ◌∙◌, ⊎_elim, nat_lt}
 use Rattle.std.specs.List.{Contains, find, list_any, range_with_len}
-use Rattle.std.specs.Option.{option_and_then, option_map, option_or, unwrap_or}
-use Rattle.std.proofs.lemmas.Bool.{and_from, and_parts, cases_Bool, cond-true, both_ways, eq-eqb, false_from_ne_true, lt-ltb, ne_eqb, or_left, true≢false}
-use Rattle.std.proofs.lemmas.List.Folds.{find-append}
+use Rattle.std.specs.Option.{option_and_then, option_map, unwrap_or}
+use Rattle.std.proofs.lemmas.Bool.{and_from, and_parts, cases_Bool, cond-true, both_ways, false_from_ne_true, lt-ltb, or_left}
 use Rattle.dd_nodes.specs.Subfunctions.{DependsOnly, Function}
 use Rattle.dd_ops.specs.Operations.{minus_of, or_of}
 use Rattle.task_core.specs.Conditions.{holds}
@@ -24,11 +23,10 @@ use Rattle.plan_theory.specs.Layers.{action_numbers, layer, leads_by}
 use Rattle.reach_plan.specs.LayerSets.{AreTakers, IsLayerSet, class_preimage, grown, taken_by}
 use Rattle.plan_theory.specs.LayerPlans.{action_of_rank, chosen_action, is_action, takers}
 use Rattle.plan_theory.proofs.ClassLayers.{chosen_zero, layer-zero, layer-zero_goal, rank_within-None, step_choice}
-use Rattle.list_laws.proofs.Ranges.{find-first, range_split}
-use Rattle.list_laws.proofs.Elements.{Contains-range_with_len-below, find-None, find-Some, find-found, list_all-agree, list_any-agree}
+use Rattle.list_laws.proofs.Elements.{list_all-agree, list_any-agree}
 use Rattle.plan_theory.proofs.FewerStates.{fewer_outside}
+use Rattle.plan_theory.proofs.FirstActions.{first_is}
 use Rattle.plan_theory.proofs.RoundSteps.{held}
-use Rattle.plan_theory.proofs.WeakPrinted.{is_action-Some}
 
 -- the goal states are layer 0
 pub goal_is_layer : (class : Class) (task : Task) (goal : Cond) → task.goal ≡ Some goal → DependsOnly 0 (fluent_count task) (goal_set task goal) → IsLayerSet class task 0 (goal_set task goal)
@@ -79,26 +77,6 @@ module _ (weak : WeakLeadsToSome) (strong : StrongLeadsToAll) (task : Task) (k :
     agrees = λ v long. ap (λ (f : Function). f (value_of v)) made ∙ grown_is class is v long (action_count task);
   }
 
--- the first number that passes a test
-first_number : (p : ℕ → Bool) (n a : ℕ) → a < n → is_action a (find p (range_with_len 0 n)) ≡ (p a && not (list_any p (range_with_len 0 a)))
-first_number p n a below = at (p a) refl (list_any p (range_with_len 0 a)) refl
-  where
-    split : find p (range_with_len 0 n) ≡ option_or (find p (range_with_len 0 a)) (find p (range_with_len a (n - a)))
-    split = ap (λ m. find p (range_with_len 0 m)) (let e : n ≡ a + (n - a) = omega arith in e) ∙ (ap (find p) (range_split a (n - a)) ∙ find-append p (range_with_len 0 a) (range_with_len a (n - a)))
-
-    earlier : list_any p (range_with_len 0 a) ≡ true → is_action a (find p (range_with_len 0 n)) ≡ false
-    earlier some =
-        let first = find-Some p (range_with_len 0 a) some in
-        let found = find-found p (range_with_len 0 a) first.0 first.1 in
-        let low : first.0 < a = Contains-range_with_len-below a first.0 found.0 in
-        ap (is_action a) (split ∙ ap (λ o. option_or o (find p (range_with_len a (n - a)))) first.1) ∙ ne_eqb a first.0 (λ e. absurd (omega arith))
-
-    at : (b : Bool) → p a ≡ b → (c : Bool) → list_any p (range_with_len 0 a) ≡ c → is_action a (find p (range_with_len 0 n)) ≡ (b && not c)
-    at true here true some = earlier some
-    at true here false none = ap (is_action a) (find-first p a n (find-None p (range_with_len 0 a) none) below here) ∙ eq-eqb a a refl
-    at false here c any = false_from_ne_true (is_action a (find p (range_with_len 0 n)))
-        (λ taken. true≢false (sym ((find-found p (range_with_len 0 n) a (is_action-Some a (find p (range_with_len 0 n)) taken)).1) ∙ here))
-
 -- what the actions take, one layer on
 kept_taken : (x p b : Bool) → (x || (p && not (true || b))) ≡ x
 kept_taken true p b = refl
@@ -120,7 +98,7 @@ module _ (weak : WeakLeadsToSome) (strong : StrongLeadsToAll) (task : Task) (k :
       step v a below true inside = kept_taken (is_action a (chosen_action class sys k v)) (leads v a) (list_any (leads v) (range_with_len 0 a))
       step v a below false outside =
           let none : chosen_action class sys k v ≡ None = ap (option_and_then (action_of_rank class sys v)) (rank_within-None class sys k v outside) in
-          ap (λ o. is_action a o || (leads v a && not (list_any (leads v) (range_with_len 0 a)))) none ∙ sym (first_number (leads v) (action_count task) a below)
+          ap (λ o. is_action a o || (leads v a && not (list_any (leads v) (range_with_len 0 a)))) none ∙ first_is (leads v) (action_count task) a below
 
       takes : (a : ℕ) (v : Vector) → a < action_count task → IsVector sys v → taken_by class task set before (action_count task) a (value_of v) ≡ takers class sys (suc k) a v
       takes a v below long =
