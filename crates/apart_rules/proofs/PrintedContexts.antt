@@ -10,7 +10,7 @@ use Rattle.task_core.specs.Systems.{System, Exec, IsState, IsSystem, IsVector}
 use Rattle.task_core.specs.Vectors.{Vector}
 use Rattle.plan_document.specs.Faithful.{IsToldRule}
 use Rattle.plan_rules.specs.Rules.{ContextRule}
-use Rattle.plan_theory.specs.ContextRules.{StatesOfRules, action_rules, context_rules, next_rules, rules_in_context}
+use Rattle.plan_theory.specs.ContextRules.{StatesOfRules, action_rules, context_rules, next_rules, rule_for, rules_in_context}
 use Rattle.plan_theory.specs.LayerPlans.{is_action}
 use Rattle.plan_theory.specs.Layers.{action_numbers, must_lead}
 use Rattle.plan_theory.specs.PatrolPrinted.{patrol_action, patrol_next, patrol_nexts, patrol_rules, patrol_states}
@@ -22,7 +22,6 @@ use Rattle.plan_theory.proofs.Cubes.{cubes_match}
 use Rattle.plan_theory.proofs.PatrolSets.{acts_in_patrol}
 use Rattle.plan_theory.proofs.Tests.{HasOutcome-Exec, is_action-Some}
 use Rattle.plan_theory.proofs.UntilTowards.{chain_acts}
-use Rattle.plan_theory.specs.SetWords.{rule_for}
 use Rattle.list_laws.proofs.Elements.{Contains-cases, Contains-flat_map-witness, Contains-map-witness, Contains-nil, list_any-from, list_any-witness}
 use Rattle.controller_rules.specs.AsRun.{counts_at}
 use Rattle.apart_rules.proofs.ApartCubes.{AreApartCubes, Each, cubes_apart, cubes_matched, cubes_rise}

@@ -12,12 +12,11 @@ use Rattle.task_core.specs.Vectors.{Vector}
 use Rattle.plan_rules.specs.Denoted.{denoted_contexts, next_context}
 use Rattle.plan_rules.specs.Plans.{IsContextOf, IsContextRuleOf, IsCubeOf}
 use Rattle.plan_rules.specs.Rules.{ContextRule, PlanNext, always}
-use Rattle.plan_theory.specs.ContextRules.{StatesOfRules, action_rules, context_rules, next_rules, rules_in_context}
+use Rattle.plan_theory.specs.ContextRules.{StatesOfRules, action_rules, context_rules, next_rules, rule_for, rules_in_context}
 use Rattle.plan_theory.specs.Layers.{action_numbers, may_lead, must_lead}
 use Rattle.plan_theory.proofs.Cubes.{cubes_match}
 use Rattle.plan_theory.proofs.PrintedWithin.{All-flat_map, cubes_below, range_below}
 use Rattle.plan_theory.proofs.Weak.{HasOutcome-Exec}
-use Rattle.plan_theory.specs.SetWords.{rule_for}
 use Rattle.list_laws.proofs.Elements.{Contains-cons, Contains-flat_map, Contains-flat_map-witness, Contains-head, Contains-map, Contains-map-witness, Contains-range_with_len, find-Some, find-found, list_any-from, list_any-witness}
 
 -- a number among those from a on
