@@ -5,10 +5,12 @@ use Rattle.std.specs.Prelude.{◌&&◌}
 use Rattle.std.specs.List.{Contains}
 use Rattle.std.proofs.lemmas.Bool.{and_from, and_parts, cond_both, false≢true, true≢false}
 use Rattle.std.proofs.lemmas.List.Elements.{Contains-append_cases}
+use Rattle.task_core.proofs.Vectors.{same_value_refl}
 use Rattle.task_core.specs.declared.literals.Lit.{Lit}
 use Rattle.task_core.specs.Vectors.{Vector, same_value, value_of}
 use Rattle.task_core.specs.Cubes.{Cube, SetOfVectors, matches, literal, half, is_empty_set, is_whole_set, ignores_first, cubes_from}
 use Rattle.list_laws.proofs.Elements.{Contains-cases, Contains-map-witness, Contains-nil}
+use Rattle.plan_theory.proofs.Cubes.{value_of-middle}
 use Rattle.apart_rules.proofs.Lists.{Pairwise, pairwise-append, pairwise-map, pairwise-weaker}
 
 -- no vector has the literals of both cubes
@@ -64,14 +66,6 @@ some_vector : (n : ℕ) → (v : Vector) × (length v ≡ n)
 some_vector zero = ([], refl)
 some_vector (suc n) = let w = some_vector n in (false ∷ w.0, ap suc w.1)
 
-value_of-middle : (before : Vector) (x : Bool) (after : Vector) → value_of (before ++ x ∷ after) (length before) ≡ x
-value_of-middle [] x after = refl
-value_of-middle (y ∷ ys) x after = value_of-middle ys x after
-
-same_itself : (b : Bool) → same_value b b ≡ true
-same_itself true = refl
-same_itself false = refl
-
 -- one value more before it
 matched_on : (before : Vector) (b : Bool) (n : ℕ) (cube : Cube) → Matched (before ++ b ∷ []) n cube → Matched before (suc n) cube
 matched_on before b n cube m = record {
@@ -85,7 +79,7 @@ matched_literal before first b n cube e m = record {
   rest = b ∷ m.rest;
   long = ap suc m.long;
   matched = and_from (same_value (value_of (before ++ b ∷ m.rest) first) b) (matches cube (before ++ b ∷ m.rest))
-      (ap (λ (x : Bool). same_value x b) (ap (value_of (before ++ b ∷ m.rest)) (sym e) ∙ value_of-middle before b m.rest) ∙ same_itself b)
+      (ap (λ (x : Bool). same_value x b) (ap (value_of (before ++ b ∷ m.rest)) (sym e) ∙ value_of-middle before b m.rest) ∙ same_value_refl b)
       (subst (λ (w : Vector). matches cube w ≡ true) (append_assoc before (b ∷ []) m.rest) m.matched);
 }
 

@@ -16,7 +16,7 @@ use Rattle.controller_rules.specs.Checks.{AgreeBelow, ServesIn, place_of, plain_
 use Rattle.controller_rules.specs.declared.run_rules.RunRules.{RunRules}
 
 -- a configuration by its parts
-place_is : (n : ℕ) (x : Configuration) (state : State) (context : ℕ) → x.state ≡ vector n state → x.context ≡ context → place_of n state context ≡ x
+pub place_is : (n : ℕ) (x : Configuration) (state : State) (context : ℕ) → x.state ≡ vector n state → x.context ≡ context → place_of n state context ≡ x
 place_is n x state context s c = λ i. record { state = sym s i; context = sym c i }
 
 module _ (n : ℕ) (rules : List ContextRule) (graph : PlainGraph) (number : ℕ) (state : State) (context : ℕ) (state_is : (graph.configuration number).state ≡ vector n state)

@@ -16,6 +16,7 @@ use Rattle.plan_guide.specs.RunRules.{run_rules}
 use Rattle.plan_rules.specs.Plans.{IsAutomatonOf, IsContextOf, IsContextRuleOf, IsNextOf, IsPlainPlanOf, IsRuleOf, most_contexts}
 use Rattle.plan_rules.specs.Rules.{PlainPlan, always, automaton, context_rule_of, next_of, table}
 use Rattle.plan_rules.specs.declared.rules.AutoRule.{AutoRule}
+use Rattle.controller_rules.proofs.Graphs.{place_is}
 use Rattle.controller_rules.specs.declared.run_rules.RunRule.{RunRule}
 use Rattle.controller_rules.specs.AsRun.{IsFirstAt, counts_at}
 use Rattle.controller_rules.specs.Checks.{ServesIn, place_of, run_value}
@@ -43,10 +44,6 @@ none_first rules x len k long none is = by_place (cases_lt k len)
     by_place : (k < len) ⊎ (len ≤ k) → ⊥
     by_place (inl inside) = false≢true (sym (none k (omega arith) inside) ∙ is.counts)
     by_place (inr past) = false≢true (sym (beyond (map (counts_at x) rules) k (omega (arith, long, past))) ∙ is.counts)
-
--- a configuration by its parts
-place_is : (n : ℕ) (x : Configuration) (state : State) (context : ℕ) → x.state ≡ vector n state → x.context ≡ context → place_of n state context ≡ x
-place_is n x state context s c = λ i. record { state = sym s i; context = sym c i }
 
 -- one configuration more
 pub serving_more : (n : ℕ) (rules : List ContextRule) (graph : PlainGraph) (number : ℕ) (state : State) (context : ℕ) → (graph.configuration number).state ≡ vector n state

@@ -2,29 +2,18 @@
 -- byte.
 use Rattle.std.specs.Prelude.{ℕ, ◌+◌, List, [], ◌∷◌, ◌++◌, codes, decimal}
 use Rattle.dead_ends.specs.Strays.{PlainStray}
-use Rattle.plan_rules.specs.Texts.{atom_text, line_feed, name_at}
+use Rattle.plan_rules.specs.Texts.{atom_text, line_feed, name_at, class_word}
 use Rattle.plan_witness.specs.Runs.{PlainRun, PlainStep}
-use Rattle.state_text.specs.Texts.{changes_text, true_text}
+use Rattle.state_text.specs.Texts.{changes_text, true_text, number_text}
 use Rattle.task_core.specs.Names.{Name}
 use Rattle.task_core.specs.Vectors.{Vector}
 use Rattle.task_core.specs.declared.classes.Class.{Class}
-use Rattle.task_core.specs.declared.classes.Class.TheVariants.{Cyclic, Strong, Weak}
-
--- the word of a class
-abbrev pub class_word : Class → List ℕ
-class_word Weak = codes "weak"
-class_word Strong = codes "strong"
-class_word Cyclic = codes "cyclic"
 
 -- the lines before a run: what it is, and its initial state, as initial 0: (at a) (up)
 abbrev pub head_lines : List Name → ℕ → Vector → List ℕ
 head_lines fluents number state =
     codes "a shortest run to the goal, if outcomes could be chosen:" ++ line_feed
     ++ codes "initial " ++ decimal number ++ codes ":" ++ true_text fluents state ++ line_feed
-
--- the number of a step, counted from 1, as step 3,
-abbrev pub number_text : ℕ → List ℕ
-number_text number = codes "step " ++ decimal number ++ codes ", "
 
 -- the action and the outcome of a step, as (go a b), outcome 0
 abbrev pub move_text : List Name → PlainStep → List ℕ

@@ -1,18 +1,17 @@
 //! The text of a run, and of a dead end beside it.
 
 ghost use Rattle.dead_ends.specs.Texts.{
-  class_word,
   dead_end_line,
   end_text,
   head_lines,
   move_text,
-  number_text,
   place_text,
   run_text,
   step_lines,
   steps_text,
 };
 ghost use Rattle.dead_ends.specs.Values.{stray_value};
+ghost use Rattle.plan_rules.specs.Texts.{class_word};
 ghost use Rattle.plan_witness.specs.Values.{run_value, step_value, steps_value};
 ghost use Rattle.std.specs.Prelude.{◌≡◌, ◌+◌, ◌++◌, OnOk, decimal, string_bytes, ℕ};
 ghost use Rattle.task_core.specs.States.{vector};
@@ -21,7 +20,7 @@ ghost use Rattle.task_core.specs.Tasks.{action_names, fluent_count, fluent_names
 use crate::strays::Stray;
 use plan_rules::push_number;
 use plan_witness::{Run, RunStep};
-use state_text::{push_action, push_changes, push_true};
+use state_text::{push_action, push_changes, push_step_number, push_true};
 use std::alloc::AllocError;
 use task_core::{Class, State, Task};
 
@@ -84,15 +83,6 @@ fn push_step(
     push_step_number(out, number)?;
     push_move(out, task, step)?;
     push_changes(out, task, before, &step.state)
-}
-
-/// Appends the number of a step.
-fn push_step_number(out: &mut String, number: usize) -> Result<(), AllocError>
-    ensures { OnOk result (string_bytes out.new ≡ string_bytes out.old ++ number_text number) }
-{
-    out.push_str("step ")?;
-    push_number(out, number)?;
-    out.push_str(", ")
 }
 
 /// Appends the action and the outcome of a step.

@@ -27,7 +27,7 @@ use Rattle.exec_graph.specs.Moves.{with_configuration}
 use Rattle.exec_graph.specs.declared.effects.Effect.{Effect}
 use Rattle.exec_graph.specs.declared.effects.Effects.{Effects}
 use Rattle.exec_graph.specs.declared.graphs.Place.{Place}
-use Rattle.list_laws.proofs.Booleans.{and_true}
+use Rattle.list_laws.proofs.Booleans.{and_true, or_none}
 
 -- which fluents the changes name, where their conditions always hold
 makes_named : (xs : List Change) → All (λ (change : Change). AlwaysHolds change.cond) xs → (positive : Bool) (value : ℕ → Bool) (f : ℕ)
@@ -112,15 +112,11 @@ pub known_state : (task : Task) (a k number : ℕ) (s : State) (next : PlanNext)
 known_state task a k number s next places effects are within h =
     are k h.effect h.known s within ∙ ap (λ g. Some (map g (range_with_len 0 (fluent_count task)))) (fun_ext (λ f. sym (h.state f)))
 
-or_false : (b : Bool) → b ≡ (b || false)
-or_false true = refl
-or_false false = refl
-
 -- the move to it
 pub known_move : (inside : Vector → Bool) (next : PlanNext) (m : Moved) (t : Vector) (x : Configuration) → next ≡ always x.context → t ≡ x.state
     → cond (inside x.state) (with_configuration m x) m ≡ with_if_state inside next m t
 known_move inside next m t x is same =
-    ap (λ w. cond (inside x.state) w m) (λ i. let moved : Moved = record { next = add_configuration m.next x; refused = m.refused; lost = or_false m.lost i } in moved)
+    ap (λ w. cond (inside x.state) w m) (λ i. let moved : Moved = record { next = add_configuration m.next x; refused = m.refused; lost = or_none m.lost i } in moved)
     ∙ ap (λ p. with_if_state inside p m x.state) (sym is)
     ∙ ap (with_if_state inside next m) (sym same)
 

@@ -9,6 +9,7 @@ use Rattle.std.proofs.lemmas.Option.{slice_get_within, slice_get-get_or, get_or_
 use Rattle.task_core.specs.ContextPlans.{Configuration}
 use Rattle.exec_graph.specs.Counting.{same_configuration, add_configuration}
 use Rattle.exec_graph.proofs.Places.{same_configuration_equal, same_configuration_refl}
+use Rattle.list_laws.proofs.Distinct.{first_once, rest_once}
 use Rattle.list_laws.proofs.Elements.{Contains-cases, Contains-cons, Contains-head, Contains-nil, list_any-from, list_any-witness}
 
 -- no two elements are the same
@@ -97,12 +98,6 @@ pub none_differ : AreDifferent []
 none_differ i j d l h = absurd (omega arith)
 
 -- configurations that are all different are added one after another
-pub first_differs : (x : Configuration) (xs : List Configuration) → AreDifferent (x ∷ xs) → Contains xs x → ⊥
-first_differs x xs differ c = let l : c.0 < length xs = c.1 in differ zero (suc c.0) x (omega arith) (omega arith) (sym c.2)
-
-pub rest_differ : (x : Configuration) (xs : List Configuration) → AreDifferent (x ∷ xs) → AreDifferent xs
-rest_differ x xs differ i j d l h = differ (suc i) (suc j) d (omega arith) (omega arith)
-
 pub fold_apart : (ys xs : List Configuration) → ((y : Configuration) → Contains ys y → Contains xs y → ⊥) → AreDifferent xs → fold add_configuration ys xs ≡ ys ++ xs
 fold_apart ys [] apart differ = sym (append-nil ys)
 fold_apart ys (x ∷ xs) apart differ =
@@ -111,9 +106,9 @@ fold_apart ys (x ∷ xs) apart differ =
     ap (λ zs. fold add_configuration zs xs) one
     ∙ fold_apart (ys ++ x ∷ []) xs
     (λ y c d. ⊎_elim (λ e. apart y e (Contains-cons x xs y d))
-    (λ e. ⊎_elim (λ (s : x ≡ y). first_differs x xs differ (subst (Contains xs) (sym s) d)) (λ n. Contains-nil y n) (Contains-cases x [] y e))
+    (λ e. ⊎_elim (λ (s : x ≡ y). first_once x xs differ (subst (Contains xs) (sym s) d)) (λ n. Contains-nil y n) (Contains-cases x [] y e))
     (Contains-append_cases ys (x ∷ []) y c))
-    (rest_differ x xs differ)
+    (rest_once x xs differ)
     ∙ append_assoc ys (x ∷ []) xs
 
 pub fold_different : (xs : List Configuration) → AreDifferent xs → fold add_configuration [] xs ≡ xs

@@ -12,6 +12,7 @@ use Rattle.exec_graph.specs.Moves.{AreListed, AreMoves, HasGrown, IsBeforeVisit,
 use Rattle.exec_graph.specs.declared.graphs.Place.{Place}
 use Rattle.exec_graph.specs.declared.moves.Moves.{Moves}
 use Rattle.exec_graph.proofs.Listed.{AreDifferent, add_cases, added_differ, added_get, added_same, all_added_has, number-Contains, one_number}
+use Rattle.list_laws.proofs.Booleans.{not_false}
 use Rattle.list_laws.proofs.Elements.{Contains-cases, Contains-cons, Contains-head, Contains-map, Contains-map-witness, Contains-nil}
 
 -- the place at which an added configuration stands, one of before or the next one
@@ -137,10 +138,6 @@ module _ (found : List Configuration) (x : Configuration) where
             (cases_eq j k);
         latest = latest;
       }
-
-not_false : (b : Bool) → not b ≡ false → b ≡ true
-not_false true e = refl
-not_false false e = absurd (true≢false e)
 
 -- the number of a configuration is at most the next one
 pub number_most : (found : List Configuration) (x : Configuration) (k : ℕ) → slice_get (add_configuration found x) k ≡ Some x → k ≤ length found

@@ -19,12 +19,13 @@ use Rattle.exec_graph.specs.Orders.{AreInOrderMet, in_first, onward}
 use Rattle.exec_graph.proofs.Ordered.{order_kept}
 use Rattle.exec_graph.specs.Executions.{GoesTo, IsReachedBy, IsStuckAt, IsUnexecutableAt, ReachesMoreThan}
 use Rattle.exec_graph.specs.Graphs.{IsGraphOf, PlainGraph}
-use Rattle.exec_graph.proofs.Listed.{AreDifferent, All-number, Contains-number, all_added_all, all_added_differ, all_added_get, all_added_length, first_differs, get-front, number-Contains, one_number, rest_differ}
+use Rattle.exec_graph.proofs.Listed.{AreDifferent, All-number, Contains-number, all_added_all, all_added_differ, all_added_get, all_added_length, get-front, number-Contains, one_number}
 use Rattle.exec_graph.proofs.Places.{same_configuration_equal, same_configuration_refl}
 use Rattle.exec_graph.proofs.Reaching.{goes_to_state, reached_first, reached_keeps, reached_next}
 use Rattle.exec_graph.specs.Rows.{edges_of, sources}
 use Rattle.exec_graph.proofs.RowFacts.{source_from, source_means, sources_once}
 use Rattle.exec_graph.proofs.RuleMoves.{goes_next, lost_means, next_differ, next_goes, refused_means}
+use Rattle.list_laws.proofs.Distinct.{first_once, rest_once}
 use Rattle.list_laws.proofs.Elements.{Contains-cases, Contains-cons, Contains-head, Contains-map-witness, Contains-nil, map-range}
 
 -- `same_configuration` decides whether two configurations are the same
@@ -75,8 +76,8 @@ module _ (get : ℕ → Option Configuration) where
       AllPairs-cons (λ i j. i ≢ j) k numbers
       (λ i d l s.
       let w = numbered_sound numbers ys rest (get_or numbers i d) (Contains-get_or numbers i d l) in
-      first_differs y ys differ (subst (Contains ys) (same_Some w.0 y (sym w.2 ∙ ap get (sym s) ∙ first)) w.1))
-      (numbered_once numbers ys rest (rest_differ y ys differ))
+      first_once y ys differ (subst (Contains ys) (same_Some w.0 y (sym w.2 ∙ ap get (sym s) ∙ first)) w.1))
+      (numbered_once numbers ys rest (rest_once y ys differ))
 
 -- what stands in the front, and what was added last
 get-known : {X : Type 0} (xs : List X) (i : ℕ) (d : X) → i < length xs → (x : X) × (slice_get xs i ≡ Some x)

@@ -1,6 +1,6 @@
 -- On a run with fair outcomes the goal's own path formula holds, where the plan has the goal by which
 -- it is judged: what may always still be met isn't never met.
-use Rattle.std.proofs.Common.{◌≡◌, ◌≤◌, ◌<◌, ℕ, zero, suc, true, List, [], ◌∷◌, sym, subst, arith, ⊎_elim}
+use Rattle.std.proofs.Common.{◌≡◌, ◌≤◌, ◌<◌, ℕ, suc, true, List, [], ◌∷◌, sym, subst, arith, ⊎_elim}
 use Rattle.std.proofs.lemmas.Bool.{cases_lt}
 use Rattle.ctl_syntax.specs.Goals.{plain, ef}
 use Rattle.ctl_syntax.specs.Paths.{EveryPathKeeps, Meets, SomePathMeets}
@@ -10,6 +10,7 @@ use Rattle.task_core.specs.ContextPlans.{Configuration, ContextPlan, Follows, Is
 use Rattle.task_core.specs.Cubes.{SetOfVectors}
 use Rattle.task_core.specs.Paths.{IsPath}
 use Rattle.task_core.specs.Systems.{System, IsSystem}
+use Rattle.plan_theory.proofs.Steps.{along}
 use Rattle.plan_theory.specs.UntilChains.{SetStage, StateIsIn}
 use Rattle.fair_theory.specs.FairGoals.{both, fair_chain}
 use Rattle.fair_theory.specs.FairPlans.{HasFairly}
@@ -44,15 +45,6 @@ module _ (sys : System) (ok : IsSystem sys) (plan : ContextPlan) (finite : IsFin
         (λ x again. again n (λ k at.
         let way = subst (SomePathMeets Step Anything Made) at.1 (may k at.0) in
         not_again way.rest x way.path way.meets again))
-
-  -- what holds at a place and goes on along a step holds from there on
-  along : (P : ℕ → Type 0) (n : ℕ) → P n → ((m : ℕ) → n ≤ m → P m → P (suc m)) → (m : ℕ) → n ≤ m → P m
-  along P n h step zero l = let e : n ≡ 0 = omega arith in subst P e h
-  along P n h step (suc m) l =
-      ⊎_elim
-      (λ (s : n < suc m). step m (omega arith) (along P n h step m (omega arith)))
-      (λ (s : suc m ≤ n). let e : n ≡ suc m = omega arith in subst P e h)
-      (cases_lt n (suc m))
 
   kept_on : (G : Configuration → Type 0) (n : ℕ) → EveryPathKeeps Step G Nothing (run n) → (m : ℕ) → n ≤ m → G (run m)
   kept_on G n every m le =

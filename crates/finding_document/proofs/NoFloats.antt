@@ -1,23 +1,19 @@
 -- No document has a float.
 use Rattle.std.proofs.Common.{◌≡◌, ℕ, List, [], ◌∷◌, map, false, true, Option, None, Some, refl}
-use Rattle.serde_json.specs.Data.{Data, null}
+use Rattle.serde_json.specs.Data.{null}
 use Rattle.serde_json.specs.View.{items_of}
 use Rattle.serde_json.specs.Written.{has_float, items_have_float}
 use Rattle.std.specs.Option.{option_map_or}
 use Rattle.task_core.specs.Names.{Name}
 use Rattle.task_core.specs.Vectors.{Vector}
-use Rattle.plan_document.specs.Documents.{count_data}
+use Rattle.plan_document.proofs.NoFloatsInActions.{items_free}
+use Rattle.plan_document.specs.Data.{count_data}
 use Rattle.plan_finding.specs.Findings.{PlainFound, cycle_from, lines_in}
 use Rattle.plan_finding.specs.ForVerdicts.{PlainFinding}
 use Rattle.plan_finding.specs.Stays.{PlainStays}
 use Rattle.plan_finding.specs.Texts.{Source}
 use Rattle.plan_witness.specs.Runs.{PlainStep}
 use Rattle.finding_document.specs.Documents.{besides_of, changed_below, document, fluent_data, line_data, longest_data, outcome_data, rule_data, stays_data, step_data, steps_data, told_object, told_of}
-
--- no item of a mapped list has one where no value has
-items_free : {X : Type 0} (f : X → Data) → ((x : X) → has_float (f x) ≡ false) → (xs : List X) → items_have_float (items_of (map f xs)) ≡ false
-items_free f free [] = refl
-items_free f free (x ∷ xs) = rw (free x, items_free f free xs) refl
 
 changed_free : (fluents : List Name) (numbers : List ℕ) → items_have_float (items_of (map (fluent_data fluents) numbers)) ≡ false
 changed_free fluents = items_free (fluent_data fluents) (λ i. refl)

@@ -1,12 +1,13 @@
 -- The JSON document of a verdict on a plan and the run that shows it. Names stand in it as in the text of
 -- a plan, and an object has its members in the order of their keys.
 use Rattle.std.specs.Prelude.{ℕ, zero, suc, Bool, true, false, not, ◌&&◌, if◌then◌else◌, List, [], ◌∷◌}
-use Rattle.std.specs.Prelude.{◌++◌, None, Option, Some, codes, length, map}
+use Rattle.std.specs.Prelude.{◌++◌, None, Option, Some, codes, length}
 use Rattle.std.specs.Option.{option_map_or}
 use Rattle.serde_json.specs.Data.{Data, array, member, no_items, no_members, null, object, string}
 use Rattle.serde_json.specs.View.{items_of}
 use Rattle.serde_json.specs.Written.{compact_text}
-use Rattle.plan_document.specs.Documents.{count_data, name_data}
+use Rattle.plan_document.specs.Data.{count_data, list_data}
+use Rattle.plan_document.specs.Names.{name_data}
 use Rattle.goal_witness.specs.Lines.{PlainLine}
 use Rattle.goal_witness.specs.Texts.{goal_text}
 use Rattle.plan_finding.specs.Findings.{PlainFound, cycle_from as cycle_of, lines_in}
@@ -17,10 +18,6 @@ use Rattle.plan_rules.specs.Texts.{line_feed, name_at}
 use Rattle.plan_witness.specs.Runs.{PlainStep}
 use Rattle.task_core.specs.Names.{Name}
 use Rattle.task_core.specs.Vectors.{Vector, value_of}
-
--- an array of what each element is
-abbrev pub list_data : {X : Type 0} → (X → Data) → List X → Data
-list_data part xs = array (items_of (map part xs))
 
 -- whether a value became true, or became false
 abbrev pub changed_to : Bool → (before after : Bool) → Bool

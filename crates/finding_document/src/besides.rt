@@ -2,12 +2,11 @@
 
 ghost use Rattle.finding_document.specs.Documents.{
   besides_of as besides_data,
-  list_data,
   longest_data,
   stays_data,
 };
 ghost use Rattle.finding_document.specs.Values.{besides_value};
-ghost use Rattle.plan_document.specs.Documents.{count_data};
+ghost use Rattle.plan_document.specs.Data.{count_data, list_data};
 ghost use Rattle.plan_finding.specs.Values.{
   finding_value,
   found_value,
@@ -21,7 +20,8 @@ ghost use Rattle.std.specs.Option.{option_map, option_map_or};
 ghost use Rattle.std.specs.Prelude.{◌≡◌, IfOk};
 ghost use Rattle.task_core.specs.Tasks.{fluent_count};
 
-use crate::steps::{count_value, number_value, outcome_values, rule_values, step_values};
+use crate::steps::{number_value, outcome_values, rule_values, step_values};
+use plan_document::count_value;
 use plan_finding::{Finding, Found, Source, Stays};
 use serde_json::{Map, Value, put};
 use std::alloc::{AllocError, Global};

@@ -7,7 +7,7 @@ ghost use Rattle.finding_document.specs.Documents.{
   told_of as told_data,
 };
 ghost use Rattle.finding_document.specs.Values.{besides_value, told_value};
-ghost use Rattle.plan_document.specs.Documents.{count_data};
+ghost use Rattle.plan_document.specs.Data.{count_data};
 ghost use Rattle.plan_finding.specs.Texts.{Source as PlainSource};
 ghost use Rattle.plan_finding.specs.Values.{
   finding_value,
@@ -15,17 +15,16 @@ ghost use Rattle.plan_finding.specs.Values.{
   run_found_value,
   source_value,
 };
-ghost use Rattle.plan_rules.specs.Texts.{line_feed};
 ghost use Rattle.serde_json.specs.Data.{null};
 ghost use Rattle.serde_json.specs.View.{view};
-ghost use Rattle.serde_json.specs.Written.{compact_text, has_float};
 ghost use Rattle.std.specs.Option.{option_map_or};
-ghost use Rattle.std.specs.Prelude.{◌≡◌, ◌++◌, IfOk, None, Some, false};
+ghost use Rattle.std.specs.Prelude.{◌≡◌, IfOk, None, Some};
 ghost use Rattle.task_core.specs.Tasks.{fluent_count};
 
 use crate::besides::{Besides, besides_of};
 use crate::parts::part_values;
 use crate::steps::{number_value, outcome_values, rule_values, step_values};
+use plan_document::value_text;
 use plan_finding::{Finding, Found, Source, cycle_from, ending_sentence};
 use serde_json::{Map, Value, put};
 use std::alloc::{AllocError, Global};
@@ -45,16 +44,6 @@ pub fn finding_document(
 {
     let value = document_value(alloc, source, verdict, finding)?;
     value_text(alloc, &value)
-}
-
-/// The text of a value, with a line feed at its end.
-fn value_text(alloc: Global, value: &Value) -> Result<Vec<u8>, AllocError>
-    ensures { has_float (view value.now) ≡ false
-        → IfOk result (λ text. text.items ≡ compact_text (view value.now) ++ line_feed) }
-{
-    let mut text = value.to_string(alloc)?;
-    text.push('\n')?;
-    Ok(text.into_bytes())
 }
 
 /// The document as a value.

@@ -1,9 +1,10 @@
 //! The parts of a goal that are false along a run as JSON.
 
 ghost use Rattle.ctl_syntax.specs.Values.{ctl_value};
-ghost use Rattle.finding_document.specs.Documents.{line_data, list_data};
+ghost use Rattle.finding_document.specs.Documents.{line_data};
 ghost use Rattle.goal_witness.specs.Lines.{line_value as plain_line};
 ghost use Rattle.goal_witness.specs.Texts.{goal_text as text_of};
+ghost use Rattle.plan_document.specs.Data.{list_data};
 ghost use Rattle.plan_finding.specs.Findings.{lines_in};
 ghost use Rattle.plan_finding.specs.Values.{ending_value};
 ghost use Rattle.serde_json.specs.Data.{string};

@@ -4,13 +4,13 @@ ghost use Rattle.finding_document.specs.Documents.{
   changed_data,
   changed_to as changed_to_value,
   fluent_data,
-  list_data,
   outcome_data,
   rule_data,
   step_data,
   steps_data,
 };
-ghost use Rattle.plan_document.specs.Documents.{count_data, name_data};
+ghost use Rattle.plan_document.specs.Data.{count_data, list_data};
+ghost use Rattle.plan_document.specs.Names.{name_data};
 ghost use Rattle.plan_finding.specs.Values.{source_value};
 ghost use Rattle.plan_rules.specs.Texts.{name_at};
 ghost use Rattle.plan_witness.specs.Values.{step_value as plain_step, steps_value};
@@ -32,8 +32,8 @@ ghost use Rattle.std.specs.Rc.{rc_str_bytes};
 ghost use Rattle.task_core.specs.States.{truth, vector};
 ghost use Rattle.task_core.specs.Tasks.{action_names, fluent_count, fluent_names};
 
+use plan_document::{count_value, name_value};
 use plan_finding::{Source, line_at};
-use plan_rules::push_name;
 use plan_witness::{Run, RunStep};
 use serde_json::{Map, Value, put};
 use state_text::push_action;
@@ -46,13 +46,6 @@ pub(crate) fn number_value(number: usize) -> Value
     ensures { view result ≡ count_data number }
 {
     Value::from(number as u64)
-}
-
-/// A number of 32 bits.
-pub(crate) fn count_value(count: u32) -> Value
-    ensures { view result ≡ count_data count }
-{
-    Value::from(u64::from(count))
 }
 
 /// The numbers of outcomes.
@@ -198,13 +191,4 @@ fn push_if(
         names.push(name_value(alloc, name)?)?;
     }
     Ok(())
-}
-
-/// A name as in the text of a plan.
-fn name_value(alloc: Global, words: &[RcStr]) -> Result<Value, AllocError>
-    ensures { IfOk result (λ value. view value ≡ name_data (map rc_str_bytes words.now)) }
-{
-    let mut text = String::new(alloc);
-    push_name(&mut text, words)?;
-    Ok(Value::from(text))
 }

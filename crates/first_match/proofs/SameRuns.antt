@@ -1,6 +1,7 @@
 -- Tables that have the same pairs wherever one of them may come are solutions together.
-use Rattle.std.proofs.Common.{◌≡◌, ℕ, List, [], ◌∷◌, ◌++◌, refl, sym, subst}
+use Rattle.std.proofs.Common.{ℕ, List, [], ◌∷◌, ◌++◌, refl, sym, subst}
 use Rattle.std.specs.List.{Contains}
+use Rattle.task_core.proofs.Paths.{last_onward, path_onward}
 use Rattle.task_core.specs.Paths.{IsPath, last_of}
 use Rattle.task_core.specs.Solutions.{EndsInGoal, IsReached, IsSolution, IsStrongSolution, IsWeakSolution, MayEnd}
 use Rattle.task_core.specs.Systems.{System}
@@ -10,23 +11,14 @@ use Rattle.task_core.specs.declared.classes.Class.{Class}
 use Rattle.task_core.specs.declared.classes.Class.TheVariants.{Weak, Strong, Cyclic}
 
 module _ (sys : System) where
-  -- a path goes on by one step
-  path_onward : (pairs : Table) (s : Vector) (rest : List Vector) (t : Vector) → IsPath (Leads sys pairs) s rest → Leads sys pairs (last_of s rest) t → IsPath (Leads sys pairs) s (rest ++ t ∷ [])
-  path_onward pairs s [] t path leads = (leads, tt)
-  path_onward pairs s (u ∷ rest) t path leads = (path.0, path_onward pairs u rest t path.1 leads)
-
-  path_ends : (s : Vector) (rest : List Vector) (t : Vector) → last_of s (rest ++ t ∷ []) ≡ t
-  path_ends s [] t = refl
-  path_ends s (u ∷ rest) t = path_ends u rest t
-
   pub reached_onward : (pairs : Table) (s t : Vector) → IsReached sys pairs s → Leads sys pairs s t → IsReached sys pairs t
   reached_onward pairs s t r leads = record {
     start = r.start;
     initial = r.initial;
     path = record {
       rest = r.path.rest ++ t ∷ [];
-      path = path_onward pairs r.start r.path.rest t r.path.path (subst (λ u. Leads sys pairs u t) (sym r.path.ends) leads);
-      ends = path_ends r.start r.path.rest t;
+      path = path_onward (Leads sys pairs) r.start r.path.rest t r.path.path (subst (λ u. Leads sys pairs u t) (sym r.path.ends) leads);
+      ends = last_onward r.start r.path.rest t;
     };
   }
 

@@ -2,13 +2,13 @@
 use Rattle.std.specs.Prelude.{ℕ, Bool, true, false, ◌||◌, ◌&&◌, not, List, [], ◌∷◌, ◌++◌, Option, None, Some, codes, if◌then◌else◌}
 use Rattle.std.specs.Option.{option_and_then, option_map_or, option_or}
 use Rattle.std.specs.Str.{bytes_eq}
-use Rattle.likely_mistakes.specs.Rows.{after_first, first_parts, parts_after, sections_of}
+use Rattle.likely_mistakes.specs.Rows.{first_parts, parts_after, sections_of}
 use Rattle.likely_mistakes.specs.TermTypes.{declared_type}
 use Rattle.likely_mistakes.specs.Vocabularies.{VocabularyTree, is_kind}
 use Rattle.likely_mistakes.specs.declared.mistakes.Mistake.{Mistake}
 use Rattle.likely_mistakes.specs.declared.mistakes.MistakeKind.TheVariants.{MayBeEqual}
 use Rattle.sexpr_text.specs.Forest.{Forest, nothing, word, group}
-use Rattle.sexpr_text.specs.Parts.{begins_with}
+use Rattle.sexpr_text.specs.Parts.{begins_with, after_first}
 use Rattle.sexpr_text.specs.declared.forms.Span.{Span}
 
 -- two words, each with its span

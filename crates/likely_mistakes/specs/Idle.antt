@@ -3,11 +3,11 @@ use Rattle.std.specs.Prelude.{ℕ, Bool, true, false, ◌||◌, ◌&&◌, not, L
 use Rattle.std.specs.Option.{option_map_or}
 use Rattle.std.specs.Str.{bytes_eq}
 use Rattle.likely_mistakes.specs.Copies.{has_list, same_words}
-use Rattle.likely_mistakes.specs.Rows.{after_first, first_parts, list_after, parts_after, sections_of}
+use Rattle.likely_mistakes.specs.Rows.{first_parts, list_after, parts_after, sections_of}
 use Rattle.likely_mistakes.specs.declared.mistakes.Mistake.{Mistake}
 use Rattle.likely_mistakes.specs.declared.mistakes.MistakeKind.TheVariants.{Idle}
 use Rattle.sexpr_text.specs.Forest.{Forest, nothing, word, group}
-use Rattle.sexpr_text.specs.Parts.{begins_with}
+use Rattle.sexpr_text.specs.Parts.{begins_with, after_first}
 use Rattle.sexpr_text.specs.declared.forms.Span.{Span}
 
 -- whether a condition with these parts is, or has among its parts after `and`, the literal with

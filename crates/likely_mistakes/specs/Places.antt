@@ -1,9 +1,8 @@
 -- Where actions and parts of conditions stand.
 use Rattle.std.specs.Prelude.{ℕ, zero, suc, List, Option, None, Some, Bool, ◌&&◌, codes, if◌then◌else◌}
 use Rattle.std.specs.Option.{option_map_or}
-use Rattle.likely_mistakes.specs.Rows.{after_first}
 use Rattle.sexpr_text.specs.Forest.{Forest, nothing, word, group}
-use Rattle.sexpr_text.specs.Parts.{begins_with, first_group_with}
+use Rattle.sexpr_text.specs.Parts.{begins_with, first_group_with, after_first}
 use Rattle.sexpr_text.specs.declared.forms.Span.{Span}
 
 -- whether a list with these parts is the action of this name

@@ -3,14 +3,8 @@ use Rattle.std.specs.Prelude.{ℕ, List, Option, None, Some, if◌then◌else◌
 use Rattle.std.specs.Option.{option_map_or}
 use Rattle.std.specs.Str.{bytes_eq}
 use Rattle.sexpr_text.specs.Forest.{Forest, nothing, word, group}
-use Rattle.sexpr_text.specs.Parts.{begins_with, first_group_with, is_definition}
+use Rattle.sexpr_text.specs.Parts.{begins_with, first_group_with, is_definition, after_first}
 use Rattle.sexpr_text.specs.declared.forms.Span.{Span}
-
--- what follows the first form
-abbrev pub after_first : Forest → Forest
-after_first nothing = nothing
-after_first (word span text rest) = rest
-after_first (group span parts rest) = rest
 
 -- the parts of the first form, where it is a list
 abbrev pub first_parts : Forest → Forest

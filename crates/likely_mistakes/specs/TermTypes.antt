@@ -2,11 +2,10 @@
 use Rattle.std.specs.Prelude.{ℕ, List, [], ◌∷◌, Option, Some, None, if◌then◌else◌}
 use Rattle.std.specs.Option.{option_map, option_or}
 use Rattle.std.specs.Str.{bytes_eq}
-use Rattle.likely_mistakes.specs.Rows.{after_first}
 use Rattle.likely_mistakes.specs.Vocabularies.{VocabularyTree, type_number}
 use Rattle.pddl_ast.specs.Words.{is_dash, is_variable}
 use Rattle.sexpr_text.specs.Forest.{Forest, nothing, word, group}
-use Rattle.sexpr_text.specs.Parts.{begins_with, first_group_with}
+use Rattle.sexpr_text.specs.Parts.{begins_with, first_group_with, after_first}
 
 -- the type that the first form names; `object` where it is no word
 abbrev pub first_type : VocabularyTree → Forest → ℕ

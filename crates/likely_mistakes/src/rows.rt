@@ -2,6 +2,7 @@
 
 ghost use Rattle.likely_mistakes.specs.Rows as rows;
 ghost use Rattle.sexpr_text.specs.Forest.{forest_of};
+ghost use Rattle.sexpr_text.specs.Parts as row_parts;
 ghost use Rattle.std.specs.Option.{option_map};
 ghost use Rattle.std.specs.Prelude.{◌≡◌};
 
@@ -9,7 +10,7 @@ use sexpr_text::{Form, Head, Span, first_definition, first_group, head_of};
 
 /// What follows the first form.
 pub fn after_first(row: &[Form]) -> &[Form]
-    ensures { forest_of result.now ≡ rows.after_first (forest_of row.now) }
+    ensures { forest_of result.now ≡ row_parts.after_first (forest_of row.now) }
 {
     match head_of(row) {
         Head::Nothing => &[],

@@ -4,11 +4,12 @@ use Rattle.std.specs.List.{list_any}
 use Rattle.std.specs.Option.{option_map_or}
 use Rattle.std.specs.Str.Lossy.{utf8_lossy}
 use Rattle.likely_mistakes.specs.Places.{action_named, part_span, span_or}
-use Rattle.likely_mistakes.specs.Rows.{after_first, first_list, list_after, section_named}
+use Rattle.likely_mistakes.specs.Rows.{first_list, list_after, section_named}
 use Rattle.mistake_notices.specs.Notices.{PlainNotice, quoted, text_at, word_at}
 use Rattle.never_executed.specs.declared.causes.Cause.{Cause}
 use Rattle.never_executed.specs.declared.causes.Cause.TheVariants.{InEach, NoObjects, Part, Together}
 use Rattle.sexpr_text.specs.Forest.{Forest}
+use Rattle.sexpr_text.specs.Parts.{after_first}
 use Rattle.sexpr_text.specs.declared.forms.Place.{Place}
 use Rattle.sexpr_text.specs.declared.forms.Span.{Span}
 

@@ -1,10 +1,11 @@
 -- The lines, and the JSON document, of what is told of mistakes.
 use Rattle.std.specs.Prelude.{ℕ, List, [], ◌∷◌, ◌++◌, Option, None, Some, codes, decimal, if◌then◌else◌, map}
 use Rattle.std.specs.List.{flat_map}
-use Rattle.serde_json.specs.Data.{Data, array, member, no_members, null, number, object, string, unsigned}
+use Rattle.serde_json.specs.Data.{Data, array, member, no_members, null, object, string}
 use Rattle.serde_json.specs.View.{items_of}
 use Rattle.serde_json.specs.Written.{compact_text}
 use Rattle.plan_rules.specs.Texts.{line_feed}
+use Rattle.plan_document.specs.Data.{count_data}
 use Rattle.mistake_notices.specs.Notices.{PlainNotice, PlainReport}
 
 -- the names of the two files
@@ -50,9 +51,6 @@ abbrev pub report_text : PlainFileNames → PlainReport → List ℕ
 report_text names report =
     notices_text names report.notices ++ flat_map (hint_line names) report.hints
     ++ limit_text report.limit
-
-abbrev pub count_data : ℕ → Data
-count_data count = number (unsigned count)
 
 -- a mistake, or a hint, as an object: its members stand in the order of their keys
 abbrev pub notice_data : PlainFileNames → PlainNotice → Data

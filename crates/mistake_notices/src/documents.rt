@@ -1,7 +1,6 @@
 //! The JSON document.
 
 ghost use Rattle.mistake_notices.specs.Texts.{
-  count_data,
   document_text,
   limit_data,
   notice_data,
@@ -9,14 +8,13 @@ ghost use Rattle.mistake_notices.specs.Texts.{
   report_data,
 };
 ghost use Rattle.mistake_notices.specs.Values.{name_of, names_value, notice_value, report_value};
-ghost use Rattle.plan_rules.specs.Texts.{line_feed};
 ghost use Rattle.serde_json.specs.View.{view};
-ghost use Rattle.serde_json.specs.Written.{compact_text, has_float};
 ghost use Rattle.std.specs.Option.{option_map};
-ghost use Rattle.std.specs.Prelude.{◌≡◌, ◌++◌, IfOk, false, map};
+ghost use Rattle.std.specs.Prelude.{◌≡◌, IfOk, map};
 
 use crate::notices::{FileNames, LimitName, Notice, Report};
 use crate::texts::file_of;
+use plan_document::{count_value, value_text};
 use serde_json::{Map, Value, put};
 use std::alloc::{AllocError, Global};
 
@@ -33,16 +31,6 @@ pub fn report_document(
 {
     let value = document_value(alloc, names, report)?;
     value_text(alloc, &value)
-}
-
-/// The text of a value, with a line feed at its end.
-fn value_text(alloc: Global, value: &Value) -> Result<Vec<u8>, AllocError>
-    ensures { has_float (view value.now) ≡ false
-        → IfOk result (λ text. text.items ≡ compact_text (view value.now) ++ line_feed) }
-{
-    let mut text = value.to_string(alloc)?;
-    text.push('\n')?;
-    Ok(text.into_bytes())
 }
 
 /// The document as a value.
@@ -111,11 +99,4 @@ fn notice_object(alloc: Global, names: &FileNames<'_>, notice: &Notice) -> Resul
         count_value(notice.place.column),
     )?;
     Ok(Value::from(members))
-}
-
-/// A number.
-fn count_value(count: u32) -> Value
-    ensures { view result ≡ count_data count }
-{
-    Value::from(u64::from(count))
 }

@@ -1,3 +1,1 @@
 mod FormulaParts
-mod Reached
-mod TaskGoals

@@ -1,14 +1,13 @@
 -- The lines that say why literals are never true: what is printed, byte for byte.
-use Rattle.std.specs.Prelude.{ℕ, ◌-◌, nat_le, List, [], ◌∷◌, ◌++◌, codes, decimal, length, map, take, if◌then◌else◌}
+use Rattle.std.specs.Prelude.{ℕ, ◌-◌, nat_le, List, [], ◌∷◌, ◌++◌, codes, decimal, length, take, if◌then◌else◌}
 use Rattle.std.specs.List.{flat_map}
 use Rattle.plan_rules.specs.Texts.{atom_text, line_feed, name_at}
-use Rattle.state_text.specs.Texts.{after_space, condition_text}
 use Rattle.task_core.specs.Names.{Name}
 use Rattle.task_core.specs.Tasks.{action_names, fluent_names, outcomes_at}
-use Rattle.task_core.specs.declared.conditions.Cond.{Cond}
 use Rattle.task_core.specs.declared.literals.Lit.{Lit}
 use Rattle.task_core.specs.declared.tasks.Task.{Task}
 use Rattle.relaxed_reach.specs.Literals.{LiteralSet}
+pub use Rattle.state_text.specs.Texts.{conditions_text}
 use Rattle.never_reasons.specs.Makers.{MakerPlace, lacks, makers}
 
 -- how many outcomes are printed of a literal
@@ -20,10 +19,6 @@ abbrev pub literal_text : List Name → Lit → List ℕ
 literal_text fluents lit =
     if lit.positive then atom_text (name_at fluents lit.fluent.0)
     else codes "(not " ++ atom_text (name_at fluents lit.fluent.0) ++ codes ")"
-
--- conditions, each after a space
-abbrev pub conditions_text : List Name → List Cond → List ℕ
-conditions_text fluents parts = flat_map after_space (map (condition_text fluents) parts)
 
 -- the number of an outcome, where the action has more than one
 abbrev pub outcome_note : ℕ → ℕ → List ℕ

@@ -12,4 +12,5 @@ pub use blocked::push_blocked;
 pub use makers::{Maker, lacks_of, makers_of};
 pub use queue::never_literals;
 pub use relaxed::Relaxed;
-pub use texts::{push_parts, push_reasons};
+pub use state_text::push_parts;
+pub use texts::push_reasons;

@@ -5,7 +5,6 @@ ghost use Rattle.std.specs.List.{flat_map};
 ghost use Rattle.task_core.specs.Tasks.{fluent_names, outcomes_at};
 ghost use Rattle.relaxed_reach.specs.Literals.{has};
 ghost use Rattle.never_reasons.specs.Texts.{
-  conditions_text,
   literal_text,
   maker_line,
   maker_lines,
@@ -20,7 +19,7 @@ ghost use Rattle.never_reasons.specs.Values.{maker_value};
 use crate::makers::{Maker, lacks_of, makers_of};
 use crate::relaxed::Relaxed;
 use plan_rules::push_number;
-use state_text::{push_action, push_condition};
+use state_text::{push_action, push_condition, push_parts};
 use std::alloc::{AllocError, Global};
 use task_core::{ActionId, Cond, Lit, Task};
 
@@ -174,16 +173,4 @@ fn push_outcome(out: &mut String, count: usize, outcome: u32) -> Result<(), Allo
     out.push_str(", outcome ")?;
     push_number(out, outcome)?;
     out.push(',')
-}
-
-/// Appends conditions, each after a space.
-pub fn push_parts(out: &mut String, task: &Task, parts: &[&Cond]) -> Result<(), AllocError>
-    ensures { OnOk result (string_bytes out.new ≡ string_bytes out.old
-        ++ conditions_text (fluent_names task.now) (map (λ part. part.now) parts.now)) }
-{
-    for part in parts {
-        out.push(' ')?;
-        push_condition(out, &task.fluents, part)?;
-    }
-    Ok(())
 }

@@ -2,8 +2,9 @@
 use Rattle.std.proofs.Common.{◌≡◌, ℕ, ◌<◌, ◌≤◌, Bool, true, false, not, ◌&&◌, ◌||◌, ◌⊎◌, if◌then◌else◌, List, refl, sym, ◌∙◌, ap, subst, inl, inr, ⊎_elim}
 use Rattle.std.specs.Prelude.{◌==◌}
 use Rattle.std.specs.List.{All, Contains, list_all, list_any}
-use Rattle.std.proofs.lemmas.Bool.{and_parts, and_from, cases_Bool, cases_eq, cases_lt, eqb-true, false≢true}
+use Rattle.std.proofs.lemmas.Bool.{and_parts, and_from, cases_Bool, cases_eq, cases_lt, eqb-true, false≢true, or_cases}
 use Rattle.std.proofs.lemmas.List.Elements.{All-weaker}
+use Rattle.list_laws.proofs.Booleans.{not_true}
 use Rattle.list_laws.proofs.Elements.{list_all-at, list_any-false, list_any-from, list_any-witness}
 use Rattle.task_core.specs.Actions.{after_value, change_makes}
 use Rattle.task_core.specs.Conditions.{holds}
@@ -48,10 +49,6 @@ those_are_in set others g here there certain group value opposite is few f =
         ⊎_elim (λ (e : f ≡ g). absurd (never (value f) (subst (λ k. value k ≡ true) (sym e) is.holds) t))
         (λ (n : f ≡ g → ⊥). ap not (certain f n))
         (cases_eq f g)
-
-pub not_true : (b : Bool) → not b ≡ true → b ≡ false
-not_true true e = absurd (false≢true e)
-not_true false e = refl
 
 -- the value of a fluent after it is added or deleted or neither
 abbrev pub changed : Bool → Bool → Bool → Bool
@@ -184,10 +181,6 @@ module _ (set : LiteralSet) (value : ℕ → Bool) (are : AreIn set value) where
       let found = list_any-witness (makes_surely set f positive) changes h in
       let parts = and_parts (names_it positive f found.0.lits.items) (not (can_be found.0.cond set false)) found.2 in
       makes changes positive f found.0 found.1 parts.0 (must found.0 (not_true (can_be found.0.cond set false) parts.1))
-
-  or_cases : (a b : Bool) → (a || b) ≡ true → (a ≡ true) ⊎ (b ≡ true)
-  or_cases true b e = inl refl
-  or_cases false b e = inr e
 
   and_false : (a b : Bool) → (a && b) ≡ false → b ≡ true → a ≡ false
   and_false true b e h = absurd (false≢true (sym e ∙ h))

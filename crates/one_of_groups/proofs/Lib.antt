@@ -1,4 +1,3 @@
 pub mod CaseLemmas
-pub mod Reached
 pub mod Soundness
 pub mod StartLemmas

@@ -7,8 +7,7 @@ use Rattle.std.specs.Option.{option_map_or}
 use Rattle.std.proofs.lemmas.Bool.{and_parts, cases_Bool, cases_lt, false≢true}
 use Rattle.std.proofs.lemmas.List.{get_or_past}
 use Rattle.std.proofs.lemmas.List.Elements.{All-contains}
-use Rattle.std.proofs.lemmas.Option.{get_or_from_slice_get, slice_get_within}
-use Rattle.list_laws.proofs.Elements.{Contains-nil, list_all-from}
+use Rattle.list_laws.proofs.Elements.{Contains-nil, list_all-from, contains_at}
 use Rattle.task_core.specs.Actions.{after, after_value}
 use Rattle.task_core.specs.Conditions.{holds}
 use Rattle.task_core.specs.Initial.{entries_of, facts_of}
@@ -30,6 +29,7 @@ use Rattle.task_core.proofs.Vectors.{Contains-filter_cases, Contains-map_image}
 use Rattle.relaxed_reach.specs.Reached.{IsReachable, Steps}
 use Rattle.relaxed_reach.specs.Literals.{LiteralSet, can_be}
 use Rattle.relaxed_reach.proofs.Monotone.{can_be_sound}
+use Rattle.relaxed_reach.proofs.Soundness.{outcomes_of}
 use Rattle.one_of_groups.specs.Cases.{AreIn, IsFew, Keeps, KeepsAt}
 use Rattle.one_of_groups.specs.Follows.{ExcludesNothing, Follows, FollowsAt, FollowsFrom}
 use Rattle.one_of_groups.specs.Groups.{AreInductive, Group, HasOne, IsInductive, IsOneOf, IsTheOne, precondition_holds}
@@ -56,12 +56,6 @@ module _ (task : Task) (members : State) (within : IsWithin (fluent_count task) 
       one_in_mapped (fluent_count task) (truth members) within (after_value o (value_of v))
       (All-contains (λ (o : Outcome). HasOne (truth members) (after_value o (value_of v))) x.outcomes.items o
       (All-contains (Keeps (truth members)) task.actions.items x keeps listed one.fluent one.is.member (value_of v) one.is (few task v is) allowed) among)
-
-  abbrev outcomes_of : Option GroundAction → List Outcome
-  outcomes_of found = option_map_or (λ action. action.outcomes.items) found []
-
-  contains_at : {X : Type 0} (xs : List X) (k : ℕ) (x : X) → slice_get xs k ≡ Some x → Contains xs x
-  contains_at xs k x e = (k, slice_get_within xs k x e, get_or_from_slice_get xs k x x e)
 
   kept : (v w : Vector) (a : ℕ) → length v ≡ fluent_count task → HasOne (truth members) (value_of v)
       → precondition_holds task v a ≡ true → Contains (states_after task v a) w → HasOne (truth members) (value_of w)

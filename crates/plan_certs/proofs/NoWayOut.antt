@@ -18,14 +18,11 @@ use Rattle.task_core.specs.declared.classes.Class.TheVariants.{Weak, Strong, Cyc
 use Rattle.plan_certs.specs.Certificates.{CubeSet, PlainCertificate, CanAct, HasNoWayOut, IsAccepted, holds_state, set_at, some_holds}
 use Rattle.plan_certs.proofs.Lists.{number_of_set, some_holds-at, some_holds-last}
 use Rattle.plan_theory.proofs.Cubes.{all_vectors-holds}
-use Rattle.plan_theory.proofs.NoStrong.{reach_more}
+use Rattle.plan_theory.proofs.NoStrong.{reach_more, here}
 use Rattle.plan_theory.proofs.Tests.{same_vector-itself, same_vector-true}
 use Rattle.list_laws.proofs.Elements.{Contains-cases, Contains-nil, list_all-at, list_any-from, list_any-witness}
 use Rattle.list_laws.proofs.Distinct.{Apart, Apart-few}
 use Rattle.plan_theory.proofs.LeastBounds.{pair_or_terminal}
-
-here : (sys : System) (table : Table) (s : Vector) → Reaches sys table s s
-here sys table s = record { rest = []; path = tt; ends = refl }
 
 -- what is reached from a reached state is reached
 reached_on : (sys : System) (table : Table) (s t : Vector) → IsReached sys table s → Reaches sys table s t → IsReached sys table t

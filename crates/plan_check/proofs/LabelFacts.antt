@@ -1,5 +1,5 @@
 -- Labels that are written mark by mark, and what a label reaches in rounds.
-use Rattle.std.proofs.Common.{◌≡◌, ◌⊎◌, ℕ, zero, suc, ◌+◌, ◌<◌, Bool, true, false, not, ◌&&◌, ◌||◌, List, [], ◌∷◌, ◌++◌, length, get_or, set, refl, sym, ap, ◌∙◌, subst, arith, ⊎_elim, inl, inr}
+use Rattle.std.proofs.Common.{◌≡◌, ◌⊎◌, ℕ, zero, suc, ◌+◌, ◌<◌, Bool, true, false, ◌&&◌, ◌||◌, List, [], ◌∷◌, ◌++◌, length, get_or, set, refl, sym, ap, ◌∙◌, subst, arith, ⊎_elim, inl, inr}
 use Rattle.std.specs.List.{All, Contains}
 use Rattle.std.proofs.lemmas.Bool.{false≢true, or_cases, or_left, or_right, and_from}
 use Rattle.std.proofs.lemmas.List.{get_or_append_left, get_or_push}
@@ -12,6 +12,7 @@ use Rattle.plan_check.specs.Labels.{IsWithinRounds, in_round, is_led, mark_at}
 use Rattle.plan_check.specs.declared.spreading.Need.{Need}
 use Rattle.plan_check.specs.declared.spreading.Need.TheVariants.{One, Each}
 use Rattle.plan_check.proofs.MarkFacts.{marked_cases}
+pub use Rattle.list_laws.proofs.Booleans.{not_true}
 use Rattle.list_laws.proofs.Booleans.{and_first, and_second}
 
 -- one more mark at the end
@@ -28,10 +29,6 @@ followers_below graph inside i n read l size is = λ k d within.
     subst (λ m. get_or read k d < m) (sym size) (inside i (get_or read k d) l (subst (λ xs. Contains xs (get_or read k d)) (sym is) (Contains-get_or read k d within)))
 
 -- truth values
-
-pub not_true : (a : Bool) → not a ≡ true → a ≡ false
-not_true true p = sym p
-not_true false p = refl
 
 pub decided : (a : Bool) → (a ≡ true) ⊎ (a ≡ false)
 decided true = inl refl

@@ -11,8 +11,8 @@ use Rattle.plan_check.specs.Labels.{IsJoined, IsLeast, IsNegated, IsNext, IsWeak
 use Rattle.plan_check.specs.Walks.{StaysBelow}
 use Rattle.plan_check.specs.declared.spreading.Need.TheVariants.{One, Each}
 use Rattle.plan_check.specs.declared.labelling.Join.TheVariants.{And, Or, Implies, Neither}
-use Rattle.plan_check.proofs.LabelFacts.{decided, each_fails, each_from, each_of, not_true, one_from, one_of}
-use Rattle.list_laws.proofs.Booleans.{and_first, and_second}
+use Rattle.plan_check.proofs.LabelFacts.{decided, each_fails, each_from, each_of, one_from, one_of}
+use Rattle.list_laws.proofs.Booleans.{and_first, and_second, not_true}
 
 -- what a label says of a number
 module _ (n : ℕ) (G : ℕ → Type 0) (label : List Bool) (shows : Shows n G label) where

@@ -22,12 +22,12 @@ use Rattle.plan_check.specs.Spreads.{IsSpreading, NeedsFollowers, Reaches, edges
 use Rattle.plan_check.specs.Walks.{IsMarked, LeadsToMarked, StaysBelow}
 use Rattle.plan_check.specs.declared.spreading.Need.{Need}
 use Rattle.plan_check.specs.declared.spreading.Need.TheVariants.{One, Each}
-use Rattle.plan_check.proofs.LabelFacts.{decided, each_from, each_of, led_weaker, not_true, one_from, one_of, within_more}
+use Rattle.plan_check.proofs.LabelFacts.{decided, each_from, each_of, led_weaker, one_from, one_of, within_more}
 use Rattle.plan_check.proofs.EdgeCounts.{edges_even, edges_most}
 use Rattle.plan_check.proofs.MarkFacts.{closed_leads, fewer_unmarked, leads_before, marked_below, marked_cases, marked_more, marked_same}
 use Rattle.list_laws.proofs.Elements.{Contains-cases, Contains-cons, Contains-flat_map, Contains-flat_map-witness, Contains-head, Contains-map, Contains-map-witness, Contains-nil, list_any-from, list_any-witness}
 use Rattle.list_laws.proofs.Distinct.{first_once, rest_once}
-use Rattle.list_laws.proofs.Booleans.{and_first, and_second}
+use Rattle.list_laws.proofs.Booleans.{and_first, and_second, not_true}
 
 not_before : (xs : List ℕ) (k x : ℕ) → AllPairs (λ i j. i ≢ j) xs → k < length xs → get_or xs k 0 ≡ x → Contains (take k xs) x → ⊥
 not_before xs k x once l is c =

@@ -3,7 +3,7 @@
 use Rattle.std.specs.Prelude.{ℕ, List, ◌++◌, codes, map, slice_get}
 use Rattle.std.specs.List.{fold}
 use Rattle.std.specs.Option.{option_map_or}
-use Rattle.serde_json.specs.Data.{Data, array, boolean, null, number, object, put, string, unsigned}
+use Rattle.serde_json.specs.Data.{Data, array, boolean, null, object, put, string}
 use Rattle.serde_json.specs.Data.{Members, member, no_members}
 use Rattle.serde_json.specs.View.{items_of}
 use Rattle.serde_json.specs.Written.{compact_text}
@@ -17,10 +17,8 @@ use Rattle.plan_rules.specs.Rules.{ContextRule, PlainPlan, PlanNext, PlanRule, a
 use Rattle.plan_rules.specs.Rules.{by_cases, table}
 use Rattle.plan_rules.specs.Texts.{atom_text, class_word, line_feed, name_at}
 use Rattle.plan_document.specs.Actions.{condition_data, outcomes_data}
+use Rattle.plan_document.specs.Data.{count_data}
 pub use Rattle.plan_document.specs.Names.{name_data, names_data}
-
-abbrev pub count_data : ℕ → Data
-count_data count = number (unsigned count)
 
 -- one literal more: the value that the fluent is to have, under the fluent's name
 abbrev pub with_literal : List Name → Members → Lit → Members

@@ -1,4 +1,5 @@
 pub mod Actions
+pub mod Data
 pub mod Documents
 pub mod Faithful
 pub mod Names

@@ -4,15 +4,15 @@ ghost use Rattle.plan_document.specs.Documents.{document, document_text, plan_ob
 ghost use Rattle.plan_document.specs.Faithful.{IsToldInFull};
 ghost use Rattle.plan_rules.specs.Plans.{IsPlanOf};
 ghost use Rattle.plan_rules.specs.Rules.{plain_of};
-ghost use Rattle.plan_rules.specs.Texts.{class_word as word_of_class, line_feed};
+ghost use Rattle.plan_rules.specs.Texts.{class_word as word_of_class};
 ghost use Rattle.serde_json.specs.Data.{Data, array};
 ghost use Rattle.serde_json.specs.View.{items_of, view};
-ghost use Rattle.serde_json.specs.Written.{compact_text, has_float};
-ghost use Rattle.std.specs.Prelude.{◌≡◌, ◌++◌, IfOk, List, false};
+ghost use Rattle.std.specs.Prelude.{◌≡◌, IfOk, List};
 ghost use Rattle.task_core.specs.Tasks.{action_count, fluent_count, fluent_names};
 
 use crate::names::{action_array, fluent_array};
-use crate::rules::{context_rules, count_value, table_rules};
+use crate::rules::{context_rules, table_rules};
+use crate::values::{count_value, value_text};
 use plan_rules::{Class, Plan};
 use serde_json::{Map, Value, put};
 use std::alloc::{AllocError, Global};
@@ -30,16 +30,6 @@ pub fn plan_document(alloc: Global, plan: &Plan, task: &Task) -> Result<Vec<u8>,
 {
     let value = plan_value(alloc, plan, task)?;
     value_text(alloc, &value)
-}
-
-/// The text of a value, with a line feed at its end.
-fn value_text(alloc: Global, value: &Value) -> Result<Vec<u8>, AllocError>
-    ensures { has_float (view value.now) ≡ false
-        → IfOk result (λ text. text.items ≡ compact_text (view value.now) ++ line_feed) }
-{
-    let mut text = value.to_string(alloc)?;
-    text.push('\n')?;
-    Ok(text.into_bytes())
 }
 
 /// The same as a value.

@@ -7,6 +7,9 @@ mod documents;
 mod names;
 mod rules;
 mod told;
+mod values;
 
 pub use documents::plan_document;
+pub use names::{action_array, fluent_array, name_value};
 pub use told::is_told_in_full;
+pub use values::{count_value, value_text};

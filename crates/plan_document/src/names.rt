@@ -23,7 +23,7 @@ pub(crate) fn name_text(alloc: Global, words: &[RcStr]) -> Result<String, AllocE
 }
 
 /// A name as a string.
-pub(crate) fn name_value(alloc: Global, words: &[RcStr]) -> Result<Value, AllocError>
+pub fn name_value(alloc: Global, words: &[RcStr]) -> Result<Value, AllocError>
     ensures { IfOk result (λ value. view value ≡ name_data (map rc_str_bytes words.now)) }
 {
     let text = name_text(alloc, words)?;
@@ -31,7 +31,7 @@ pub(crate) fn name_value(alloc: Global, words: &[RcStr]) -> Result<Value, AllocE
 }
 
 /// The names of fluents as an array.
-pub(crate) fn fluent_array(alloc: Global, fluents: &[Vec<RcStr>]) -> Result<Value, AllocError>
+pub fn fluent_array(alloc: Global, fluents: &[Vec<RcStr>]) -> Result<Value, AllocError>
     ensures { IfOk result (λ value. view value ≡ names_data (map name_bytes fluents.now)) }
 {
     let mut names = Vec::new(alloc);
@@ -42,7 +42,7 @@ pub(crate) fn fluent_array(alloc: Global, fluents: &[Vec<RcStr>]) -> Result<Valu
 }
 
 /// The names of actions as an array.
-pub(crate) fn action_array(alloc: Global, actions: &[GroundAction]) -> Result<Value, AllocError>
+pub fn action_array(alloc: Global, actions: &[GroundAction]) -> Result<Value, AllocError>
     ensures { IfOk result (λ value. view value ≡ names_data (map name_of actions.now)) }
 {
     let mut names = Vec::new(alloc);

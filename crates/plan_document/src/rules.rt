@@ -2,7 +2,6 @@
 
 ghost use Rattle.plan_document.specs.Documents.{
   context_rule_data,
-  count_data,
   cube_data,
   next_data,
   rule_object as rule_with,
@@ -23,6 +22,7 @@ ghost use Rattle.task_core.specs.Names.{name_bytes};
 
 use crate::actions::{condition_value, outcome_array};
 use crate::names::{name_text, name_value};
+use crate::values::count_value;
 use plan_rules::{AutoRule, Next, Rule};
 use serde_json::{Map, Value, put};
 use std::alloc::{AllocError, Global};
@@ -116,13 +116,6 @@ fn next_value(next: &Next) -> Value
         Next::One(context) => count_value(*context),
         Next::Cases(_) => Value::Null,
     }
-}
-
-/// A number.
-pub(crate) fn count_value(count: u32) -> Value
-    ensures { view result ≡ count_data count }
-{
-    Value::from(u64::from(count))
 }
 
 /// The action of a number.

@@ -1,22 +1,18 @@
 -- No data of a page have a float.
-use Rattle.std.proofs.Common.{◌≡◌, ℕ, List, [], ◌∷◌, map, false, refl}
-use Rattle.serde_json.specs.Data.{Data}
-use Rattle.serde_json.specs.View.{items_of}
-use Rattle.serde_json.specs.Written.{has_float, items_have_float}
+use Rattle.std.proofs.Common.{◌≡◌, ℕ, List, map, false, refl}
+use Rattle.serde_json.specs.Written.{has_float}
 use Rattle.task_core.specs.Cubes.{Cube}
 use Rattle.task_core.specs.Names.{Name}
 use Rattle.task_core.specs.Systems.{System}
 use Rattle.plan_picture.specs.Pictures.{PlainNode}
 use Rattle.plan_rules.specs.Rules.{ContextRule, PlainPlan, PlanCase, PlanNext, PlanRule, always, automaton, by_cases, table}
 use Rattle.std.specs.Prelude.{Option, None, Some}
+use Rattle.plan_document.proofs.NoFloatsInActions.{items_free}
+use Rattle.plan_document.specs.Data.{count_data, list_data}
+use Rattle.plan_document.specs.Names.{name_data}
 use Rattle.plan_picture.specs.Runs.{PlainMove}
 use Rattle.plan_page.specs.Explanations.{PlainExplanation, PlainShownRun, count_or_null, handed_data, told}
-use Rattle.plan_page.specs.Pages.{case_data, context_rule_data, count_data, cube_data, list_data, literal_data, name_data, next_data, node_data, outcomes_below, page_data, step_data, table_rule_data, true_below}
-
--- no item of a mapped list has one where no value has
-items_free : {X : Type 0} (f : X → Data) → ((x : X) → has_float (f x) ≡ false) → (xs : List X) → items_have_float (items_of (map f xs)) ≡ false
-items_free f free [] = refl
-items_free f free (x ∷ xs) = rw (free x, items_free f free xs) refl
+use Rattle.plan_page.specs.Pages.{case_data, context_rule_data, cube_data, literal_data, next_data, node_data, outcomes_below, page_data, step_data, table_rule_data, true_below}
 
 cube_free : (cube : Cube) → has_float (cube_data cube) ≡ false
 cube_free = items_free literal_data (λ lit. refl)

@@ -12,8 +12,8 @@ use Rattle.sexpr_text.specs.declared.faults.FaultKind.TheVariants.{BadForm}
 use Rattle.sexpr_text.specs.declared.faults.InputFault.{InputFault}
 use Rattle.sexpr_text.specs.declared.faults.ReadErr.{ReadErr}
 use Rattle.sexpr_text.specs.declared.faults.ReadErr.TheVariants.{Fault, Memory}
+use Rattle.plan_document.specs.Data.{count_data, list_data}
 use Rattle.plan_picture.specs.Runs.{PlainMove, PlainRun}
-use Rattle.plan_page.specs.Data.{count_data, list_data}
 
 -- a run that is shown, and a sentence on what is the matter at its end
 pub record PlainShownRun : Type 0 where

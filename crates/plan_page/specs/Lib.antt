@@ -1,4 +1,3 @@
-pub mod Data
 pub mod Explanations
 pub mod ExplanationValues
 pub mod Frame

@@ -15,14 +15,11 @@ use Rattle.task_core.specs.declared.literals.Lit.{Lit}
 use Rattle.plan_picture.specs.Pictures.{PlainNode, PlainStep}
 use Rattle.plan_rules.specs.Rules.{ContextRule, PlainPlan, PlanCase, PlanNext, PlanRule, always}
 use Rattle.plan_rules.specs.Rules.{automaton, by_cases, table}
-use Rattle.plan_rules.specs.Texts.{atom_text, class_word}
-pub use Rattle.plan_page.specs.Data.{count_data, list_data}
+use Rattle.plan_rules.specs.Texts.{class_word}
+use Rattle.plan_document.specs.Data.{count_data, list_data}
+use Rattle.plan_document.specs.Names.{name_data}
 use Rattle.plan_page.specs.Explanations.{PlainExplanation, handed_data}
 use Rattle.plan_page.specs.Frame.{head_text, middle_text, tail_text}
-
--- a name as in the text of a plan, as "(at a)"
-abbrev pub name_data : Name → Data
-name_data name = string (atom_text name)
 
 -- a literal: the number of its fluent, and the value that is asked for, as [3,true]
 abbrev pub literal_data : Lit → Data

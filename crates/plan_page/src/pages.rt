@@ -16,9 +16,8 @@ use crate::explanations::Explanation;
 use crate::frame::{page_head, page_middle, page_tail};
 use crate::plans::plan_values;
 use crate::told::handed_value;
-use crate::values::{
-    action_names as action_values, fluent_names as fluent_values, node_values, outcome_counts,
-};
+use crate::values::{node_values, outcome_counts};
+use plan_document::{action_array, fluent_array};
 use plan_picture::Picture;
 use plan_rules::Plan;
 use serde_json::{Map, Value, put};
@@ -113,7 +112,7 @@ fn page_value(
         &mut members,
         alloc,
         "fluents",
-        fluent_values(alloc, &task.fluents)?,
+        fluent_array(alloc, &task.fluents)?,
     )?;
     put(&mut members, alloc, "contexts", values.contexts)?;
     put(&mut members, alloc, "class", values.class)?;
@@ -121,7 +120,7 @@ fn page_value(
         &mut members,
         alloc,
         "actions",
-        action_values(alloc, &task.actions)?,
+        action_array(alloc, &task.actions)?,
     )?;
     Ok(Value::from(members))
 }

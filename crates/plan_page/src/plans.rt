@@ -1,10 +1,9 @@
 //! Rules as JSON.
 
+ghost use Rattle.plan_document.specs.Data.{list_data};
 ghost use Rattle.plan_page.specs.Pages.{
   case_data,
   context_rule_data,
-  count_data,
-  list_data,
   next_data,
   plan_data,
   rule_object as rule_data,
@@ -21,7 +20,8 @@ ghost use Rattle.plan_rules.specs.Texts.{class_word as word_of_class};
 ghost use Rattle.serde_json.specs.View.{view};
 ghost use Rattle.std.specs.Prelude.{◌≡◌, IfOk, map};
 
-use crate::values::{count_value, cube_value, pair_value};
+use crate::values::{cube_value, pair_value};
+use plan_document::count_value;
 use plan_rules::{AutoRule, Case, Class, Next, Plan, Rule};
 use serde_json::{Map, Value, put};
 use std::alloc::{AllocError, Global};

@@ -1,5 +1,6 @@
 //! Explanations as JSON.
 
+ghost use Rattle.plan_document.specs.Data.{count_data};
 ghost use Rattle.plan_page.specs.ExplanationValues.{explanation_value, shown_value};
 ghost use Rattle.plan_page.specs.Explanations.{
   count_or_null as count_or_null_data,
@@ -10,7 +11,6 @@ ghost use Rattle.plan_page.specs.Explanations.{
   rule_counts as rule_data,
   told,
 };
-ghost use Rattle.plan_page.specs.Data.{count_data};
 ghost use Rattle.plan_picture.specs.Values.{move_value};
 ghost use Rattle.serde_json.specs.Data.{array, no_items, null, string};
 ghost use Rattle.serde_json.specs.View.{view};

@@ -1,11 +1,9 @@
-//! Names, numbers, literals and steps as JSON.
+//! Numbers, literals and steps as JSON.
 
+ghost use Rattle.plan_document.specs.Data.{count_data, list_data};
 ghost use Rattle.plan_page.specs.Pages.{
-  count_data,
   cube_data,
-  list_data,
   literal_data,
-  name_data,
   node_data,
   outcomes_below,
   step_data,
@@ -26,56 +24,14 @@ ghost use Rattle.std.specs.Prelude.{
   length,
   map,
 };
-ghost use Rattle.std.specs.Rc.{rc_str_bytes};
-ghost use Rattle.task_core.specs.Names.{name_bytes, name_of};
 ghost use Rattle.task_core.specs.States.{vector};
 ghost use Rattle.task_core.specs.Tasks.{action_count, fluent_count, outcomes_at, system_of};
 
+use plan_document::count_value;
 use plan_picture::{Node, Step};
-use plan_rules::push_name;
 use serde_json::{Map, Value, put};
 use std::alloc::{AllocError, Global};
-use std::rc::RcStr;
-use task_core::{ActionId, FluentId, GroundAction, Lit, State, Task};
-
-/// A number.
-pub(crate) fn count_value(count: u32) -> Value
-    ensures { view result ≡ count_data count }
-{
-    Value::from(u64::from(count))
-}
-
-/// A name as in the text of a plan.
-fn name_value(alloc: Global, words: &[RcStr]) -> Result<Value, AllocError>
-    ensures { IfOk result (λ value. view value ≡ name_data (map rc_str_bytes words.now)) }
-{
-    let mut text = String::new(alloc);
-    push_name(&mut text, words)?;
-    Ok(Value::from(text))
-}
-
-/// The names of fluents.
-pub(crate) fn fluent_names(alloc: Global, fluents: &[Vec<RcStr>]) -> Result<Value, AllocError>
-    ensures { IfOk result
-        (λ value. view value ≡ list_data name_data (map name_bytes fluents.now)) }
-{
-    let mut names = Vec::new(alloc);
-    for fluent in fluents {
-        names.push(name_value(alloc, fluent)?)?;
-    }
-    Ok(Value::from(names))
-}
-
-/// The names of actions.
-pub(crate) fn action_names(alloc: Global, actions: &[GroundAction]) -> Result<Value, AllocError>
-    ensures { IfOk result (λ value. view value ≡ list_data name_data (map name_of actions.now)) }
-{
-    let mut names = Vec::new(alloc);
-    for action in actions {
-        names.push(name_value(alloc, &action.name)?)?;
-    }
-    Ok(Value::from(names))
-}
+use task_core::{ActionId, FluentId, Lit, State, Task};
 
 /// How many outcomes each action has.
 pub(crate) fn outcome_counts(alloc: Global, task: &Task) -> Result<Value, AllocError>

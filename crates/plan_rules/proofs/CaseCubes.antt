@@ -1,7 +1,6 @@
 -- The cubes of cases, and of what a rule says of the next context.
-use Rattle.std.proofs.Common.{ℕ, ◌<◌, List, map, subst, sym}
+use Rattle.std.proofs.Common.{ℕ, List, map}
 use Rattle.std.specs.List.{All}
-use Rattle.std.proofs.lemmas.List.{get_or-map, length-map}
 use Rattle.plan_rules.specs.declared.rules.Case.{Case}
 use Rattle.plan_rules.specs.Advices.{AreCasesOf}
 use Rattle.plan_rules.specs.Plans.{IsCubeOf, IsNextOf}

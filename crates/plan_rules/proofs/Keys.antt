@@ -1,6 +1,6 @@
 -- The keys of a table of names are looked up by their words.
 use Rattle.std.proofs.Common.{◌≡◌, ℕ, suc, Bool, ◌&&◌, ◌||◌, ◌++◌, true, false, List, [], ◌∷◌, map, nat_eq, cond, not, length, ◌+◌, refl, ap, sym, ◌∙◌, arith}
-use Rattle.std.specs.Prelude.{Some, None, Vec, position, nat_lt}
+use Rattle.std.specs.Prelude.{Some, None, position, nat_lt}
 use Rattle.std.specs.Rc.{rc_str_bytes}
 use Rattle.std.specs.List.{list_all, list_any, position_or_len}
 use Rattle.std.specs.Str.{bytes_eq, IsUtf8, is_utf8}

@@ -17,6 +17,7 @@ use Rattle.plan_rules.specs.Denoted.{advises, denoted, IsExecutable}
 use Rattle.plan_theory.specs.Layers.{layer, covers, leads_by, may_lead, action_numbers, rank_within, IsLastLayer}
 use Rattle.plan_theory.specs.LayerPlans.{chosen_action, action_of_rank, takers, rules_of_action, printed_rules}
 use Rattle.plan_theory.proofs.Cubes.{cubes_match}
+use Rattle.plan_theory.proofs.Steps.{along}
 use Rattle.plan_theory.proofs.Tests.{HasOutcome-Exec, is_action-Some, is_action-from, same_vector-itself, same_vector-true}
 use Rattle.plan_rules.proofs.DenotedPairs.{denoted-from, denoted-pair, can_execute-outcome}
 use Rattle.list_laws.proofs.Elements.{range_with_len-last, list_any-agree, list_all-agree, list_all-at, list_all-from, list_any-from, list_any-none, list_any-witness, find-None, find-Some, find-found, Contains-map, Contains-map-witness, Contains-flat_map, Contains-flat_map-witness, Contains-range_with_len, Contains-range_with_len-below}
@@ -38,8 +39,7 @@ leads_outcome Cyclic sys f v a h = list_any-witness f (sys.next v a) h
 module _ (class : Class) where
   -- each layer holds the layers before it
   pub layer-grows : (sys : System) (v : Vector) (k m : ℕ) → k ≤ m → layer class sys k v ≡ true → layer class sys m v ≡ true
-  layer-grows sys v k zero l h = let e : k ≡ 0 = omega arith in subst (λ j. layer class sys j v ≡ true) e h
-  layer-grows sys v k (suc m) l h = ⊎_elim (λ (s : k < suc m). or_left (layer class sys m v) _ (layer-grows sys v k m (omega arith) h)) (λ (s : suc m ≤ k). let e : k ≡ suc m = omega arith in subst (λ j. layer class sys j v ≡ true) e h) (cases_lt k (suc m))
+  layer-grows sys v k m l h = along (λ n. layer class sys n v ≡ true) k h (λ n from inside. or_left (layer class sys n v) _ inside) m l
 
   -- each layer lies in the layers after it
   pub layer-misses : (sys : System) (v : Vector) (k m : ℕ) → k ≤ m → layer class sys m v ≡ false → layer class sys k v ≡ false
@@ -129,11 +129,10 @@ module _ (class : Class) where
 
   -- a state keeps its action from the layer on in which it is
   pub chosen_kept : (sys : System) (v : Vector) (k m : ℕ) → k ≤ m → layer class sys k v ≡ true → chosen_action class sys m v ≡ chosen_action class sys k v
-  chosen_kept sys v k zero l h = let e : k ≡ 0 = omega arith in ap (λ n. chosen_action class sys n v) (sym e)
-  chosen_kept sys v k (suc m) l h = ⊎_elim
-      (λ (s : k < suc m). step_choice sys m v ∙ (cond-true (layer class sys m v) (chosen_action class sys m v) (find (leads_by class sys (layer class sys m) v) (action_numbers sys)) (layer-grows sys v k m (omega arith) h) ∙ chosen_kept sys v k m (omega arith) h))
-      (λ (s : suc m ≤ k). let e : suc m ≡ k = omega arith in ap (λ n. chosen_action class sys n v) e)
-      (cases_lt k (suc m))
+  chosen_kept sys v k m l h =
+      along (λ n. chosen_action class sys n v ≡ chosen_action class sys k v) k refl
+      (λ n from same. step_choice sys n v ∙ (cond-true (layer class sys n v) (chosen_action class sys n v) (find (leads_by class sys (layer class sys n) v) (action_numbers sys)) (layer-grows sys v k n from h) ∙ same))
+      m l
 
   -- the printed rules match exactly the states that take their action
   pub printed_rule : (sys : System) (K : ℕ) (rule : PlanRule) (v : Vector) → Contains (printed_rules class sys K) rule → IsVector sys v → matches rule.cube v ≡ true → chosen_action class sys K v ≡ Some rule.action

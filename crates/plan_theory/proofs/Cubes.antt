@@ -1,18 +1,17 @@
 -- Every vector stands in the list of all vectors, and the cubes of a set match exactly its vectors.
-use Rattle.std.proofs.Common.{◌≡◌, ℕ, zero, suc, ◌+◌, Bool, true, false, cond, List, [], ◌∷◌, ◌++◌, length, refl, sym, ap, ◌∙◌, subst, arith, ⊎_elim, append_assoc, length-append}
+use Rattle.std.proofs.Common.{◌≡◌, ℕ, zero, suc, ◌+◌, Bool, true, false, cond, List, [], ◌∷◌, ◌++◌, length, refl, sym, ap, ◌∙◌, subst, arith, append_assoc, length-append}
 use Rattle.std.specs.Prelude.{map, ◌||◌, ◌&&◌}
-use Rattle.std.specs.List.{Contains, list_any}
+use Rattle.std.specs.List.{list_any}
 use Rattle.std.proofs.lemmas.Bool.{not-true}
 use Rattle.std.proofs.lemmas.List.Folds.{list_any-append}
 use Rattle.task_core.specs.Vectors.{Vector, all_vectors, same_value, value_of}
 use Rattle.task_core.specs.Cubes.{Cube, SetOfVectors, matches, literal, half, is_empty_set, is_whole_set, ignores_first, cubes_from}
-use Rattle.std.proofs.lemmas.List.Elements.{Contains-append_left, Contains-append_right, Contains-append_cases}
-use Rattle.list_laws.proofs.Elements.{Contains-nil, Contains-head, Contains-cases, Contains-map, Contains-map-witness, list_any-false, list_all-at, list_any-agree, list_any-none, list_any-map, map-agree}
+use Rattle.list_laws.proofs.Elements.{list_any-false, list_all-at, list_any-agree, list_any-none, list_any-map, map-agree}
 use Rattle.plan_theory.proofs.Tests.{same_value-true}
 pub use Rattle.task_core.proofs.Vectors.{all_vectors_has as all_vectors-holds, all_vectors_length as all_vectors-length}
 
 -- the value of the fluent after the first ones
-value_of-middle : (before : Vector) (x : Bool) (after : Vector) → value_of (before ++ x ∷ after) (length before) ≡ x
+pub value_of-middle : (before : Vector) (x : Bool) (after : Vector) → value_of (before ++ x ∷ after) (length before) ≡ x
 value_of-middle [] x after = refl
 value_of-middle (y ∷ ys) x after = value_of-middle ys x after
 

@@ -5,20 +5,13 @@ use Rattle.std.specs.Prelude.{if◌then◌else◌, ◌==◌, slice_get}
 use Rattle.task_core.specs.Vectors.{Vector}
 use Rattle.task_core.specs.Systems.{System}
 use Rattle.task_core.specs.Cubes.{literal}
+use Rattle.plan_theory.proofs.WeakExamples.{coin}
 use Rattle.plan_theory.specs.LargestSets.{covers}
 use Rattle.plan_theory.specs.CyclicPlans.{cyclic_rules, progress_action}
 use Rattle.plan_theory.specs.PairRounds.{kept, progress, round}
 
--- A coin that is flipped until it shows its face up: one action with two outcomes, up and as
--- before. After one round both states are left, as before it: no flip leads elsewhere, and from
+-- Of the coin both states are left after one round, as before it: no flip leads elsewhere, and from
 -- each state the goal may be reached.
-abbrev flips : Vector → ℕ → List Vector
-flips v zero = (true ∷ []) ∷ v ∷ []
-flips v (suc a) = []
-
-abbrev coin : System
-coin = record { fluents = 1; in_space = λ v. true; actions = 1; outcomes = λ a. 2; initial = (false ∷ []) ∷ []; goal = Some ((true ∷ []) ∷ []); next = flips; after = λ v a. slice_get (flips v a) }
-
 coin-left : round coin 1 (false ∷ []) ≡ true
 coin-left = refl
 

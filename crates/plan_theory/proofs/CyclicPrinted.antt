@@ -1,7 +1,7 @@
 -- The printed rules denote a strong cyclic solution. They are the weak plan of the system in which
 -- only the pairs of the set can be executed, so that wherever it leads the goal may still be
 -- reached.
-use Rattle.std.proofs.Common.{◌≡◌, ◌≢◌, ℕ, zero, ◌^◌, true, List, [], ◌∷◌, refl, sym, ◌∙◌, subst, arith, ⊎_elim}
+use Rattle.std.proofs.Common.{◌≡◌, ℕ, zero, ◌^◌, true, List, [], ◌∷◌, refl, sym, ◌∙◌, subst, arith, ⊎_elim}
 use Rattle.std.specs.List.{Contains}
 use Rattle.std.proofs.lemmas.Bool.{or_cases}
 use Rattle.task_core.specs.Vectors.{Vector}
@@ -14,7 +14,7 @@ use Rattle.plan_rules.specs.Denoted.{IsExecutable, denoted}
 use Rattle.plan_theory.specs.Layers.{action_numbers, layer}
 use Rattle.plan_theory.proofs.ClassLayers.{advised_chosen, chosen_leads, layer-grows, leads_outcome, printed_executable}
 use Rattle.plan_rules.proofs.DenotedPairs.{can_execute-Exec, can_execute-outcome, denoted-from, denoted-pair}
-use Rattle.list_laws.proofs.Elements.{Contains-head, list_all-at, list_any-witness}
+use Rattle.list_laws.proofs.Elements.{list_all-at, list_any-witness}
 use Rattle.plan_theory.proofs.WeakPrinted.{printed_reaches}
 use Rattle.plan_theory.specs.LargestSets.{IsStrongCyclicSet, covers, goal_or_pair}
 use Rattle.plan_theory.specs.Pairs.{Pairs, has_pair, is_goal, restricted}

@@ -1,11 +1,11 @@
 -- The sets of states from which a set is met in a guard grow and stand still; so the guarded set is
 -- the least one that is closed, each of its states has a rank and an action that leads one step
 -- nearer, and each in which the set isn't met yet is one of the guard.
-use Rattle.std.proofs.Common.{◌≡◌, ℕ, zero, suc, ◌+◌, ◌<◌, ◌≤◌, ◌^◌, Bool, true, false, None, Some, refl, sym, ◌∙◌, ap, subst, arith, ⊎_elim}
+use Rattle.std.proofs.Common.{◌≡◌, ℕ, zero, suc, ◌+◌, ◌<◌, ◌≤◌, ◌^◌, Bool, true, false, None, Some, sym, ◌∙◌, ap, arith, ⊎_elim}
 use Rattle.std.specs.Prelude.{◌&&◌, not}
 use Rattle.std.specs.List.{find, range_with_len}
 use Rattle.std.specs.Option.{option_and_then}
-use Rattle.std.proofs.lemmas.Bool.{and_from, and_parts, cases_lt, false_from_ne_true, false≢true, not-true, or_cases, or_left, or_parts, or_right, true≢false}
+use Rattle.std.proofs.lemmas.Bool.{and_from, and_parts, cases_lt, false_from_ne_true, not-true, or_cases, or_left, or_parts, or_right, true≢false}
 use Rattle.task_core.specs.Cubes.{SetOfVectors}
 use Rattle.task_core.specs.Vectors.{Vector}
 use Rattle.task_core.specs.Systems.{System, IsVector, IsSystem}
@@ -15,21 +15,12 @@ use Rattle.plan_theory.specs.Safe.{some_must_lead}
 use Rattle.plan_theory.specs.GuardedSets.{IsGuardedSet, IsLastGuarded, IsLeastGuardedSet, action_at_guarded_rank, guarded_action, guarded_near, guarded_rank, guarded_set}
 use Rattle.plan_theory.proofs.Leading.{find-least, leads_more, some_leads_more}
 use Rattle.plan_theory.proofs.Shrinking.{stands_still}
-use Rattle.list_laws.proofs.Booleans.{same_truth}
-
-same_not : (b c : Bool) → not b ≡ not c → b ≡ c
-same_not true true e = refl
-same_not true false e = absurd (false≢true e)
-same_not false true e = absurd (true≢false e)
-same_not false false e = refl
+use Rattle.plan_theory.proofs.Steps.{along}
+use Rattle.list_laws.proofs.Booleans.{same_truth, same_not}
 
 module _ (sys : System) (guard met : SetOfVectors) where
   pub near-grows : (v : Vector) (k m : ℕ) → k ≤ m → guarded_near sys guard met k v ≡ true → guarded_near sys guard met m v ≡ true
-  near-grows v k zero l h = let e : k ≡ 0 = omega arith in subst (λ n. guarded_near sys guard met n v ≡ true) e h
-  near-grows v k (suc m) l h =
-      ⊎_elim (λ (s : k < suc m). or_left (guarded_near sys guard met m v) _ (near-grows v k m (omega arith) h))
-      (λ (s : suc m ≤ k). let e : k ≡ suc m = omega arith in subst (λ n. guarded_near sys guard met n v ≡ true) e h)
-      (cases_lt k (suc m))
+  near-grows v k m l h = along (λ n. guarded_near sys guard met n v ≡ true) k h (λ n from near. or_left (guarded_near sys guard met n v) _ near) m l
 
   outside_before : (k : ℕ) (v : Vector) → not (guarded_near sys guard met (suc k) v) ≡ true → not (guarded_near sys guard met k v) ≡ true
   outside_before k v h = ap not (or_parts (guarded_near sys guard met k v) (guard v && some_must_lead sys (guarded_near sys guard met k) v) (not-true (guarded_near sys guard met (suc k) v) h)).0
@@ -53,13 +44,6 @@ module _ (sys : System) (guard met : SetOfVectors) where
         (some_leads_more sys (guarded_near sys guard met (suc k)) (guarded_near sys guard met k) v (λ a t o inside. stays t (ok.next v a t o).vector inside) both.1)))
         (or_cases (guarded_near sys guard met (suc k) v) _ h)
 
-    stays_from : (k m : ℕ) → k ≤ m → Stays k → Stays m
-    stays_from k zero l stays = let e : k ≡ 0 = omega arith in subst Stays e stays
-    stays_from k (suc m) l stays =
-        ⊎_elim (λ (s : k < suc m). stays_on m (stays_from k m (omega arith) stays))
-        (λ (s : suc m ≤ k). let e : k ≡ suc m = omega arith in subst Stays e stays)
-        (cases_lt k (suc m))
-
     -- where the states of k steps are those of one more, they are closed
     near-closed : (k : ℕ) → Stays k → IsGuardedSet sys guard met (guarded_near sys guard met k)
     near-closed k stays = record {
@@ -80,7 +64,7 @@ module _ (sys : System) (guard met : SetOfVectors) where
     pub guarded_set-least : IsLeastGuardedSet sys guard met (guarded_set sys guard met)
     guarded_set-least =
         let last = near-ends in
-        let stays = stays_from last.0 (2 ^ sys.fluents) last.1 (λ v is h. sym (last.2 v is) ∙ h) in
+        let stays = along Stays last.0 (λ v is h. sym (last.2 v is) ∙ h) (λ k from. stays_on k) (2 ^ sys.fluents) last.1 in
         record {
           guarded = near-closed (2 ^ sys.fluents) stays;
           least = λ other stage v is h. near-within other stage (2 ^ sys.fluents) v is h;

@@ -1,6 +1,6 @@
 -- Actions that can be executed and have every outcome in a set.
-use Rattle.std.proofs.Common.{◌≡◌, ◌≢◌, ℕ, zero, suc, ◌<◌, ◌≤◌, ◌+◌, Bool, true, false, List, [], ◌∷◌, Some, refl, sym, ap, ◌∙◌, arith, ⊎_elim}
-use Rattle.std.specs.List.{Contains, find, list_all, range_with_len}
+use Rattle.std.proofs.Common.{◌≡◌, ℕ, zero, suc, ◌<◌, ◌≤◌, ◌+◌, Bool, true, false, Some, refl, sym, ap, ◌∙◌, arith, ⊎_elim}
+use Rattle.std.specs.List.{find, list_all, range_with_len}
 use Rattle.std.proofs.lemmas.Bool.{and_from, and_parts, cond-false, cond-true, true≢false, cases_lt}
 use Rattle.std.proofs.lemmas.Option.{none-some, same_Some}
 use Rattle.task_core.specs.Cubes.{SetOfVectors}
@@ -8,7 +8,7 @@ use Rattle.task_core.specs.Vectors.{Vector}
 use Rattle.task_core.specs.Systems.{System, Exec, HasOutcome, IsSystem}
 use Rattle.plan_theory.specs.Layers.{action_numbers, may_lead, must_lead}
 use Rattle.plan_theory.proofs.Weak.{HasOutcome-Exec}
-use Rattle.list_laws.proofs.Elements.{Contains-head, Contains-range_with_len, list_all-at, list_all-from, list_any-from, list_any-witness}
+use Rattle.list_laws.proofs.Elements.{Contains-range_with_len, list_all-at, list_all-from, list_any-from, list_any-witness}
 use Rattle.plan_theory.specs.Safe.{some_must_lead}
 use Rattle.list_laws.proofs.Elements.{some_element}
 

@@ -1,5 +1,5 @@
 -- The printed plans are shortest; the layers stand still at last; and the laws by class.
-use Rattle.std.proofs.Common.{◌≡◌, ◌≢◌, ℕ, zero, suc, ◌+◌, ◌<◌, ◌≤◌, ◌^◌, Bool, true, false, cond, List, [], ◌∷◌, length, map, refl, sym, ◌∙◌, ap, subst, arith, ⊎_elim, inl, inr, ◌⊎◌}
+use Rattle.std.proofs.Common.{◌≡◌, ℕ, zero, suc, ◌+◌, ◌<◌, ◌≤◌, ◌^◌, Bool, true, false, cond, List, [], ◌∷◌, length, map, refl, sym, ◌∙◌, ap, subst, arith, ⊎_elim, inl, inr, ◌⊎◌}
 use Rattle.std.specs.List.{Contains, list_all, list_any}
 use Rattle.std.proofs.lemmas.Bool.{false≢true, and_from, or_left, or_right, cases_lt}
 use Rattle.task_core.specs.Cubes.{SetOfVectors}
@@ -21,7 +21,7 @@ use Rattle.plan_theory.proofs.NoStrong.{reach_more, stable_no_strong}
 use Rattle.plan_theory.proofs.StrongPrinted.{printed_short, printed_strong_solves, reaches_within}
 use Rattle.plan_theory.proofs.Weak.{path_in_layer, same_vector-itself, same_vector-true, stable_no_solution}
 use Rattle.plan_theory.proofs.WeakPrinted.{printed_solves}
-use Rattle.list_laws.proofs.Elements.{Contains-head, Contains-range_with_len, list_all-at, list_all-from, list_any-from, list_any-witness}
+use Rattle.list_laws.proofs.Elements.{Contains-range_with_len, list_all-at, list_all-from, list_any-from, list_any-witness}
 use Rattle.list_laws.proofs.Elements.{some_element}
 
 -- a state has a pair or is terminal

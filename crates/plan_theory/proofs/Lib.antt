@@ -1,4 +1,5 @@
 pub mod Tests
+pub mod Steps
 pub mod Cubes
 pub mod ClassLayers
 pub mod Weak
@@ -7,7 +8,7 @@ pub mod NoStrong
 pub mod StrongPrinted
 pub mod LeastBounds
 pub mod PrintedWithin
-mod WeakExamples
+pub mod WeakExamples
 pub mod Restricted
 pub mod RoundSteps
 pub mod Survives

@@ -1,10 +1,9 @@
 -- Where a layer of the class Strong is as the next one and doesn't hold every initial state, no
 -- table is a strong solution: from a state outside the layer one can always go on outside, and so
 -- comes back to a state at last.
-use Rattle.std.proofs.Common.{◌≡◌, ◌≢◌, ℕ, zero, suc, ◌+◌, ◌≤◌, ◌^◌, Bool, true, false, ◌&&◌, List, [], ◌∷◌, ◌++◌, length, refl, sym, ◌∙◌, ap, subst, arith, ⊎_elim}
+use Rattle.std.proofs.Common.{◌≡◌, ◌≢◌, ℕ, zero, suc, ◌+◌, ◌^◌, Bool, true, false, ◌&&◌, List, [], ◌∷◌, ◌++◌, length, refl, sym, ◌∙◌, ap, subst, arith, ⊎_elim}
 use Rattle.std.specs.List.{Contains, list_all, list_any}
 use Rattle.std.proofs.lemmas.Bool.{false≢true, true≢false, and_from, and_parts, or_left, or_right}
-use Rattle.std.proofs.lemmas.List.{length-append}
 use Rattle.task_core.specs.Vectors.{Vector, all_vectors, same_vector}
 use Rattle.task_core.specs.Systems.{System, Exec, HasOutcome, IsSystem, IsVector}
 use Rattle.task_core.specs.Tables.{Table, IsTable, IsTerminal, Leads, Reaches}
@@ -19,7 +18,7 @@ use Rattle.plan_theory.proofs.ClassLayers.{layer-grows, layer-zero}
 use Rattle.plan_theory.proofs.Cubes.{all_vectors-holds}
 use Rattle.plan_theory.proofs.Weak.{same_vector-itself, same_vector-true}
 use Rattle.list_laws.proofs.Elements.{Contains-cases, Contains-cons, Contains-head, Contains-nil, Contains-range_with_len, list_any-from, list_any-witness}
-use Rattle.list_laws.proofs.Distinct.{Around, around, elsewhere, Apart, Apart-few}
+use Rattle.list_laws.proofs.Distinct.{Apart, Apart-few}
 
 -- an element that fails a test of all
 failing : {X : Type 0} (p : X → Bool) (xs : List X) → list_all p xs ≡ false → (x : X) × Contains xs x × (p x ≡ false)
@@ -40,7 +39,7 @@ reach_more sys table x s t r lead = record {
   ends = last_onward x r.rest t;
 }
 
-here : (sys : System) (table : Table) (s : Vector) → Reaches sys table s s
+pub here : (sys : System) (table : Table) (s : Vector) → Reaches sys table s s
 here sys table s = record { rest = []; path = tt; ends = refl }
 
 module _ (sys : System) (ok : IsSystem sys) (k : ℕ) (stable : (v : Vector) → IsVector sys v → layer Strong sys (suc k) v ≡ layer Strong sys k v) (table : Table) (is_table : IsTable sys table) (solves : IsStrongSolution sys table) where

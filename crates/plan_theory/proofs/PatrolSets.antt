@@ -1,9 +1,9 @@
 -- The rounds of a patrol goal shrink and stand still; so what is left is the largest set within which
 -- every visit can be made, and each of its states has an action nearer to a visit, or one that stays.
-use Rattle.std.proofs.Common.{◌≡◌, ℕ, zero, suc, ◌-◌, ◌<◌, ◌≤◌, ◌^◌, Bool, true, false, List, length, Some, refl, sym, ◌∙◌, subst, arith, ⊎_elim}
+use Rattle.std.proofs.Common.{◌≡◌, ℕ, zero, suc, ◌-◌, ◌≤◌, ◌^◌, Bool, true, false, List, length, Some, refl, sym, ◌∙◌, arith, ⊎_elim}
 use Rattle.std.specs.Prelude.{◌&&◌}
 use Rattle.std.specs.List.{Contains, list_all}
-use Rattle.std.proofs.lemmas.Bool.{and_from, and_parts, cases_lt, cond-false, cond-true, or_cases, or_left, or_right, false_from_ne_true, true≢false}
+use Rattle.std.proofs.lemmas.Bool.{and_from, and_parts, cond-false, cond-true, or_cases, or_left, or_right, false_from_ne_true, true≢false}
 use Rattle.std.proofs.lemmas.List.Elements.{Contains-get_or}
 use Rattle.task_core.specs.Cubes.{SetOfVectors}
 use Rattle.task_core.specs.Vectors.{Vector}
@@ -15,6 +15,7 @@ use Rattle.plan_theory.specs.Safe.{some_must_lead}
 use Rattle.plan_theory.proofs.GuardedSets.{guarded_acts, near-grows}
 use Rattle.plan_theory.proofs.Leading.{leads_at, leads_exec, leads_more, some_leads_from, some_leads_more}
 use Rattle.plan_theory.proofs.Shrinking.{stands_still}
+use Rattle.plan_theory.proofs.Steps.{along}
 use Rattle.list_laws.proofs.Elements.{find-Some, find-found, list_all-at, list_all-from}
 use Rattle.list_laws.proofs.Booleans.{same_truth}
 
@@ -72,11 +73,7 @@ module _ (sys : System) (visits : List SetOfVectors) where
   round_parts r v h = and_parts (patrol_round sys visits r v) (each_within (patrol_round sys visits r) v) h
 
   pub rounds_shrink : (v : Vector) (k m : ℕ) → k ≤ m → patrol_round sys visits m v ≡ true → patrol_round sys visits k v ≡ true
-  rounds_shrink v k zero l h = let e : 0 ≡ k = omega arith in subst (λ n. patrol_round sys visits n v ≡ true) e h
-  rounds_shrink v k (suc m) l h =
-      ⊎_elim (λ (s : k < suc m). rounds_shrink v k m (omega arith) (round_parts m v h).0)
-      (λ (s : suc m ≤ k). let e : suc m ≡ k = omega arith in subst (λ n. patrol_round sys visits n v ≡ true) e h)
-      (cases_lt k (suc m))
+  rounds_shrink v k m l = along (λ n. patrol_round sys visits n v ≡ true → patrol_round sys visits k v ≡ true) k (λ h. h) (λ n from before h. before (round_parts n v h).0) m l
 
   pub rounds_end : (j : ℕ) × (j ≤ 2 ^ sys.fluents) × IsLastPatrolRound sys visits j
   rounds_end = stands_still sys.fluents (patrol_round sys visits) (λ r v h. (round_parts r v h).0)
@@ -94,13 +91,6 @@ module _ (sys : System) (visits : List SetOfVectors) where
     stays_on r stays v is h =
         and_from (patrol_round sys visits (suc r) v) (each_within (patrol_round sys visits (suc r)) v) h
         (within_more (patrol_round sys visits r) (patrol_round sys visits (suc r)) stays v is (round_parts r v h).1)
-
-    stays_from : (k m : ℕ) → k ≤ m → Stays k → Stays m
-    stays_from k zero l stays = let e : k ≡ 0 = omega arith in subst Stays e stays
-    stays_from k (suc m) l stays =
-        ⊎_elim (λ (s : k < suc m). stays_on m (stays_from k m (omega arith) stays))
-        (λ (s : suc m ≤ k). let e : k ≡ suc m = omega arith in subst Stays e stays)
-        (cases_lt k (suc m))
 
     -- where a round is the next one, every visit can be made within its states
     round-patrol : (r : ℕ) → Stays r → IsPatrolSet sys visits (patrol_round sys visits r)
@@ -120,7 +110,7 @@ module _ (sys : System) (visits : List SetOfVectors) where
     pub patrol_set-largest : IsLargestPatrolSet sys visits (patrol_set sys visits)
     patrol_set-largest =
         let last = rounds_end in
-        let stays = stays_from last.0 (2 ^ sys.fluents) last.1 (λ v is h. last.2 v is ∙ h) in
+        let stays = along Stays last.0 (λ v is h. last.2 v is ∙ h) (λ k from. stays_on k) (2 ^ sys.fluents) last.1 in
         record {
           patrol = round-patrol (2 ^ sys.fluents) stays;
           largest = λ other patrol v is h. within_rounds other patrol (2 ^ sys.fluents) v is h;

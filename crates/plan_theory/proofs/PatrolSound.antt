@@ -22,7 +22,7 @@ use Rattle.plan_theory.specs.PatrolPlans.{ActsAsPatrol, IsPatrolPlan}
 use Rattle.plan_theory.specs.PatrolPrinted.{context_after, patrol_next, visit_in}
 use Rattle.plan_theory.proofs.Leading.{leads_at, leads_exec}
 use Rattle.plan_theory.proofs.PatrolSets.{ActsInPatrol, acts_in_patrol, made_in, nears_visit, patrol_set-largest, visit_among}
-use Rattle.plan_theory.proofs.PlanRuns.{has_value, reached_keeps}
+use Rattle.plan_theory.proofs.PlanRuns.{has_value, reached_keeps, by_action}
 
 -- contexts follow one another, and after the last one comes the first
 
@@ -119,14 +119,8 @@ module _ (sys : System) (ok : IsSystem sys) (visits : List SetOfVectors) (plan :
     contexts = λ t o. has_value (plan.ctxt x.state x.context t) (turn x) (printed.goes_on x.state x.context t i.state i.first i.last i.wins);
   }
 
-  same_action : (x y : Configuration) (i : Inside x) → (f : Follows sys plan x y) → f.action ≡ (acts x i).action
-  same_action x y i f = same_Some f.action (acts x i).action (sym f.acts ∙ takes x i)
-
   next_context : (x y : Configuration) → Inside x → Follows sys plan x y → y.context ≡ turn x
   next_context x y i f = same_Some y.context (turn x) (sym f.context ∙ printed.goes_on x.state x.context y.state i.state i.first i.last i.wins)
-
-  outcome : (x y : Configuration) (i : Inside x) → Follows sys plan x y → HasOutcome sys x.state (acts x i).action y.state
-  outcome x y i f = subst (λ a. HasOutcome sys x.state a y.state) (same_action x y i f) f.outcome
 
   inside_next : (x y : Configuration) → Inside x → Follows sys plan x y → Inside y
   inside_next x y i f =
@@ -135,7 +129,7 @@ module _ (sys : System) (ok : IsSystem sys) (visits : List SetOfVectors) (plan :
         state = (ok.next x.state f.action y.state f.outcome).vector;
         first = subst (λ c. 1 ≤ c) (sym same) (next_first visits x.context x.state i.first i.last);
         last = subst (λ c. c ≤ last_context) (sym same) (next_last visits x.context x.state i.first i.last);
-        wins = leads_at sys states x.state (acts x i).action (acts x i).leads y.state (outcome x y i f);
+        wins = leads_at sys states x.state (acts x i).action (acts x i).leads y.state (by_action sys plan x y (acts x i).action (takes x i) f);
       }
 
   abbrev near_visit : ℕ → ℕ → SetOfVectors

@@ -1,7 +1,6 @@
 -- What follows a configuration that a complete plan reaches: some path of every length, and what
 -- holds of all that follow leads the state on.
-use Rattle.std.proofs.Common.{◌≡◌, ◌≢◌, ℕ, zero, suc, true, List, [], ◌∷◌, length, refl, ap, subst}
-use Rattle.std.specs.List.{Contains}
+use Rattle.std.proofs.Common.{◌≡◌, ℕ, zero, suc, true, List, [], ◌∷◌, length, refl, ap, subst}
 use Rattle.task_core.specs.ContextPlans.{Configuration, ContextPlan, Follows, IsComplete, IsReachable}
 use Rattle.task_core.specs.Paths.{IsPath}
 use Rattle.task_core.specs.Cubes.{SetOfVectors}
@@ -9,7 +8,6 @@ use Rattle.task_core.specs.Systems.{System, IsSystem}
 use Rattle.plan_theory.specs.Safe.{some_must_lead}
 use Rattle.plan_theory.proofs.Leading.{some_leads_from}
 use Rattle.plan_theory.proofs.PlanRuns.{follower, reached_next}
-use Rattle.list_laws.proofs.Elements.{Contains-head}
 use Rattle.list_laws.proofs.Elements.{some_element}
 
 -- a path of n steps from x

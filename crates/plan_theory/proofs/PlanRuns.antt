@@ -1,7 +1,7 @@
 -- The configurations that a plan with contexts may reach.
-use Rattle.std.proofs.Common.{◌≡◌, [], ◌∷◌, ◌++◌, Option, None, Some, refl, sym, subst}
+use Rattle.std.proofs.Common.{◌≡◌, ◌∙◌, ℕ, [], ◌∷◌, ◌++◌, Option, Some, refl, sym, subst}
 use Rattle.std.specs.Prelude.{IsSome}
-use Rattle.std.proofs.lemmas.Bool.{false≢true}
+use Rattle.std.proofs.lemmas.Option.{same_Some}
 use Rattle.task_core.specs.ContextPlans.{Configuration, ContextPlan, Follows, GoesOn, IsInitial, IsReachable}
 use Rattle.task_core.proofs.Paths.{last_onward, path_keeps, path_onward}
 use Rattle.task_core.specs.Systems.{System, HasOutcome, IsVector, IsSystem}
@@ -23,6 +23,10 @@ module _ (sys : System) (plan : ContextPlan) where
     path = path_onward (Follows sys plan) r.start r.rest y r.path (subst (λ z. Follows sys plan z y) (sym r.ends) follows);
     ends = last_onward r.start r.rest y;
   }
+
+  -- what follows comes by the action that the plan takes
+  pub by_action : (x y : Configuration) (a : ℕ) → plan.act x.state x.context ≡ Some a → Follows sys plan x y → HasOutcome sys x.state a y.state
+  by_action x y a acts follows = subst (λ b. HasOutcome sys x.state b y.state) (same_Some follows.action a (sym follows.acts ∙ acts)) follows.outcome
 
   -- what holds where executions begin, and stays along a step, holds wherever the plan may come
   module _ (P : Configuration → Type 0) (next : (x y : Configuration) → P x → Follows sys plan x y → P y) where

@@ -1,8 +1,8 @@
 -- The rounds: which pairs are kept, that rounds shrink, and that they stand still.
-use Rattle.std.proofs.Common.{Contains, ◌≡◌, ℕ, zero, suc, ◌+◌, ◌<◌, ◌≤◌, ◌^◌, Bool, true, false, ◌&&◌, cond, List, [], ◌∷◌, length, map, refl, sym, ◌∙◌, ap, subst, arith, ⊎_elim}
+use Rattle.std.proofs.Common.{Contains, ◌≡◌, ℕ, zero, suc, ◌+◌, ◌<◌, ◌≤◌, ◌^◌, Bool, true, false, ◌&&◌, cond, List, [], ◌∷◌, length, map, refl, sym, ◌∙◌, ap, arith}
 use Rattle.std.specs.Prelude.{not, ⊤}
 use Rattle.std.specs.List.{list_all}
-use Rattle.std.proofs.lemmas.Bool.{and_from, and_parts, cases_lt, false≢true}
+use Rattle.std.proofs.lemmas.Bool.{and_from, and_parts, false≢true}
 use Rattle.task_core.specs.Cubes.{SetOfVectors}
 use Rattle.task_core.specs.Vectors.{Vector, all_vectors, same_vector}
 use Rattle.task_core.specs.Systems.{System, Exec, HasOutcome, IsVector, IsSystem}
@@ -14,7 +14,8 @@ use Rattle.list_laws.proofs.Elements.{Contains-cons, Contains-head, list_all-at,
 use Rattle.plan_theory.specs.Pairs.{is_goal}
 use Rattle.plan_theory.specs.PairRounds.{IsLastRound, connected, kept, round}
 use Rattle.plan_theory.proofs.Restricted.{more_pairs}
-use Rattle.list_laws.proofs.Booleans.{same_truth}
+use Rattle.plan_theory.proofs.Steps.{along}
+use Rattle.list_laws.proofs.Booleans.{same_truth, not_true}
 
 -- what it says of a pair that it is kept, and what keeps it
 pub record IsKept (sys : System) (set : SetOfVectors) (v : Vector) (a : ℕ) : Type 0 where
@@ -22,13 +23,6 @@ pub record IsKept (sys : System) (set : SetOfVectors) (v : Vector) (a : ℕ) : T
   pub outside : is_goal sys v ≡ false
   pub executable : Exec sys v a
   pub stays : (t : Vector) → HasOutcome sys v a t → set t ≡ true
-
-not_true : (b : Bool) → not b ≡ true → b ≡ false
-not_true true h = absurd (false≢true h)
-not_true false h = refl
-
-not_false : (b : Bool) → b ≡ false → not b ≡ true
-not_false b h = ap not h
 
 pub kept_parts : (sys : System) (set : SetOfVectors) (v : Vector) (a : ℕ) → kept sys set v a ≡ true → IsKept sys set v a
 kept_parts sys set v a h =
@@ -46,7 +40,7 @@ kept_parts sys set v a h =
 pub kept_from : (sys : System) (set : SetOfVectors) (v : Vector) (a : ℕ) (t : Vector) → set v ≡ true → is_goal sys v ≡ false → HasOutcome sys v a t → ((u : Vector) → HasOutcome sys v a u → set u ≡ true) → kept sys set v a ≡ true
 kept_from sys set v a t inside outside o stays =
     and_from (set v) (not (is_goal sys v) && must_lead sys set v a) inside
-    (and_from (not (is_goal sys v)) (must_lead sys set v a) (not_false (is_goal sys v) outside)
+    (and_from (not (is_goal sys v)) (must_lead sys set v a) (ap not outside)
     (and_from (may_lead sys set v a) (list_all set (sys.next v a)) (list_any-from set (sys.next v a) t o (stays t o)) (list_all-from set (sys.next v a) stays)))
 
 some_outcome : (sys : System) (v : Vector) (a : ℕ) (set : SetOfVectors) → must_lead sys set v a ≡ true → (t : Vector) × HasOutcome sys v a t
@@ -74,11 +68,7 @@ round_shrinks sys (suc r) v h =
     connected_more sys (λ _. ⊤) (λ s a t d o. tt) (round sys (suc r)) (round sys r) (λ s d k. round_shrinks sys r s k) v tt h
 
 pub rounds_shrink_to : (sys : System) (v : Vector) (r m : ℕ) → r ≤ m → round sys m v ≡ true → round sys r v ≡ true
-rounds_shrink_to sys v r zero l h = let e : r ≡ 0 = omega arith in subst (λ n. round sys n v ≡ true) (sym e) h
-rounds_shrink_to sys v r (suc m) l h =
-    ⊎_elim (λ (s : r < suc m). rounds_shrink_to sys v r m (omega arith) (round_shrinks sys m v h))
-    (λ (s : suc m ≤ r). let e : suc m ≡ r = omega arith in subst (λ n. round sys n v ≡ true) e h)
-    (cases_lt r (suc m))
+rounds_shrink_to sys v r m l = along (λ n. round sys n v ≡ true → round sys r v ≡ true) r (λ h. h) (λ n from before h. before (round_shrinks sys n v h)) m l
 
 -- where two sets hold the same states, the rounds after them do
 
@@ -89,11 +79,9 @@ connected_agree sys ok f g same v is =
     (λ h. connected_more sys (IsVector sys) (λ s a t d o. (ok.next s a t o).vector) g f (λ s d k. same s d ∙ k) v is h)
 
 pub later_rounds : (sys : System) (r : ℕ) → IsSystem sys → IsLastRound sys r → (m : ℕ) → r ≤ m → (v : Vector) → IsVector sys v → round sys m v ≡ round sys r v
-later_rounds sys r ok still zero l v is = let e : r ≡ 0 = omega arith in ap (λ n. round sys n v) (sym e)
-later_rounds sys r ok still (suc m) l v is =
-    ⊎_elim (λ (s : r < suc m). connected_agree sys ok (round sys m) (round sys r) (later_rounds sys r ok still m (omega arith)) v is ∙ still v is)
-    (λ (s : suc m ≤ r). let e : suc m ≡ r = omega arith in ap (λ n. round sys n v) e)
-    (cases_lt r (suc m))
+later_rounds sys r ok still =
+    along (λ m. (v : Vector) → IsVector sys v → round sys m v ≡ round sys r v) r (λ v is. refl)
+    (λ m from same v is. connected_agree sys ok (round sys m) (round sys r) same v is ∙ still v is)
 
 -- how many of some states a set holds
 pub held : SetOfVectors → List Vector → ℕ

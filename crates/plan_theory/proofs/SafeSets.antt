@@ -1,12 +1,13 @@
 -- The safe rounds shrink and stand still; so the safe set is the largest set that can be kept.
-use Rattle.std.proofs.Common.{◌≡◌, ℕ, zero, suc, ◌<◌, ◌≤◌, ◌^◌, true, ◌∙◌, subst, arith, ⊎_elim}
-use Rattle.std.proofs.lemmas.Bool.{and_from, and_parts, cases_lt}
+use Rattle.std.proofs.Common.{◌≡◌, ℕ, zero, suc, ◌≤◌, ◌^◌, true, ◌∙◌, arith}
+use Rattle.std.proofs.lemmas.Bool.{and_from, and_parts}
 use Rattle.task_core.specs.Cubes.{SetOfVectors}
 use Rattle.task_core.specs.Vectors.{Vector}
 use Rattle.task_core.specs.Systems.{System, IsVector, IsSystem}
 use Rattle.plan_theory.specs.Safe.{IsLargestSafeSet, IsLastSafeRound, IsSafeSet, safe_round, safe_set, some_must_lead}
 use Rattle.plan_theory.proofs.Leading.{some_leads_more}
 use Rattle.plan_theory.proofs.Shrinking.{stands_still}
+use Rattle.plan_theory.proofs.Steps.{along}
 use Rattle.list_laws.proofs.Booleans.{same_truth}
 
 module _ (sys : System) (keep : SetOfVectors) where
@@ -14,11 +15,7 @@ module _ (sys : System) (keep : SetOfVectors) where
   round_parts k v h = and_parts (safe_round sys keep k v) (some_must_lead sys (safe_round sys keep k) v) h
 
   pub rounds_shrink : (v : Vector) (k m : ℕ) → k ≤ m → safe_round sys keep m v ≡ true → safe_round sys keep k v ≡ true
-  rounds_shrink v k zero l h = let e : 0 ≡ k = omega arith in subst (λ n. safe_round sys keep n v ≡ true) e h
-  rounds_shrink v k (suc m) l h =
-      ⊎_elim (λ (s : k < suc m). rounds_shrink v k m (omega arith) (round_parts m v h).0)
-      (λ (s : suc m ≤ k). let e : suc m ≡ k = omega arith in subst (λ n. safe_round sys keep n v ≡ true) e h)
-      (cases_lt k (suc m))
+  rounds_shrink v k m l = along (λ n. safe_round sys keep n v ≡ true → safe_round sys keep k v ≡ true) k (λ h. h) (λ n from before h. before (round_parts n v h).0) m l
 
   pub rounds_end : (j : ℕ) × (j ≤ 2 ^ sys.fluents) × IsLastSafeRound sys keep j
   rounds_end = stands_still sys.fluents (safe_round sys keep) (λ k v h. (round_parts k v h).0)
@@ -31,13 +28,6 @@ module _ (sys : System) (keep : SetOfVectors) where
     stays_on k stays v is h =
         and_from (safe_round sys keep (suc k) v) (some_must_lead sys (safe_round sys keep (suc k)) v) h
         (some_leads_more sys (safe_round sys keep k) (safe_round sys keep (suc k)) v (λ a t o inside. stays t (ok.next v a t o).vector inside) (round_parts k v h).1)
-
-    stays_from : (k m : ℕ) → k ≤ m → Stays k → Stays m
-    stays_from k zero l stays = let e : k ≡ 0 = omega arith in subst Stays e stays
-    stays_from k (suc m) l stays =
-        ⊎_elim (λ (s : k < suc m). stays_on m (stays_from k m (omega arith) stays))
-        (λ (s : suc m ≤ k). let e : k ≡ suc m = omega arith in subst Stays e stays)
-        (cases_lt k (suc m))
 
     -- where a round is the next one, its states can be kept
     safe_round-safe : (k : ℕ) → Stays k → IsSafeSet sys keep (safe_round sys keep k)
@@ -56,7 +46,7 @@ module _ (sys : System) (keep : SetOfVectors) where
     pub safe_set-largest : IsLargestSafeSet sys keep (safe_set sys keep)
     safe_set-largest =
         let last = rounds_end in
-        let stays = stays_from last.0 (2 ^ sys.fluents) last.1 (λ v is h. last.2 v is ∙ h) in
+        let stays = along Stays last.0 (λ v is h. last.2 v is ∙ h) (λ k from. stays_on k) (2 ^ sys.fluents) last.1 in
         record {
           safe = safe_round-safe (2 ^ sys.fluents) stays;
           largest = λ other safe v is h. within_rounds other safe (2 ^ sys.fluents) v is h;

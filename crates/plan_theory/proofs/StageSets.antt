@@ -1,10 +1,10 @@
 -- The sets of states near a set grow and stand still; so the stage set is the least one that is
 -- closed, and each of its states has a rank and an action that leads one step nearer.
-use Rattle.std.proofs.Common.{◌≡◌, ℕ, zero, suc, ◌+◌, ◌<◌, ◌≤◌, ◌^◌, Bool, true, false, None, Some, refl, sym, ◌∙◌, ap, subst, arith, ⊎_elim}
+use Rattle.std.proofs.Common.{◌≡◌, ℕ, zero, suc, ◌+◌, ◌<◌, ◌≤◌, ◌^◌, Bool, true, false, None, Some, sym, ◌∙◌, ap, arith, ⊎_elim}
 use Rattle.std.specs.Prelude.{not}
 use Rattle.std.specs.List.{find, range_with_len}
 use Rattle.std.specs.Option.{option_and_then}
-use Rattle.std.proofs.lemmas.Bool.{cases_lt, false_from_ne_true, false≢true, not-true, or_cases, or_left, or_parts, or_right, true≢false}
+use Rattle.std.proofs.lemmas.Bool.{cases_lt, false_from_ne_true, not-true, or_cases, or_left, or_parts, or_right, true≢false}
 use Rattle.task_core.specs.Cubes.{SetOfVectors}
 use Rattle.task_core.specs.Vectors.{Vector}
 use Rattle.task_core.specs.Systems.{System, IsVector, IsSystem}
@@ -14,21 +14,12 @@ use Rattle.plan_theory.specs.Safe.{some_must_lead}
 use Rattle.plan_theory.specs.StageSets.{IsLastNear, IsLeastStageSet, IsStageSet, action_at_rank, near, stage_action, stage_rank, stage_set}
 use Rattle.plan_theory.proofs.Leading.{find-least, some_leads_more}
 use Rattle.plan_theory.proofs.Shrinking.{stands_still}
-use Rattle.list_laws.proofs.Booleans.{same_truth}
-
-same_not : (b c : Bool) → not b ≡ not c → b ≡ c
-same_not true true e = refl
-same_not true false e = absurd (false≢true e)
-same_not false true e = absurd (true≢false e)
-same_not false false e = refl
+use Rattle.plan_theory.proofs.Steps.{along}
+use Rattle.list_laws.proofs.Booleans.{same_truth, same_not}
 
 module _ (sys : System) (met : SetOfVectors) where
   pub near-grows : (v : Vector) (k m : ℕ) → k ≤ m → near sys met k v ≡ true → near sys met m v ≡ true
-  near-grows v k zero l h = let e : k ≡ 0 = omega arith in subst (λ n. near sys met n v ≡ true) e h
-  near-grows v k (suc m) l h =
-      ⊎_elim (λ (s : k < suc m). or_left (near sys met m v) _ (near-grows v k m (omega arith) h))
-      (λ (s : suc m ≤ k). let e : k ≡ suc m = omega arith in subst (λ n. near sys met n v ≡ true) e h)
-      (cases_lt k (suc m))
+  near-grows v k m l h = along (λ n. near sys met n v ≡ true) k h (λ n from inside. or_left (near sys met n v) _ inside) m l
 
   outside_before : (k : ℕ) (v : Vector) → not (near sys met (suc k) v) ≡ true → not (near sys met k v) ≡ true
   outside_before k v h = ap not (or_parts (near sys met k v) (some_must_lead sys (near sys met k) v) (not-true (near sys met (suc k) v) h)).0
@@ -48,13 +39,6 @@ module _ (sys : System) (met : SetOfVectors) where
         (λ e. or_right (near sys met k v) _ (some_leads_more sys (near sys met (suc k)) (near sys met k) v (λ a t o inside. stays t (ok.next v a t o).vector inside) e))
         (or_cases (near sys met (suc k) v) _ h)
 
-    stays_from : (k m : ℕ) → k ≤ m → Stays k → Stays m
-    stays_from k zero l stays = let e : k ≡ 0 = omega arith in subst Stays e stays
-    stays_from k (suc m) l stays =
-        ⊎_elim (λ (s : k < suc m). stays_on m (stays_from k m (omega arith) stays))
-        (λ (s : suc m ≤ k). let e : k ≡ suc m = omega arith in subst Stays e stays)
-        (cases_lt k (suc m))
-
     -- where the states of k steps are those of one more, they are closed
     near-closed : (k : ℕ) → Stays k → IsStageSet sys met (near sys met k)
     near-closed k stays = record {
@@ -73,7 +57,7 @@ module _ (sys : System) (met : SetOfVectors) where
     pub stage_set-least : IsLeastStageSet sys met (stage_set sys met)
     stage_set-least =
         let last = near-ends in
-        let stays = stays_from last.0 (2 ^ sys.fluents) last.1 (λ v is h. sym (last.2 v is) ∙ h) in
+        let stays = along Stays last.0 (λ v is h. sym (last.2 v is) ∙ h) (λ k from. stays_on k) (2 ^ sys.fluents) last.1 in
         record {
           stage = near-closed (2 ^ sys.fluents) stays;
           least = λ other stage v is h. near-within other stage (2 ^ sys.fluents) v is h;

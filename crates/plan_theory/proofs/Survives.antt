@@ -1,7 +1,7 @@
 -- What stays in every round: states from which the goal is reached by pairs that don't lead out of
 -- them. So the last round has the largest set of pairs, and holds the reachable states of every
 -- strong cyclic solution.
-use Rattle.std.proofs.Common.{◌≡◌, ◌≢◌, ℕ, zero, suc, ◌≤◌, ◌^◌, Bool, true, false, List, [], ◌∷◌, length, refl, sym, ◌∙◌, subst, arith, ⊎_elim, inl, inr, ◌⊎◌}
+use Rattle.std.proofs.Common.{◌≡◌, ℕ, zero, suc, ◌≤◌, ◌^◌, Bool, true, false, List, [], ◌∷◌, length, refl, sym, ◌∙◌, subst, arith, ⊎_elim, inl, inr, ◌⊎◌}
 use Rattle.std.specs.List.{Contains}
 use Rattle.std.proofs.lemmas.Bool.{true≢false, or_cases, or_left, or_right}
 use Rattle.task_core.specs.Cubes.{SetOfVectors}
@@ -14,7 +14,7 @@ use Rattle.task_core.specs.declared.classes.Class.TheVariants.{Cyclic, Weak}
 use Rattle.plan_theory.specs.Layers.{action_numbers, may_lead}
 use Rattle.plan_theory.proofs.ClassLayers.{first_layer, layer-grows, layer-zero}
 use Rattle.plan_theory.proofs.NoStrong.{reach_more}
-use Rattle.list_laws.proofs.Elements.{Contains-head, Contains-range_with_len, list_all-from, list_any-from, list_any-witness}
+use Rattle.list_laws.proofs.Elements.{Contains-range_with_len, list_all-from, list_any-from, list_any-witness}
 use Rattle.plan_theory.specs.LargestSets.{IsLargestSet, IsStrongCyclicSet, covers, goal_or_pair}
 use Rattle.plan_theory.specs.Pairs.{Pairs, has_pair, is_goal, restricted}
 use Rattle.plan_theory.specs.PairRounds.{IsLastRound, kept, progress, round}

@@ -1,9 +1,9 @@
 -- The tests by which layers and plans are defined: whether vectors are the same, and whether an
 -- action is the one that was chosen; and that an action with an outcome can be executed.
-use Rattle.std.proofs.Common.{◌≡◌, ℕ, Bool, true, false, [], ◌∷◌, Option, None, Some, refl, sym, ap, ◌∙◌, subst}
+use Rattle.std.proofs.Common.{◌≡◌, ℕ, true, Option, None, Some, refl, sym, ap, ◌∙◌, subst}
 use Rattle.std.specs.List.{Contains}
-use Rattle.std.proofs.lemmas.Bool.{false≢true, and_from, and_parts, eqb-true, eq-eqb}
-use Rattle.task_core.specs.Vectors.{Vector, same_vector, same_value}
+use Rattle.std.proofs.lemmas.Bool.{false≢true, eqb-true, eq-eqb}
+use Rattle.task_core.specs.Vectors.{Vector}
 use Rattle.task_core.specs.Systems.{System, Exec, HasOutcome}
 use Rattle.plan_theory.specs.LayerPlans.{is_action}
 use Rattle.list_laws.proofs.Elements.{Contains-nil}

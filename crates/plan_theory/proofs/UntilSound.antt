@@ -19,7 +19,7 @@ use Rattle.plan_theory.specs.UntilPrinted.{until_towards}
 use Rattle.plan_theory.specs.Safe.{safe_set}
 use Rattle.plan_theory.specs.GuardedSets.{guarded_near}
 use Rattle.plan_theory.proofs.Leading.{leads_at, leads_exec}
-use Rattle.plan_theory.proofs.PlanRuns.{has_value, reached_keeps}
+use Rattle.plan_theory.proofs.PlanRuns.{has_value, reached_keeps, by_action}
 use Rattle.plan_theory.proofs.SafeSets.{safe_set-largest}
 use Rattle.plan_theory.proofs.GuardedSets.{guard_holds, guarded_acts, in_guarded_set, near-grows}
 use Rattle.plan_theory.proofs.UntilTowards.{ActsOnward, advance-first, advance-last, chain_acts, drop-next, met_count-few, met_count-here, met_count-more, stages_from-advance, stages_from-end, win_at-advance}
@@ -52,15 +52,9 @@ module _ (sys : System) (ok : IsSystem sys) (chain : UntilSets) (plan : ContextP
     contexts = λ t o. has_value (plan.ctxt x.state x.context t) (turn x) (printed.goes_on x.state x.context t i.state i.first i.last i.wins);
   }
 
-  -- what follows is in the context of the first unmet stage, by the action towards it
-  same_action : (x y : Configuration) (i : Inside x) → (f : Follows sys plan x y) → f.action ≡ (acts x i).action
-  same_action x y i f = same_Some f.action (acts x i).action (sym f.acts ∙ takes x i)
-
+  -- what follows is in the context of the first unmet stage
   next_context : (x y : Configuration) → Inside x → Follows sys plan x y → y.context ≡ turn x
   next_context x y i f = same_Some y.context (turn x) (sym f.context ∙ printed.goes_on x.state x.context y.state i.state i.first i.last i.wins)
-
-  outcome : (x y : Configuration) (i : Inside x) → Follows sys plan x y → HasOutcome sys x.state (acts x i).action y.state
-  outcome x y i f = subst (λ a. HasOutcome sys x.state a y.state) (same_action x y i f) f.outcome
 
   inside_next : (x y : Configuration) → Inside x → Follows sys plan x y → Inside y
   inside_next x y i f =
@@ -71,7 +65,7 @@ module _ (sys : System) (ok : IsSystem sys) (chain : UntilSets) (plan : ContextP
         state = (ok.next x.state f.action y.state f.outcome).vector;
         first = subst (λ c. 1 ≤ c) (sym same) low;
         last = subst (λ c. c ≤ until_contexts chain) (sym same) high;
-        wins = ap (λ c. until_win_at sys chain c y.state) same ∙ leads_at sys (until_win_at sys chain (turn x)) x.state (acts x i).action (acts x i).leads y.state (outcome x y i f);
+        wins = ap (λ c. until_win_at sys chain c y.state) same ∙ leads_at sys (until_win_at sys chain (turn x)) x.state (acts x i).action (acts x i).leads y.state (by_action sys plan x y (acts x i).action (takes x i) f);
       }
 
   -- once all stages are met, the set is kept

@@ -10,11 +10,11 @@ use Rattle.task_core.specs.declared.classes.Class.TheVariants.{Strong, Weak}
 
 -- A coin that is flipped until it shows its face up: one action with two outcomes, up and as
 -- before.
-abbrev flips : Vector → ℕ → List Vector
+abbrev pub flips : Vector → ℕ → List Vector
 flips v zero = (true ∷ []) ∷ v ∷ []
 flips v (suc a) = []
 
-abbrev coin : System
+abbrev pub coin : System
 coin = record { fluents = 1; in_space = λ v. true; actions = 1; outcomes = λ a. 2; initial = (false ∷ []) ∷ []; goal = Some ((true ∷ []) ∷ []); next = flips; after = λ v a. slice_get (flips v a) }
 
 coin-uncovered : covers Weak coin 0 ≡ false

@@ -2,3 +2,4 @@ pub mod Lacks
 pub mod Monotone
 pub mod Soundness
 pub mod Widened
+pub mod TaskGoals

@@ -5,9 +5,8 @@ use Rattle.std.specs.Option.{option_map, option_map_or, unwrap_or}
 use Rattle.std.proofs.lemmas.Bool.{and_parts, and_from, cases_lt, false≢true}
 use Rattle.std.proofs.lemmas.List.{get_or_past}
 use Rattle.std.proofs.lemmas.List.Elements.{Contains-append_cases}
-use Rattle.std.proofs.lemmas.Option.{get_or_from_slice_get, slice_get_within}
 use Rattle.std.proofs.lemmas.List.FromFn.{get_or-map-range_with_len, length-map-range_with_len}
-use Rattle.list_laws.proofs.Elements.{Contains-cases, Contains-cons, Contains-head, Contains-nil, list_any-from}
+use Rattle.list_laws.proofs.Elements.{Contains-cases, Contains-cons, Contains-head, Contains-nil, list_any-from, contains_at}
 use Rattle.task_core.specs.Actions.{adds, after, after_value, change_makes, deletes}
 use Rattle.task_core.specs.Conditions.{holds}
 use Rattle.task_core.specs.Initial.{Entry, add_state, after_entry, applied, applied_value, entries_of, facts_of, names_it}
@@ -22,7 +21,7 @@ use Rattle.task_core.specs.declared.conditions.Cond.{Cond}
 use Rattle.task_core.specs.declared.tasks.Task.{Task}
 use Rattle.task_core.proofs.Paths.{path_keeps}
 use Rattle.task_core.proofs.TaskSystem.{value_of-vector_within}
-use Rattle.task_core.proofs.Vectors.{Contains-filter_cases, Contains-map_image}
+use Rattle.task_core.proofs.Vectors.{Contains-filter_cases, Contains-map_image, same_value_refl}
 use Rattle.relaxed_reach.specs.Literals.{LiteralSet, can_be}
 use Rattle.relaxed_reach.specs.Reached.{IsReachable, Steps}
 use Rattle.relaxed_reach.specs.Relaxed.{IsPartOf, IsRelaxed, action_gives, change_gives, outcome_gives, task_gives}
@@ -34,10 +33,6 @@ IsIn set v = (f : ℕ) → set f (value_of v f) ≡ true
 
 abbrev AreIn : LiteralSet → List Vector → Type 0
 AreIn set vs = (v : Vector) → Contains vs v → IsIn set v
-
-same_itself : (b : Bool) → same_value b b ≡ true
-same_itself true = refl
-same_itself false = refl
 
 or_first : (a b : Bool) → a ≡ true → (a || b) ≡ true
 or_first true b e = refl
@@ -52,9 +47,6 @@ any_weaker : {X : Type 0} (p q : X → Bool) (xs : List X) → ((x : X) → p x 
 any_weaker p q [] f h = h
 any_weaker p q (x ∷ xs) f h = or_map (p x) (list_any p xs) (q x) (list_any q xs) (f x) (any_weaker p q xs f) h
 
-contains_at : {X : Type 0} (xs : List X) (k : ℕ) (x : X) → slice_get xs k ≡ Some x → Contains xs x
-contains_at xs k x e = (k, slice_get_within xs k x e, get_or_from_slice_get xs k x x e)
-
 -- what actions give in a set they give in any that has more
 pub task_gives_grows : (task : Task) (set other : LiteralSet) → IsPartOf set other → IsPartOf (task_gives task set) (task_gives task other)
 task_gives_grows task set other part f value =
@@ -65,6 +57,10 @@ task_gives_grows task set other part f value =
     any_weaker (change_gives set f value) (change_gives other f value) o.changes.items (λ c g.
     let gs = and_parts (names_it value f c.lits.items) (can_be c.cond set true) g in
     and_from (names_it value f c.lits.items) (can_be c.cond other true) gs.0 (can_be_grows c.cond set other part true gs.1))) hs.1))
+
+-- the outcomes of an action, if there is one
+abbrev pub outcomes_of : Option GroundAction → List Outcome
+outcomes_of found = option_map_or (λ action. action.outcomes.items) found []
 
 module _ (task : Task) (set : LiteralSet) (relaxed : IsRelaxed task set) where
   -- fluents past the last can be false
@@ -78,7 +74,7 @@ module _ (task : Task) (set : LiteralSet) (relaxed : IsRelaxed task set) where
       let at : value_of (facts_of (fluent_count task) task.init) f ≡ truth task.init.facts f = ap (λ g. g f) (value_of-vector_within (fluent_count task) task.init.facts task.facts_within) in
       subst (λ b. set f b ≡ true) (sym at)
       (relaxed.starts f (truth task.init.facts f)
-      (or_first (same_value (truth task.init.facts f) (truth task.init.facts f)) (list_any (list_any (names_it (truth task.init.facts f) f)) (entries_of task.init)) (same_itself (truth task.init.facts f))))
+      (or_first (same_value (truth task.init.facts f) (truth task.init.facts f)) (list_any (list_any (names_it (truth task.init.facts f) f)) (entries_of task.init)) (same_value_refl (truth task.init.facts f))))
 
   -- values that are in the set, as a vector
   mapped_in : (g : ℕ → Bool) → ((f : ℕ) → set f (g f) ≡ true) → IsIn set (map g (range_with_len 0 (fluent_count task)))
@@ -163,9 +159,6 @@ module _ (task : Task) (set : LiteralSet) (relaxed : IsRelaxed task set) where
           (and_from (can_be x.exec set true) (list_any (outcome_gives set f value) x.outcomes.items)
           (subst (λ b. can_be x.exec set b ≡ true) allowed (can_be_sound x.exec set (value_of v) is))
           (list_any-from (outcome_gives set f value) x.outcomes.items o among by_outcome)))
-
-  abbrev outcomes_of : Option GroundAction → List Outcome
-  outcomes_of found = option_map_or (λ action. action.outcomes.items) found []
 
   abbrev allows : Vector → Option GroundAction → Bool
   allows v found = option_map_or (λ action. holds action.exec (value_of v)) found false

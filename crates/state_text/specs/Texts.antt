@@ -1,6 +1,6 @@
--- The texts of states, of what changes from one to the next, and of conditions: what is printed, byte
--- for byte.
-use Rattle.std.specs.Prelude.{ℕ, zero, suc, Bool, true, false, List, [], ◌++◌, codes, length}
+-- The texts of states, of what changes from one to the next, of conditions and of the numbers of steps:
+-- what is printed, byte for byte.
+use Rattle.std.specs.Prelude.{ℕ, zero, suc, Bool, true, false, List, [], ◌++◌, codes, decimal, length, map}
 use Rattle.std.specs.List.{flat_map}
 use Rattle.plan_rules.specs.Texts.{atom_text, line_feed, name_at}
 use Rattle.task_core.specs.Names.{Name}
@@ -26,6 +26,10 @@ condition_layer fluents (Any parts) = codes "(or" ++ flat_map after_space parts.
 -- a condition, as (at a), (not (at a)), (and (at a) (at b)) or (or (at a) (at b))
 abbrev pub condition_text : List Name → Cond → List ℕ
 condition_text fluents = fold-Cond (List ℕ) (condition_layer fluents)
+
+-- conditions, each after a space
+abbrev pub conditions_text : List Name → List Cond → List ℕ
+conditions_text fluents parts = flat_map after_space (map (condition_text fluents) parts)
 
 -- what is printed of each number below a bound, in rising order
 abbrev pub below : (ℕ → List ℕ) → ℕ → List ℕ
@@ -54,3 +58,7 @@ abbrev pub changes_text : List Name → (before after : Vector) → List ℕ
 changes_text fluents before after =
     below (λ i. change_line (name_at fluents i) (value_of before i) (value_of after i))
     (length fluents)
+
+-- the number of a step, counted from 1, as step 3,
+abbrev pub number_text : ℕ → List ℕ
+number_text number = codes "step " ++ decimal number ++ codes ", "

@@ -1,16 +1,17 @@
 //! The text of a condition.
 
 ghost use Rattle.plan_rules.specs.Texts.{atom_text, name_at};
-ghost use Rattle.state_text.specs.Texts.{after_space, condition_text};
+ghost use Rattle.state_text.specs.Texts.{after_space, condition_text, conditions_text};
 ghost use Rattle.std.specs.List.{flat_map};
 ghost use Rattle.std.specs.Prelude.{◌≡◌, ◌++◌, OnOk, codes, map, string_bytes};
 ghost use Rattle.std.specs.Rc.{rc_str_bytes};
 ghost use Rattle.task_core.specs.Names.{name_bytes};
+ghost use Rattle.task_core.specs.Tasks.{fluent_names};
 
 use plan_rules::push_name;
 use std::alloc::AllocError;
 use std::rc::RcStr;
-use task_core::{Cond, FluentId};
+use task_core::{Cond, FluentId, Task};
 
 /// The name of a fluent; the empty one past the last.
 pub(crate) fn name_of(fluents: &[Vec<RcStr>], fluent: FluentId) -> &[RcStr]
@@ -69,4 +70,16 @@ pub fn push_condition(
             out.push(')')
         }
     }
+}
+
+/// Appends conditions, each after a space.
+pub fn push_parts(out: &mut String, task: &Task, parts: &[&Cond]) -> Result<(), AllocError>
+    ensures { OnOk result (string_bytes out.new ≡ string_bytes out.old
+        ++ conditions_text (fluent_names task.now) (map (λ part. part.now) parts.now)) }
+{
+    for part in parts {
+        out.push(' ')?;
+        push_condition(out, &task.fluents, part)?;
+    }
+    Ok(())
 }

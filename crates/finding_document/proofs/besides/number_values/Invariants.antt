@@ -1,5 +1,5 @@
 use Rattle.std.proofs.Common.{◌≡◌, map, take}
-use Rattle.plan_document.specs.Documents.{count_data}
+use Rattle.plan_document.specs.Data.{count_data}
 use Rattle.serde_json.specs.View.{view}
 use Rattle.finding_document.proofs.besides.number_values.Given as goal
 

@@ -5,7 +5,7 @@ use Rattle.task_core.specs.States.{truth, vector}
 use Rattle.task_core.specs.Tasks.{fluent_count, fluent_names}
 use Rattle.task_core.specs.Vectors.{value_of}
 use Rattle.task_core.proofs.TaskSystem.{value_of-vector}
-use Rattle.plan_document.specs.Documents.{name_data}
+use Rattle.plan_document.specs.Names.{name_data}
 use Rattle.finding_document.specs.Documents.{changed_to}
 use Rattle.finding_document.proofs.Changed.{changed_more}
 use Rattle.finding_document.proofs.steps.changed_values.Goals as goal

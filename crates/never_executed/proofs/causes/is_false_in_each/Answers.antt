@@ -1,10 +1,10 @@
 use Rattle.std.proofs.Common.{◌≡◌, ◌<◌, get_or, length, subst, true}
+use Rattle.list_laws.proofs.Elements.{all_reached, one_reached}
 use Rattle.relaxed_reach.proofs.Widened.{action_within_256}
 use Rattle.relaxed_reach.specs.Literals.{has}
 use Rattle.task_core.specs.declared.actions.GroundAction.{GroundAction}
 use Rattle.never_executed.specs.NeverRuns.{is_of}
 use Rattle.never_executed.specs.Parts.{IsFalsePart}
-use Rattle.never_executed.proofs.Reached.{all_reached, one_reached}
 use Rattle.never_executed.proofs.causes.is_false_in_each.Goals as goal
 
 pub is_false_in-requires : goal.is_false_in-requires

@@ -1,5 +1,5 @@
 use Rattle.std.proofs.Common.{sym}
-use Rattle.never_executed.proofs.TaskGoals.{goal_in_below}
+use Rattle.relaxed_reach.proofs.TaskGoals.{goal_in_below}
 use Rattle.never_executed.proofs.goals.goal_of.Goals as goal
 
 pub returns-clause-below : goal.returns-clause-below

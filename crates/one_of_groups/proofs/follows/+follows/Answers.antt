@@ -1,6 +1,6 @@
 use Rattle.std.proofs.Common.{subst, sym}
+use Rattle.list_laws.proofs.Elements.{all_reached}
 use Rattle.one_of_groups.specs.Follows.{Follows}
-use Rattle.one_of_groups.proofs.Reached.{all_reached}
 use Rattle.one_of_groups.proofs.Soundness.{all_follow}
 use Rattle.one_of_groups.proofs.follows.+follows.Goals as goal
 

@@ -1,8 +1,8 @@
 use Rattle.std.proofs.Common.{refl}
+use Rattle.list_laws.proofs.Elements.{all_reached, one_reached}
 use Rattle.task_core.specs.States.{truth}
 use Rattle.task_core.specs.declared.states.State.{State}
 use Rattle.one_of_groups.specs.Groups.{IsInductive}
-use Rattle.one_of_groups.proofs.Reached.{all_reached, one_reached}
 use Rattle.one_of_groups.proofs.follows.are_one_of.Goals as goal
 
 pub loop-members-preserved : goal.loop-members-preserved

@@ -1,7 +1,7 @@
 use Rattle.std.proofs.Common.{◌∙◌, sym}
 use Rattle.relaxed_reach.specs.Literals.{has}
 use Rattle.task_core.specs.States.{truth}
-use Rattle.one_of_groups.proofs.CaseLemmas.{not_true}
+use Rattle.list_laws.proofs.Booleans.{not_true}
 use Rattle.one_of_groups.proofs.Soundness.{cannot_fail}
 use Rattle.one_of_groups.proofs.follows.follows_at.Goals as goal
 

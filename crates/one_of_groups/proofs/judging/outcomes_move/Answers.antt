@@ -1,9 +1,9 @@
 use Rattle.std.proofs.Common.{refl}
+use Rattle.list_laws.proofs.Elements.{all_reached, one_reached}
 use Rattle.relaxed_reach.specs.Literals.{has}
 use Rattle.task_core.specs.States.{truth}
 use Rattle.task_core.specs.declared.actions.Outcome.{Outcome}
 use Rattle.one_of_groups.specs.Cases.{Moves}
-use Rattle.one_of_groups.proofs.Reached.{all_reached, one_reached}
 use Rattle.one_of_groups.proofs.judging.outcomes_move.Goals as goal
 
 pub loop-outcome-preserved : goal.loop-outcome-preserved

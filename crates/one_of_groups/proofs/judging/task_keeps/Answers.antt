@@ -1,8 +1,8 @@
 use Rattle.std.proofs.Common.{◌≡◌, ◌<◌, get_or, length, subst}
+use Rattle.list_laws.proofs.Elements.{all_reached, one_reached}
 use Rattle.task_core.specs.States.{truth}
 use Rattle.relaxed_reach.proofs.Widened.{action_within_256}
 use Rattle.one_of_groups.specs.Cases.{Keeps}
-use Rattle.one_of_groups.proofs.Reached.{all_reached, one_reached}
 use Rattle.one_of_groups.proofs.judging.task_keeps.Goals as goal
 
 pub action_keeps-requires-clause-action : goal.action_keeps-requires-clause-action

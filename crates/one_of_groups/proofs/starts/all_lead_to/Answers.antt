@@ -1,8 +1,8 @@
 use Rattle.std.proofs.Common.{refl}
+use Rattle.list_laws.proofs.Elements.{all_reached, one_reached}
 use Rattle.task_core.specs.States.{truth}
 use Rattle.task_core.specs.declared.actions.Alternative.{Alternative}
 use Rattle.one_of_groups.specs.Starts.{LeadsTo}
-use Rattle.one_of_groups.proofs.Reached.{all_reached, one_reached}
 use Rattle.one_of_groups.proofs.starts.all_lead_to.Goals as goal
 
 pub loop-alternative-preserved : goal.loop-alternative-preserved

@@ -1,5 +1,5 @@
 use Rattle.std.proofs.Common.{◌≡◌, map, take}
-use Rattle.plan_page.specs.Data.{count_data}
+use Rattle.plan_document.specs.Data.{count_data}
 use Rattle.plan_picture.specs.Runs.{PlainMove}
 use Rattle.plan_picture.specs.Values.{move_value}
 use Rattle.serde_json.specs.View.{view}

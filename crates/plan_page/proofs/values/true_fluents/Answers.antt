@@ -5,7 +5,8 @@ use Rattle.task_core.specs.States.{truth, vector}
 use Rattle.task_core.specs.Tasks.{fluent_count}
 use Rattle.task_core.specs.Vectors.{value_of}
 use Rattle.task_core.proofs.TaskSystem.{value_of-vector}
-use Rattle.plan_page.specs.Pages.{count_data, true_below}
+use Rattle.plan_document.specs.Data.{count_data}
+use Rattle.plan_page.specs.Pages.{true_below}
 use Rattle.plan_page.proofs.values.true_fluents.Goals as goal
 
 pub loop-number-preserved : goal.loop-number-preserved

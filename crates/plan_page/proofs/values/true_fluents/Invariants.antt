@@ -1,8 +1,9 @@
 use Rattle.std.proofs.Common.{◌≡◌, map}
-use Rattle.plan_page.specs.Pages.{count_data, true_below}
+use Rattle.plan_page.specs.Pages.{true_below}
 use Rattle.serde_json.specs.View.{view}
 use Rattle.task_core.specs.States.{vector}
 use Rattle.task_core.specs.Tasks.{fluent_count}
+use Rattle.plan_document.specs.Data.{count_data}
 use Rattle.plan_page.proofs.values.true_fluents.Given as goal
 
 abbrev pub invariant-loop-number : goal.invariant-loop-number

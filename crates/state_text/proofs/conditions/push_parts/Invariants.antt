@@ -1,8 +1,8 @@
 -- The text so far, and the parts that are left, are together the whole.
 use Rattle.std.proofs.Common.{◌≡◌, ◌++◌, drop, map, string_bytes}
 use Rattle.task_core.specs.Tasks.{fluent_names}
-use Rattle.never_reasons.specs.Texts.{conditions_text}
-use Rattle.never_reasons.proofs.texts.push_parts.Given as goal
+use Rattle.state_text.specs.Texts.{conditions_text}
+use Rattle.state_text.proofs.conditions.push_parts.Given as goal
 
 abbrev pub invariant-loop-part : goal.invariant-loop-part
 invariant-loop-part l =

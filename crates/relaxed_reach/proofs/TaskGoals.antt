@@ -10,7 +10,7 @@ use Rattle.task_core.specs.declared.tasks.Task.{Task}
 use Rattle.task_core.proofs.Agreement.{ids_below_widen}
 
 -- it names fluents below 256
-goal_below : (task : Task) (goal : Cond) → task.goal ≡ Some goal → ids_below 256 goal ≡ true
+pub goal_below : (task : Task) (goal : Cond) → task.goal ≡ Some goal → ids_below 256 goal ≡ true
 goal_below task goal is =
     ids_below_widen goal (fluent_count task) 256 task.few_fluents (subst (λ (found : Option Cond). goal_within (fluent_count task) found ≡ true) is task.goal_within)
 

@@ -1,8 +1,0 @@
-use Rattle.std.proofs.Common.{◌≡◌, map, take}
-use Rattle.plan_page.specs.Pages.{name_data}
-use Rattle.serde_json.specs.View.{view}
-use Rattle.task_core.specs.Names.{name_bytes}
-use Rattle.plan_page.proofs.values.fluent_names.Given as goal
-
-abbrev pub invariant-loop-fluent : goal.invariant-loop-fluent
-invariant-loop-fluent l = map view l.names.items ≡ map name_data (map name_bytes (take l.fluent-index l.fluents))
