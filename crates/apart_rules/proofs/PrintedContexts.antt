@@ -8,8 +8,8 @@ use Rattle.task_core.specs.Cubes.{Cube, SetOfVectors, cubes_of, matches}
 use Rattle.task_core.specs.Systems.{System, Exec, IsState, IsSystem, IsVector}
 use Rattle.task_core.specs.Vectors.{Vector}
 use Rattle.plan_document.specs.Faithful.{IsToldRule}
-use Rattle.plan_rules.specs.Rules.{ContextRule, always}
-use Rattle.plan_theory.specs.ContextRules.{StatesOfRules, action_rules, context_rules, next_rules, rules_in_context}
+use Rattle.plan_rules.specs.Rules.{ContextRule}
+use Rattle.plan_theory.specs.ContextRules.{StatesOfRules, action_rules, context_rules, next_rules, rules_in_context, rule_for}
 use Rattle.plan_theory.specs.LayerPlans.{is_action}
 use Rattle.plan_theory.specs.Layers.{action_numbers, must_lead}
 use Rattle.plan_theory.specs.PatrolPrinted.{patrol_action, patrol_next, patrol_nexts, patrol_rules, patrol_states}
@@ -38,9 +38,6 @@ module _ (sys : System) (states : StatesOfRules) (nexts : ℕ → List ℕ) (las
   abbrev rules : List ContextRule
   rules = context_rules sys states nexts last
 
-  abbrev rule_with : ℕ → ℕ → ℕ → Cube → ContextRule
-  rule_with c j a cube = record { context = c; cube = cube; action = a; next = always j }
-
   -- a rule that counts is of its context, and of the states of its action there
   record CountsFor (c j a : ℕ) (x : Configuration) : Type 0 where
     context : c ≡ x.context
@@ -49,7 +46,7 @@ module _ (sys : System) (states : StatesOfRules) (nexts : ℕ → List ℕ) (las
   counts_for : (c j a : ℕ) (rule : ContextRule) (x : Configuration) → Contains (action_rules sys states c j a) rule → length x.state ≡ sys.fluents → counts_at x rule ≡ true → CountsFor c j a x
   counts_for c j a rule x among long counts =
       let cubes = cubes_of sys.fluents (states c j a) in
-      let cube = Contains-map-witness (rule_with c j a) cubes rule among in
+      let cube = Contains-map-witness (rule_for c j a) cubes rule among in
       let both = and_parts (c == x.context) (matches cube.0 x.state) (ap (counts_at x) cube.2 ∙ counts) in
       record {
         context = eqb-true c x.context both.0;
@@ -59,8 +56,8 @@ module _ (sys : System) (states : StatesOfRules) (nexts : ℕ → List ℕ) (las
   one_action : (c j a : ℕ) → Pairwise (NeverBoth sys.fluents) (action_rules sys states c j a)
   one_action c j a =
       let cubes = cubes_of sys.fluents (states c j a) in
-      pairwise-map (NeverBoth sys.fluents) (rule_with c j a) cubes
-      (pairwise-weaker AreApartCubes (λ (cube other : Cube). NeverBoth sys.fluents (rule_with c j a cube) (rule_with c j a other)) cubes
+      pairwise-map (NeverBoth sys.fluents) (rule_for c j a) cubes
+      (pairwise-weaker AreApartCubes (λ (cube other : Cube). NeverBoth sys.fluents (rule_for c j a cube) (rule_for c j a other)) cubes
       (λ cube other never x long m k. never x.state (and_parts (c == x.context) (matches cube x.state) m).1 (and_parts (c == x.context) (matches other x.state) k).1)
       (cubes_apart 0 sys.fluents (states c j a)))
 
@@ -114,14 +111,14 @@ module _ (sys : System) (states : StatesOfRules) (nexts : ℕ → List ℕ) (las
     end : context ≤ last
     cube : Cube
     among : Contains (cubes_of sys.fluents (states context next action)) cube
-    is : rule_with context next action cube ≡ rule
+    is : rule_for context next action cube ≡ rule
 
   of_states : (rule : ContextRule) → Contains rules rule → OfStates rule
   of_states rule c =
       let by_context = Contains-flat_map-witness (rules_in_context sys states nexts) (range_with_len 1 last) rule c in
       let by_next = Contains-flat_map-witness (next_rules sys states by_context.0) (nexts by_context.0) rule by_context.2 in
       let by_action = Contains-flat_map-witness (action_rules sys states by_context.0 by_next.0) (action_numbers sys) rule by_next.2 in
-      let cube = Contains-map-witness (rule_with by_context.0 by_next.0 by_action.0) (cubes_of sys.fluents (states by_context.0 by_next.0 by_action.0)) rule by_action.2 in
+      let cube = Contains-map-witness (rule_for by_context.0 by_next.0 by_action.0) (cubes_of sys.fluents (states by_context.0 by_next.0 by_action.0)) rule by_action.2 in
       let bounds = range_bounds 1 last by_context.0 by_context.1 in
       record {
         context = by_context.0;

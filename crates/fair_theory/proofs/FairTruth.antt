@@ -1,6 +1,6 @@
 -- The goal that is made for an until-chain or a patrol goal is true where the goal of its sets of
 -- states is.
-use Rattle.std.proofs.Common.{◌≡◌, ◌↔◌, ℕ, Bool, true, List, [], ◌∷◌, ◌⊎◌, map, refl, sym, ap, subst, ◌∙◌}
+use Rattle.std.proofs.Common.{◌≡◌, ◌↔◌, true, List, [], ◌∷◌, ◌⊎◌, map, refl, sym, ap, subst, ◌∙◌}
 use Rattle.std.proofs.Math.Path.{fun_ext}
 use Rattle.ctl_syntax.specs.Conditions.{CondTree, condition_value, states_of}
 use Rattle.ctl_syntax.specs.GoalValues.{stage_sets, stage_value, tree_of_goal}
@@ -15,12 +15,11 @@ use Rattle.ctl_syntax.proofs.ConditionTrees.{holds_is, tree_holds}
 use Rattle.task_core.specs.ContextPlans.{Configuration, ContextPlan, Follows}
 use Rattle.task_core.specs.Cubes.{SetOfVectors}
 use Rattle.task_core.specs.Systems.{System}
-use Rattle.task_core.specs.Vectors.{Vector, value_of}
+use Rattle.task_core.specs.Vectors.{value_of}
 use Rattle.task_core.specs.declared.conditions.Cond.{Cond}
 use Rattle.plan_theory.specs.UntilChains.{StateIsIn}
 use Rattle.fair_theory.specs.FairGoals.{fair_chain, fair_patrol, fair_tree}
 use Rattle.fair_theory.specs.FairPlans.{HasFairly, fair_sets_tree, sets_of_goal}
-use Rattle.fair_theory.specs.FairSets.{SetGoal}
 
 -- a goal with other propositions in their places
 module _ {P R X : Type 0} (Step : X → X → Type 0) (Has : R → X → Type 0) (f : P → R) where

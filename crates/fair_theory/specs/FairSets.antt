@@ -7,13 +7,10 @@ use Rattle.std.specs.List.{Contains, list_all}
 use Rattle.task_core.specs.Cubes.{SetOfVectors}
 use Rattle.task_core.specs.Systems.{System, IsVector, HasOutcome}
 use Rattle.task_core.specs.Vectors.{Vector}
+pub use Rattle.plan_theory.specs.GuardedSets.{anywhere}
 use Rattle.plan_theory.specs.Layers.{may_lead, must_lead}
 use Rattle.plan_theory.specs.Safe.{some_must_lead}
 use Rattle.plan_theory.specs.UntilChains.{SetStage, UntilSets}
-
--- every state
-abbrev pub anywhere : SetOfVectors
-anywhere v = true
 
 -- what is asked for in each state of a set: it lies inside, the set can be stayed in where that is
 -- asked for, and from it each target can be come to, in states of the guard until then

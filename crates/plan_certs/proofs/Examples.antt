@@ -1,11 +1,13 @@
 -- Small systems, and certificates that there is no plan for them.
 use Rattle.std.proofs.Common.{◌≡◌, ℕ, zero, suc, ◌<◌, true, false, List, [], ◌∷◌, get_or, refl, subst, arith}
+use Rattle.std.specs.Prelude.{slice_get}
 use Rattle.task_core.specs.Cubes.{literal}
+use Rattle.task_core.specs.Systems.{System}
 use Rattle.task_core.specs.Vectors.{Vector}
 use Rattle.task_core.specs.declared.classes.Class.TheVariants.{Weak, Strong, Cyclic}
 use Rattle.plan_certs.specs.Certificates.{CubeSet, HasNoWayOut, HoldsNoGoal, IsAccepted, PlainCertificate, holds_state, is_no_way_out, some_holds}
 use Rattle.list_laws.proofs.Elements.{Contains-head}
-use Rattle.plan_theory.proofs.WeakExamples.{coin, flips}
+use Rattle.plan_theory.proofs.WeakExamples.{coin as flipped_coin}
 
 -- Cubes: the empty one matches each state, and one that contradicts itself none; a set without
 -- cubes is empty.
@@ -17,6 +19,15 @@ contradicting = refl
 
 no_cube : holds_state [] (true ∷ []) ≡ false
 no_cube = refl
+
+-- A coin that shows its face down, and the goal that it shows it up. It is flipped, after which it
+-- shows either face.
+abbrev flips : Vector → ℕ → List Vector
+flips v zero = (true ∷ []) ∷ (false ∷ []) ∷ []
+flips v (suc a) = []
+
+abbrev coin : System
+coin = record flipped_coin { next = flips; after = λ v a. slice_get (flips v a) }
 
 -- the states where it shows its face down: since it may fall as before, a flip is no sure way out,
 -- but it is a way out for a weak plan, and for a strong cyclic one

@@ -6,13 +6,13 @@ use Rattle.std.specs.List.{All, Contains, list_any, range_with_len}
 use Rattle.std.specs.Option.{option_and_then, option_map}
 use Rattle.std.proofs.lemmas.Bool.{and_from, and_parts, cases_lt, eq-eqb, eqb-true}
 use Rattle.std.proofs.lemmas.List.Elements.{All-cons, All-map, All-nil, All-weaker}
-use Rattle.task_core.specs.Cubes.{Cube, cubes_of, matches}
+use Rattle.task_core.specs.Cubes.{cubes_of, matches}
 use Rattle.task_core.specs.Systems.{System, IsVector, IsSystem}
 use Rattle.task_core.specs.Vectors.{Vector}
 use Rattle.plan_rules.specs.Denoted.{denoted_contexts, next_context}
 use Rattle.plan_rules.specs.Plans.{IsContextOf, IsContextRuleOf, IsCubeOf}
 use Rattle.plan_rules.specs.Rules.{ContextRule, PlanNext, always}
-use Rattle.plan_theory.specs.ContextRules.{StatesOfRules, action_rules, context_rules, next_rules, rules_in_context}
+use Rattle.plan_theory.specs.ContextRules.{StatesOfRules, action_rules, context_rules, next_rules, rules_in_context, rule_for}
 use Rattle.plan_theory.specs.Layers.{action_numbers, may_lead, must_lead}
 use Rattle.plan_theory.proofs.Cubes.{cubes_match}
 use Rattle.plan_theory.proofs.PrintedWithin.{All-flat_map, cubes_below, range_below}
@@ -57,9 +57,6 @@ module _ (sys : System) (states : StatesOfRules) (nexts : ℕ → List ℕ) (las
     is : rule.next ≡ always next
     holds : states rule.context next rule.action v ≡ true
 
-  abbrev rule_with : ℕ → ℕ → ℕ → Cube → ContextRule
-  rule_with c j a cube = record { context = c; cube = cube; action = a; next = always j }
-
   rule_holds : (rule : ContextRule) (v : Vector) → Contains rules rule → IsVector sys v → matches rule.cube v ≡ true → RuleHolds v rule
   rule_holds rule v among is m =
       let by_context = Contains-flat_map-witness (rules_in_context sys states nexts) (range_with_len 1 last) rule among in
@@ -69,7 +66,7 @@ module _ (sys : System) (states : StatesOfRules) (nexts : ℕ → List ℕ) (las
       let by_action = Contains-flat_map-witness (action_rules sys states c j) (action_numbers sys) rule by_next.2 in
       let a = by_action.0 in
       let cubes = cubes_of sys.fluents (states c j a) in
-      let cube = Contains-map-witness (rule_with c j a) cubes rule by_action.2 in
+      let cube = Contains-map-witness (rule_for c j a) cubes rule by_action.2 in
       let matched : matches cube.0 v ≡ true = ap (λ (r : ContextRule). matches r.cube v) cube.2 ∙ m in
       let some : list_any (λ d. matches d v) cubes ≡ true = list_any-from (λ d. matches d v) cubes cube.0 cube.1 matched in
       let holds : states c j a v ≡ true = sym (cubes_match sys.fluents 0 (states c j a) [] v refl is) ∙ some in
@@ -79,20 +76,20 @@ module _ (sys : System) (states : StatesOfRules) (nexts : ℕ → List ℕ) (las
   counts v c rule = (rule.context == c) && matches rule.cube v
 
   -- the rule of a context, a next context and an action that matches a state of theirs
-  rule_for : (c j a : ℕ) (v : Vector) → IsVector sys v → 1 ≤ c → c ≤ last → Contains (nexts c) j → a < sys.actions → states c j a v ≡ true
+  some_rule : (c j a : ℕ) (v : Vector) → IsVector sys v → 1 ≤ c → c ≤ last → Contains (nexts c) j → a < sys.actions → states c j a v ≡ true
       → list_any (counts v c) rules ≡ true
-  rule_for c j a v is first end onward below holds =
+  some_rule c j a v is first end onward below holds =
       let cubes = cubes_of sys.fluents (states c j a) in
       let some : list_any (λ d. matches d v) cubes ≡ true = cubes_match sys.fluents 0 (states c j a) [] v refl is ∙ holds in
       let cube = list_any-witness (λ d. matches d v) cubes some in
-      let rule = rule_with c j a cube.0 in
+      let rule = rule_for c j a cube.0 in
       list_any-from (counts v c) rules rule
       (Contains-flat_map (rules_in_context sys states nexts) (range_with_len 1 last) c rule
       (Contains-range 1 last c first (omega arith))
       (Contains-flat_map (next_rules sys states c) (nexts c) j rule onward
       (Contains-flat_map (action_rules sys states c j) (action_numbers sys) a rule
       (Contains-range_with_len sys.actions a below)
-      (Contains-map (rule_with c j a) cubes cube.0 cube.1))))
+      (Contains-map (rule_for c j a) cubes cube.0 cube.1))))
       (and_from (c == c) (matches cube.0 v) (eq-eqb c c refl) cube.2)
 
   -- in a state of some of the sets of a context, which all take one action and go on in one context,
@@ -101,7 +98,7 @@ module _ (sys : System) (states : StatesOfRules) (nexts : ℕ → List ℕ) (las
       → (turn : ℕ) (act : Option ℕ) → ((i b : ℕ) → states c i b v ≡ true → (turn ≡ i) × (act ≡ Some b))
       → ((denoted_contexts rules).act v c ≡ act) × ((t : Vector) → (denoted_contexts rules).ctxt v c t ≡ Some turn)
   rules_act v c j a is first end onward below holds turn act one =
-      let found = find-Some (counts v c) rules (rule_for c j a v is first end onward below holds) in
+      let found = find-Some (counts v c) rules (some_rule c j a v is first end onward below holds) in
       let rule = found.0 in
       let there = find-found (counts v c) rules rule found.1 in
       let both = and_parts (rule.context == c) (matches rule.cube v) there.1 in
@@ -122,8 +119,8 @@ module _ (sys : System) (states : StatesOfRules) (nexts : ℕ → List ℕ) (las
   within : (c j a : ℕ) → IsContextOf last c → IsContextOf last j → a < sys.actions → All Within (action_rules sys states c j a)
   within c j a here there below =
       let cubes = cubes_of sys.fluents (states c j a) in
-      All-map Within (rule_with c j a) cubes
-      (All-weaker (IsCubeOf sys.fluents) (λ cube. Within (rule_with c j a cube)) (λ cube of_fluents. record { context = here; cube = of_fluents; action = below; next = there }) cubes
+      All-map Within (rule_for c j a) cubes
+      (All-weaker (IsCubeOf sys.fluents) (λ cube. Within (rule_for c j a cube)) (λ cube of_fluents. record { context = here; cube = of_fluents; action = below; next = there }) cubes
       (cubes_below 0 sys.fluents sys.fluents (states c j a) (omega arith)))
 
   pub rules_within : ((c : ℕ) → IsContextOf last c → All (IsContextOf last) (nexts c)) → All (IsContextRuleOf sys.fluents sys.actions last) rules

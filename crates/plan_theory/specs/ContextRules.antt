@@ -2,7 +2,7 @@
 -- action is taken and a context is gone on in.
 use Rattle.std.specs.Prelude.{ℕ, List, map}
 use Rattle.std.specs.List.{flat_map, range_with_len}
-use Rattle.task_core.specs.Cubes.{SetOfVectors, cubes_of}
+use Rattle.task_core.specs.Cubes.{Cube, SetOfVectors, cubes_of}
 use Rattle.task_core.specs.Systems.{System}
 use Rattle.plan_rules.specs.Rules.{ContextRule, always}
 use Rattle.plan_theory.specs.Layers.{action_numbers}
@@ -10,6 +10,15 @@ use Rattle.plan_theory.specs.Layers.{action_numbers}
 -- the states of a context, a next context and an action
 abbrev pub StatesOfRules : Type 0
 StatesOfRules = ℕ → ℕ → ℕ → SetOfVectors
+
+-- the rule for a cube
+abbrev pub rule_for : ℕ → ℕ → ℕ → Cube → ContextRule
+rule_for context next a cube =
+    record { context = context; cube = cube; action = a; next = always next }
+
+-- the rules for all cubes of some states
+abbrev pub rules_for : ℕ → ℕ → ℕ → ℕ → SetOfVectors → List ContextRule
+rules_for fluents context next a set = map (rule_for context next a) (cubes_of fluents set)
 
 -- their rules: one for each cube of their states
 abbrev pub action_rules : System → StatesOfRules → ℕ → ℕ → ℕ → List ContextRule

@@ -9,6 +9,10 @@ use Rattle.task_core.specs.Vectors.{Vector}
 use Rattle.plan_theory.specs.Layers.{action_numbers, must_lead}
 use Rattle.plan_theory.specs.Safe.{some_must_lead}
 
+-- the guard that asks for nothing
+abbrev pub anywhere : SetOfVectors
+anywhere v = true
+
 -- those from which it is met within k steps
 abbrev pub guarded_near : System → SetOfVectors → SetOfVectors → ℕ → SetOfVectors
 guarded_near sys guard met zero v = met v

@@ -1,4 +1,4 @@
-use Rattle.std.proofs.Common.{subst, sym}
+use Rattle.std.proofs.Common.{subst}
 use Rattle.task_core.specs.Solutions.{HasNoSolution}
 use Rattle.plan_certs.proofs.NoWayOut.{no_solution}
 use Rattle.plan_certs.proofs.PrintedLemmas.{printed_accepted, printed_class, printed_one, printed_there}
