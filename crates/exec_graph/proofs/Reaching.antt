@@ -1,5 +1,5 @@
 -- What a plan may reach, step by step.
-use Rattle.std.proofs.Common.{◌≡◌, List, [], ◌∷◌, ◌++◌, refl, sym, subst}
+use Rattle.std.proofs.Common.{◌≡◌, Contains, List, [], ◌∷◌, ◌++◌, refl, sym, subst}
 use Rattle.task_core.proofs.Paths.{last_onward, path_onward}
 use Rattle.task_core.specs.Vectors.{Vector}
 use Rattle.task_core.specs.Systems.{System, IsState, IsSystem}
