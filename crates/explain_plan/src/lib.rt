@@ -15,4 +15,5 @@ mod top;
 mod verdicts;
 mod words;
 
+pub use lined::{Lined, read_lined};
 pub use top::explain;

@@ -24,13 +24,13 @@ use task_core::Task;
 
 /// A plan, with the place of its list, and the line in which each of its rules begins.
 #[derive(Drop)]
-pub(crate) struct Lined {
-    pub(crate) read: PlanRead,
-    pub(crate) lines: Vec<u32>,
+pub struct Lined {
+    pub read: PlanRead,
+    pub lines: Vec<u32>,
 }
 
 /// The plan for a task in a file.
-pub(crate) fn read_lined<S: Shelf>(
+pub fn read_lined<S: Shelf>(
     alloc: Global,
     shelf: &mut S,
     name: &str,

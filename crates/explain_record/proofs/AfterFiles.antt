@@ -3,12 +3,12 @@ use Rattle.std.proofs.Common.{◌≡◌, ◌⊎◌, List, inl, inr, None}
 use Rattle.exec_graph.specs.Initials.{HasTooManyInitial}
 use Rattle.command_base.specs.Answers.{Answer, Refusal, no_memory, refused}
 use Rattle.command_base.specs.Following.{most_followed}
-use Rattle.command_base.specs.Grounding.{GroundThen}
 use Rattle.command_base.specs.InitialStates.{empty_init}
 use Rattle.command_base.specs.PlanFiles.{IsFaultyPlan, SpellsPlaced}
-use Rattle.command_base.specs.Reading.{Holds, IsRefusedFile, ReadThen}
+use Rattle.command_base.specs.Reading.{Holds, IsRefusedFile}
 use Rattle.command_base.specs.Words.{Bytes, ReplayWords}
 use Rattle.command_base.proofs.Later.{file_refused, next_answer, read_over}
+use Rattle.command_base.proofs.WhatFollows.{ground_map, then_map}
 use Rattle.explain_plan.specs.Lined.{LinedPlan, SpellsLined}
 use Rattle.pddl_ast.specs.Trees.{DomainTree, ProblemTree}
 use Rattle.pddl_system.specs.Sizes.{first_passed}
@@ -67,11 +67,6 @@ pub record_later : (held held' : Bytes → Held) (failed failed' : Bytes → Typ
 record_later held held' failed failed' name empty task lined a same over (inl memory) = inl memory
 record_later held held' failed failed' name empty task lined a same over (inr is) = inr (record_over held held' failed failed' name empty task lined a same over is)
 
-then_map : {X : Type 0} (held : Bytes → Held) (failed : Bytes → Type 0) (name : Bytes) (Spells : Bytes → X → Type 0) (Wrong : Bytes → Bytes → Refusal → Type 0) (P Q : X → Answer → Type 0) (a : Answer)
-    → ((x : X) → P x a → Q x a) → ReadThen held failed name Spells Wrong P a → ReadThen held failed name Spells Wrong Q a
-then_map held failed name Spells Wrong P Q a f (inl why) = inl why
-then_map held failed name Spells Wrong P Q a f (inr (x, holds, then)) = inr (x, holds, f x then)
-
 files_over : (held held' : Bytes → Held) (failed failed' : Bytes → Type 0) (asked : ReplayWords) (empty : Refusal) (task : Task) (a : Answer)
     → ((file : Bytes) → held' file ≡ held file) → ((file : Bytes) → failed' file → failed file)
     → TaskThen held' failed' asked empty task a → TaskThen held failed asked empty task a
@@ -81,10 +76,6 @@ files_over held held' failed failed' asked empty task a same over then =
     then_map held failed asked.plan Spells Wrong (RecordThen held' failed' asked.recorded empty task) (RecordThen held failed asked.recorded empty task) a
     (λ lined. record_over held held' failed failed' asked.recorded empty task lined a same (over asked.recorded))
     (read_over held held' failed failed' asked.plan Spells Wrong (RecordThen held' failed' asked.recorded empty task) a same (over asked.plan) then)
-
-ground_map : (d : DomainTree) (p : ProblemTree) (P Q : Answer → Type 0) (a : Answer) → (P a → Q a) → GroundThen d p P a → GroundThen d p Q a
-ground_map d p P Q a f (inl why) = inl why
-ground_map d p P Q a f (inr (kept, then)) = inr (kept, f then)
 
 pub told_later : (held held' : Bytes → Held) (failed failed' : Bytes → Type 0) (asked : ReplayWords) (d : DomainTree) (p : ProblemTree) (a : Answer)
     → ((file : Bytes) → held' file ≡ held file) → ((file : Bytes) → failed' file → failed file)

@@ -7,9 +7,9 @@ ghost use Rattle.command_base.specs.InitialStates.{empty_init};
 ghost use Rattle.command_base.specs.Shelves.{KeepsShelf};
 ghost use Rattle.command_base.specs.Values.{answer_of, replay_words_of};
 ghost use Rattle.command_base.specs.Words.{ReplayWords as AskedReplay};
+ghost use Rattle.explain_plan.specs.Values.{lined_of};
 ghost use Rattle.explain_record.specs.Runs.{HasToldCause};
 ghost use Rattle.explain_record.specs.Told.{IsTold, IsToldAnswer, RecordThen, TaskThen};
-ghost use Rattle.explain_record.specs.Values.{lined_of};
 ghost use Rattle.explain_record.specs.Words.{AskNothing, SaysRun};
 ghost use Rattle.pddl_ast.specs.Fits.{FitsDomain, FitsProblem};
 ghost use Rattle.pddl_ast.specs.Values.{domain_value, problem_value};
@@ -25,32 +25,17 @@ ghost use Rattle.replay_command.specs.RunFetches.{FetchRecord, FetchesToReplay};
 ghost use Rattle.std.specs.Prelude.{◌≡◌, ◌⊎◌, [], ◌∷◌, None, map, string_bytes};
 ghost use Rattle.task_core.specs.Tasks.{action_count, action_names, fluent_count, fluent_names};
 
-use crate::files::{Lined, read_lined, read_record};
 use crate::shown::show_record;
 use crate::words::read_words;
 use command_base::{Refusal, ReplayWords, Shown, grounded, read_both};
-use pddl_ast::{Domain, Problem};
+use explain_plan::{Lined, read_lined};
+use pddl_ast::Problem;
 use plan_io::Shelf;
+use replay_command::{ReplayProblem, ReplayRequest, read_record_file};
 use std::alloc::Global;
 use task_core::Task;
 
-/// What was asked for, of the domain and the problem that two files hold.
-#[derive(Clone, Copy)]
-struct SoughtRun<'a> {
-    asked: &'a ReplayWords<'a>,
-    domain: &'a Domain,
-    problem: &'a Problem,
-}
-
-/// What was asked for, the problem, and the task that it is grounded to.
-#[derive(Clone, Copy)]
-struct TaskRequest<'a> {
-    asked: &'a ReplayWords<'a>,
-    problem: &'a Problem,
-    task: &'a Task,
-}
-
-/// The same with the plan that its file holds.
+/// What was asked for, the problem, the task that it is grounded to, and the plan that its file holds.
 #[derive(Clone, Copy)]
 pub(crate) struct RunRequest<'a> {
     pub(crate) asked: &'a ReplayWords<'a>,
@@ -91,7 +76,7 @@ fn tell_files<S: Shelf>(alloc: Global, shelf: &mut S, asked: &ReplayWords) -> Re
     ensures shelf { KeepsShelf S.held S.faults (answer_of result) shelf.old shelf.new }
 {
     let (domain, problem) = read_both(alloc, shelf, asked.domain, asked.problem)?;
-    let sought = SoughtRun {
+    let sought = ReplayProblem {
         asked,
         domain: &domain,
         problem: &problem,
@@ -103,7 +88,7 @@ fn tell_files<S: Shelf>(alloc: Global, shelf: &mut S, asked: &ReplayWords) -> Re
 fn tell_problem<S: Shelf>(
     alloc: Global,
     shelf: &mut S,
-    sought: &SoughtRun<'_>,
+    sought: &ReplayProblem<'_>,
 ) -> Result<Shown, Refusal>
     requires fits_domain { FitsDomain (domain_value sought.now.domain.now) }
     requires fits_problem { FitsProblem (domain_value sought.now.domain.now)
@@ -129,13 +114,13 @@ fn tell_problem<S: Shelf>(
         (answer_of result) shelf.old shelf.new) }
     ensures shelf { KeepsShelf S.held S.faults (answer_of result) shelf.old shelf.new }
 {
-    let SoughtRun {
+    let ReplayProblem {
         asked,
         domain,
         problem,
     } = *sought;
     let task = grounded(alloc, domain, problem)?;
-    let request = TaskRequest {
+    let request = ReplayRequest {
         asked,
         problem,
         task: &task,
@@ -147,7 +132,7 @@ fn tell_problem<S: Shelf>(
 fn tell_task<S: Shelf>(
     alloc: Global,
     shelf: &mut S,
-    request: &TaskRequest<'_>,
+    request: &ReplayRequest<'_>,
 ) -> Result<Shown, Refusal>
     ensures answer { let failed = FailedLast S.fetched S.faults shelf.old shelf.new in
         let asked = request.now.asked.now in
@@ -192,6 +177,6 @@ fn tell_plan<S: Shelf>(
     ensures fetches { Fetches S.fetched (request.now.asked.now.recorded.now ∷ []) shelf.old shelf.new }
     ensures shelf { KeepsShelf S.held S.faults (answer_of result) shelf.old shelf.new }
 {
-    let recorded = read_record(alloc, shelf, request.asked.recorded)?;
+    let recorded = read_record_file(alloc, shelf, request.asked.recorded)?;
     show_record(alloc, request, &recorded)
 }

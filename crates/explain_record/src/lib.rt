@@ -5,7 +5,6 @@
 #![tactic(auto)]
 
 mod commands;
-mod files;
 mod shown;
 mod top;
 mod words;

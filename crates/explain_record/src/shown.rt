@@ -3,31 +3,28 @@
 ghost use Rattle.command_base.specs.Answers.{no_memory, refused};
 ghost use Rattle.command_base.specs.Following.{most_followed};
 ghost use Rattle.command_base.specs.InitialStates.{empty_init};
-ghost use Rattle.command_base.specs.Values.{answer_of, refusal_of, shown_of};
+ghost use Rattle.command_base.specs.Values.{answer_of, shown_of};
 ghost use Rattle.exec_graph.specs.Initials.{HasTooManyInitial};
 ghost use Rattle.explain_record.specs.Told.{IsRunTold};
-ghost use Rattle.explain_record.specs.Values.{answer_at, lined_of};
+ghost use Rattle.explain_plan.specs.Values.{lined_of};
+ghost use Rattle.explain_record.specs.Values.{answer_at};
 ghost use Rattle.pddl_ast.specs.Values.{problem_value};
 ghost use Rattle.plan_rules.specs.Plans.{IsPlanOf};
 ghost use Rattle.recorded_run.specs.Values.{stop_value};
-ghost use Rattle.replay_command.specs.ReplayCommand.{FirstThen, IsFirstState};
+ghost use Rattle.replay_command.specs.ReplayCommand.{FirstThen};
 ghost use Rattle.run_replay.specs.Records.{record_value};
-ghost use Rattle.std.specs.Prelude.{◌≡◌, ◌⊎◌, IfErr, IfOk, OnOk};
+ghost use Rattle.std.specs.Prelude.{◌≡◌, ◌⊎◌, IfOk};
 ghost use Rattle.task_core.specs.States.{IsWithin, vector};
 ghost use Rattle.task_core.specs.Tasks.{action_count, fluent_count, initial_states};
 
 use crate::commands::RunRequest;
-use command_base::{Limit, Refusal, Shown, Text, no_initial};
-use initial_number::{Numbered, numbered_initial};
+use command_base::{Refusal, Shown, Text};
 use plan_finding::Source;
 use recorded_run::{Stop, recorded_run, recorded_text};
+use replay_command::{ReplayRequest, first_state};
 use run_replay::Recorded;
-use sexpr_text::{FaultKind, InputFault};
 use std::alloc::{AllocError, Global};
-use task_core::{InitErr, State};
-
-/// How many initial states a record may choose from.
-const MOST_INITIAL: usize = 262_144;
+use task_core::State;
 
 /// The run of a plan of the task, told, under a record that was read out of its file.
 pub(crate) fn show_record(
@@ -46,41 +43,13 @@ pub(crate) fn show_record(
         (initial_states task) asked.recorded.now record_is
         (IsRunTold task (lined_of request.now.lined.now) record_is) (answer_of result) }
 {
-    let first = first_state(alloc, request, recorded)?;
+    let named = ReplayRequest {
+        asked: request.asked,
+        problem: request.problem,
+        task: request.task,
+    };
+    let first = first_state(alloc, &named, recorded)?;
     show_run(alloc, request, recorded, &first)
-}
-
-/// The initial state whose number begins a record.
-fn first_state(
-    alloc: Global,
-    request: &RunRequest<'_>,
-    recorded: &Recorded,
-) -> Result<State, Refusal>
-    ensures first { IfOk result (λ state. IsFirstState (initial_states request.now.task.now)
-        (record_value recorded.now) (vector (fluent_count request.now.task.now) state)) }
-    ensures within { IfOk result (IsWithin (fluent_count request.now.task.now)) }
-    ensures few { OnOk result (HasTooManyInitial request.now.task.now most_followed → ⊥) }
-    ensures refused { let task = request.now.task.now in
-        let asked = request.now.asked.now in
-        IfErr result (λ refusal. (refused (refusal_of refusal) ≡ refused no_memory)
-        ⊎ FirstThen (HasTooManyInitial task most_followed)
-        (empty_init asked.problem.now (problem_value request.now.problem.now))
-        (initial_states task) asked.recorded.now (record_value recorded.now) (λ first answer. ⊥)
-        (refused (refusal_of refusal))) }
-{
-    match numbered_initial(alloc, request.task, recorded.first as usize, MOST_INITIAL) {
-        Ok(Numbered::Found(state)) => Ok(state),
-        Ok(Numbered::Beyond) => Err(Refusal::TextFault(
-            String::from_str(alloc, request.asked.recorded)?,
-            InputFault {
-                kind: FaultKind::BadNumber,
-                place: recorded.first_place,
-            },
-        )),
-        Ok(Numbered::NoInitial) => Err(no_initial(alloc, request.asked.problem, request.problem)?),
-        Err(InitErr::TooMany) => Err(Refusal::OverLimit(Limit::Initial)),
-        Err(InitErr::Memory) => Err(Refusal::NoMemory),
-    }
 }
 
 /// The run of a plan of the task from a state, told, or want of memory.

@@ -1,8 +1,9 @@
 -- Where each number of a set has a follower in the set, some walk comes back to where it was.
-use Rattle.std.proofs.Common.{◌≡◌, ◌≢◌, ◌⊎◌, ℕ, zero, suc, ◌+◌, ◌<◌, List, [], ◌∷◌, ◌++◌, length, refl, sym, ap, subst, arith, ⊎_elim, inl, inr}
+use Rattle.std.proofs.Common.{◌≡◌, ◌≢◌, ◌⊎◌, ℕ, zero, suc, ◌+◌, ◌<◌, List, [], ◌∷◌, ◌++◌, length, sym, subst, arith, ⊎_elim, inl, inr}
 use Rattle.std.specs.List.{Contains, range_with_len}
 use Rattle.std.proofs.lemmas.Bool.{cases_eq}
 use Rattle.std.proofs.lemmas.List.{length-append}
+use Rattle.std.proofs.lemmas.List.FromFn.{length-range_with_len}
 use Rattle.list_laws.proofs.Distinct.{Apart, Apart-few}
 use Rattle.list_laws.proofs.Elements.{Contains-cases, Contains-cons, Contains-head, Contains-nil, Contains-range_with_len}
 use Rattle.plan_check.specs.Walks.{IsWalk, last_number}
@@ -18,10 +19,6 @@ stands (x ∷ xs) y =
     (λ (e : x ≡ y). inl (subst (Contains (x ∷ xs)) e (Contains-head x xs)))
     (λ (other : x ≢ y). ⊎_elim (λ c. inl (Contains-cons x xs y c)) (λ none. inr (λ c. ⊎_elim (λ e. other e) (λ later. none later) (Contains-cases x xs y c))) (stands xs y))
     (cases_eq x y)
-
-range_length : (a n : ℕ) → length (range_with_len a n) ≡ n
-range_length a zero = refl
-range_length a (suc n) = ap suc (range_length (a + 1) n)
 
 module _ (n : ℕ) (next : ℕ → List ℕ) (S : ℕ → Type 0) (below : (x : ℕ) → S x → x < n) (onward : (x : ℕ) → S x → (y : ℕ) × Contains (next x) y × S y) where
   -- each number follows the one after it in the list
@@ -75,7 +72,7 @@ module _ (n : ℕ) (next : ℕ → List ℕ) (S : ℕ → Type 0) (below : (x : 
   go : (fuel top : ℕ) (rest : List ℕ) → Chain top rest → EachIn (top ∷ rest) → Apart (top ∷ rest) → n < fuel + length (top ∷ rest) → FoundRound
   go zero top rest chain all apart long =
       let few = Apart-few (top ∷ rest) (range_with_len 0 n) apart (λ y c. Contains-range_with_len n y (below y (each_in (top ∷ rest) all y c))) in
-      let len = range_length 0 n in
+      let len = length-range_with_len 0 n in
       absurd (omega (arith, few, len, long))
   go (suc fuel) top rest chain all apart long =
       let on = onward top all.0 in

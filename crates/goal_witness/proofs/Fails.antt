@@ -14,15 +14,15 @@ use Rattle.plan_check.specs.Labels.{ComesAfter, HoldsIn, ShowsGoal, mark_at}
 use Rattle.plan_check.specs.Walks.{last_number}
 use Rattle.plan_check.proofs.LabelTruth.{is_not_so, is_so, nowhere}
 use Rattle.plan_check.proofs.MarkFacts.{marked_below}
+use Rattle.plan_check.proofs.WalkFacts.{last_below}
 use Rattle.plan_rules.specs.Rules.{PlainPlan}
 use Rattle.plan_witness.specs.Runs.{PlainStep, end_of}
-use Rattle.plan_witness.proofs.GraphRuns.{along_ends, last_node}
-use Rattle.exec_graph.specs.Values.{plain_graph}
+use Rattle.plan_witness.proofs.GraphRuns.{along_ends}
 use Rattle.task_core.specs.ContextPlans.{Configuration}
 use Rattle.task_core.specs.Systems.{System}
 use Rattle.task_core.specs.Tasks.{fluent_count}
 use Rattle.task_core.specs.declared.conditions.Cond.{Cond}
-use Rattle.goal_witness.specs.Failing.{FailsFrom, LeadsInside, goal_size, goals_size}
+use Rattle.goal_witness.specs.Failing.{FailsFrom, LeadsInside, goal_size, goals_size, until_of}
 use Rattle.goal_witness.specs.Failures.{FailsAlong, FailsBy, How, IsFalseIn, PlainLink, SomePart, by_lasso, by_way, is_false}
 use Rattle.goal_witness.specs.Scenes.{IsFalseAtNumber, IsScene, place_in, plan_in, size_in, sys_in}
 use Rattle.goal_witness.specs.Walks.{IsAlong, IsLassoFound, IsWayFound, Lacks, NoneWithout}
@@ -175,7 +175,7 @@ module _ (scene : Scene) (s : IsScene scene) where
   way_end left right i steps end w = along_ends sys plan place i w.numbers steps w.along ∙ ap place w.ends
 
   way_below : (left right : List Bool) (i : ℕ) (steps : List PlainStep) (end : ℕ) → i < size → IsWayFound scene left right i steps end → end < size
-  way_below left right i steps end l w = subst (λ k. k < size) w.ends (last_node sys plan (plain_graph n graph) s.graph i w.numbers l w.least.walk.walk)
+  way_below left right i steps end l w = subst (λ k. k < size) w.ends (last_below size (followers_at graph) s.graph.next_below i w.numbers l w.least.walk.walk)
 
   way_lacks : (left right : List Bool) (i : ℕ) (steps : List PlainStep) (end : ℕ) → IsWayFound scene left right i steps end → Lacks left end
   way_lacks left right i steps end w = subst (Lacks left) w.ends w.least.ends
@@ -200,7 +200,7 @@ module _ (scene : Scene) (s : IsScene scene) where
     );
   }
 
-  pub leads_aw : (g h : CtlTree Cond) (i : ℕ) (left right : List Bool) (steps : List PlainStep) (end : ℕ) → IsFalseAtNumber scene (aw g h) i → ShowsGoal n graph g left → ShowsGoal n graph h right
+  leads_aw : (g h : CtlTree Cond) (i : ℕ) (left right : List Bool) (steps : List PlainStep) (end : ℕ) → IsFalseAtNumber scene (aw g h) i → ShowsGoal n graph g left → ShowsGoal n graph h right
       → IsWayFound scene left right i steps end → LeadsInside scene (aw g h) i (by_way steps) g end
   leads_aw g h i left right steps end f shows more w = record {
     inside = way_inside g left right i steps end f.names.0 f.below shows w;
@@ -215,7 +215,7 @@ module _ (scene : Scene) (s : IsScene scene) where
     );
   }
 
-  pub leads_au : (g h : CtlTree Cond) (i : ℕ) (left right : List Bool) (steps : List PlainStep) (end : ℕ) → IsFalseAtNumber scene (au g h) i → ShowsGoal n graph g left → ShowsGoal n graph h right
+  leads_au : (g h : CtlTree Cond) (i : ℕ) (left right : List Bool) (steps : List PlainStep) (end : ℕ) → IsFalseAtNumber scene (au g h) i → ShowsGoal n graph g left → ShowsGoal n graph h right
       → IsWayFound scene left right i steps end → LeadsInside scene (au g h) i (by_way steps) g end
   leads_au g h i left right steps end f shows more w = record {
     inside = way_inside g left right i steps end f.names.0 f.below shows w;
@@ -240,11 +240,11 @@ module _ (scene : Scene) (s : IsScene scene) where
   ends_af g i right stem back f shows lasso = (refl, f.fails, (lasso_through scene s right (IsFalse g) (meaning g f.names right shows) i stem back f.below lasso, refl))
 
   -- what is asked of the searches
-  pub lacks_aw : (g h : CtlTree Cond) (i : ℕ) (right : List Bool) → IsFalseAtNumber scene (aw g h) i → ShowsGoal n graph h right → Lacks right i
+  lacks_aw : (g h : CtlTree Cond) (i : ℕ) (right : List Bool) → IsFalseAtNumber scene (aw g h) i → ShowsGoal n graph h right → Lacks right i
   lacks_aw g h i right f shows =
       (meaning h f.names.1 right shows i f.below).1 (λ t. not_sat (aw g h) i f (λ k rest len p. holds_here (Sat g) (Sat h) i rest ((true_in scene s h f.names.1 i f.below).1 t)))
 
-  pub lacks_au : (g h : CtlTree Cond) (i : ℕ) (right : List Bool) → IsFalseAtNumber scene (au g h) i → ShowsGoal n graph h right → Lacks right i
+  lacks_au : (g h : CtlTree Cond) (i : ℕ) (right : List Bool) → IsFalseAtNumber scene (au g h) i → ShowsGoal n graph h right → Lacks right i
   lacks_au g h i right f shows =
       (meaning h f.names.1 right shows i f.below).1
       (λ t. not_sat (au g h) i f (record { steps = 0; meets = λ rest len p. meets_here (Sat g) (Sat h) i rest ((true_in scene s h f.names.1 i f.below).1 t) }))
@@ -264,7 +264,7 @@ module _ (scene : Scene) (s : IsScene scene) where
       (λ j m. tt) (λ j m. is_so size (Sat g) right shows j (subst (λ k. j < k) shows.count (marked_below right j m)) m) i e)
 
   pub none_everywhere : (i : ℕ) (left right : List Bool) → i < size → ((j : ℕ) → j < size → mark_at left j ≡ true) → NoneWithout (followers_at graph) right (Lacks left) i
-  none_everywhere i left right l each rest w e = false≢true (sym e ∙ each (last_number i rest) (last_node sys plan (plain_graph n graph) s.graph i rest l w.walk))
+  none_everywhere i left right l each rest w e = false≢true (sym e ∙ each (last_number i rest) (last_below size (followers_at graph) s.graph.next_below i rest l w.walk))
 
   -- where no way leads there, the goal is true
   pub true_ag : (g : CtlTree Cond) (i : ℕ) (left right : List Bool) → i < size → ShowsGoal n graph g left → length right ≡ size → ((j : ℕ) → j < size → mark_at right j ≡ false)
@@ -274,3 +274,13 @@ module _ (scene : Scene) (s : IsScene scene) where
 
   pub true_aw : (g h : CtlTree Cond) (i : ℕ) (left right : List Bool) → i < size → ShowsGoal n graph g left → ShowsGoal n graph h right → NoneWithout (followers_at graph) right (Lacks left) i → Sat (aw g h) i
   true_aw g h i left right l shows more none = keeps_everywhere size (followers_at graph) s.graph.next_below (Sat g) (Sat h) left right shows more i l none
+
+  -- the same for both kinds
+  pub leads_until : (weak : Bool) (g h : CtlTree Cond) (i : ℕ) (left right : List Bool) (steps : List PlainStep) (end : ℕ) → IsFalseAtNumber scene (until_of weak g h) i → ShowsGoal n graph g left → ShowsGoal n graph h right
+      → IsWayFound scene left right i steps end → LeadsInside scene (until_of weak g h) i (by_way steps) g end
+  leads_until true = leads_aw
+  leads_until false = leads_au
+
+  pub lacks_until : (weak : Bool) (g h : CtlTree Cond) (i : ℕ) (right : List Bool) → IsFalseAtNumber scene (until_of weak g h) i → ShowsGoal n graph h right → Lacks right i
+  lacks_until true = lacks_aw
+  lacks_until false = lacks_au

@@ -1,11 +1,12 @@
 -- Walks within a part of a graph, and those through numbers that lack a mark.
 use Rattle.std.proofs.Common.{◌≡◌, ◌↔◌, ℕ, ◌<◌, Bool, not, List, [], ◌∷◌, ◌++◌, length, refl, sym, ap, ◌∙◌, subst}
 use Rattle.std.specs.List.{Contains}
+use Rattle.list_laws.proofs.Booleans.{not_true}
 use Rattle.list_laws.proofs.Elements.{Contains-filter, Contains-filter-witness}
 use Rattle.plan_check.specs.Labels.{IsNegated, mark_at}
 use Rattle.plan_check.specs.Walks.{IsMarked, IsWalk, StaysBelow, last_number}
-use Rattle.plan_check.proofs.LabelFacts.{not_true}
 use Rattle.plan_check.proofs.MarkFacts.{marked_below}
+use Rattle.plan_check.proofs.WalkFacts.{last_below}
 use Rattle.plan_witness.specs.Ways.{IsOnRound, IsShortestWay, NoneLeads}
 use Rattle.goal_witness.specs.Failures.{EachOn}
 use Rattle.goal_witness.specs.Walks.{IsLeastRound, IsLeastWithout, IsRoundWithout, IsWalkWithout, Lacks, NoneWithout}
@@ -76,10 +77,6 @@ module _ (n : ℕ) (next : ℕ → List ℕ) (stays : StaysBelow n next) (marks 
   pub walk_without : (i : ℕ) (rest : List ℕ) → i < n → Lacks marks i → IsWalk (kept next inside) i rest → IsWalkWithout next marks i rest
   walk_without i rest l m w = record { walk = walk_out next inside i rest w; each = each_out i rest l m w }
 
-  pub last_walk : (i : ℕ) (rest : List ℕ) → i < n → IsWalk next i rest → last_number i rest < n
-  last_walk i [] l w = l
-  last_walk i (j ∷ rest) l w = last_walk j rest (stays i j l w.0) w.1
-
   -- rounds
   pub round_without : (i : ℕ) → i < n → IsOnRound (kept next inside) i → IsRoundWithout next marks i
   round_without i l r =
@@ -106,26 +103,26 @@ module _ (n : ℕ) (next : ℕ → List ℕ) (stays : StaysBelow n next) (marks 
           let walked = walk_without i numbers l lacks walk in
           record {
             walk = walked;
-            ends = (same (last_number i numbers) (last_walk i numbers l walked.walk) (each_last (Lacks marks) i numbers walked.each)).0 (subst (λ k. P (last_number k numbers)) e w.shows);
-            least = λ rest other ends. w.least i rest begins (walk_in i rest l other.walk other.each) ((same (last_number i rest) (last_walk i rest l other.walk) (each_last (Lacks marks) i rest other.each)).1 ends);
+            ends = (same (last_number i numbers) (last_below n next stays i numbers l walked.walk) (each_last (Lacks marks) i numbers walked.each)).0 (subst (λ k. P (last_number k numbers)) e w.shows);
+            least = λ rest other ends. w.least i rest begins (walk_in i rest l other.walk other.each) ((same (last_number i rest) (last_below n next stays i rest l other.walk) (each_last (Lacks marks) i rest other.each)).1 ends);
           }
 
       pub none_without : NoneLeads (kept next inside) starts P → NoneWithout next marks E i
-      none_without none rest other ends = none i rest begins (walk_in i rest l other.walk other.each) ((same (last_number i rest) (last_walk i rest l other.walk) (each_last (Lacks marks) i rest other.each)).1 ends)
+      none_without none rest other ends = none i rest begins (walk_in i rest l other.walk other.each) ((same (last_number i rest) (last_below n next stays i rest l other.walk) (each_last (Lacks marks) i rest other.each)).1 ends)
 
     -- what the search for a lasso found
     pub lasso_stem : (stem : List ℕ) (j first : ℕ) (back : List ℕ) → IsZoneLasso (kept next inside) i stem j first back → IsLeastWithout next marks (IsRoundWithout next marks) i stem
     lasso_stem stem j first back z =
         let walked = walk_without i stem l lacks z.walk in
-        let b = last_walk i stem l walked.walk in
+        let b = last_below n next stays i stem l walked.walk in
         record {
           walk = walked;
           ends = round_without (last_number i stem) b (subst (IsOnRound (kept next inside)) (sym z.ends) z.on);
-          least = λ rest other ends. z.nearest rest (walk_in i rest l other.walk other.each) (round_within (last_number i rest) (last_walk i rest l other.walk) ends);
+          least = λ rest other ends. z.nearest rest (walk_in i rest l other.walk other.each) (round_within (last_number i rest) (last_below n next stays i rest l other.walk) ends);
         }
 
     pub lasso_end : (stem : List ℕ) (j first : ℕ) (back : List ℕ) → IsZoneLasso (kept next inside) i stem j first back → j < n
-    lasso_end stem j first back z = subst (λ k. k < n) z.ends (last_walk i stem l (walk_out next inside i stem z.walk))
+    lasso_end stem j first back z = subst (λ k. k < n) z.ends (last_below n next stays i stem l (walk_out next inside i stem z.walk))
 
     pub lasso_back : (stem : List ℕ) (j first : ℕ) (back : List ℕ) → IsZoneLasso (kept next inside) i stem j first back → IsLeastRound next marks j first back
     lasso_back stem j first back z =
@@ -141,4 +138,4 @@ module _ (n : ℕ) (next : ℕ → List ℕ) (stays : StaysBelow n next) (marks 
 
     pub no_lasso : HasNoRound (kept next inside) i → NoneWithout next marks (IsRoundWithout next marks) i
     no_lasso none rest other ends =
-        none rest (walk_in i rest l other.walk other.each) (round_within (last_number i rest) (last_walk i rest l other.walk) ends)
+        none rest (walk_in i rest l other.walk other.each) (round_within (last_number i rest) (last_below n next stays i rest l other.walk) ends)

@@ -1,11 +1,12 @@
 -- What the searches within a part of a graph found, where the part is that of the numbers that lack a mark.
 use Rattle.std.proofs.Common.{◌≡◌, ◌↔◌, ℕ, ◌<◌, Bool, true, false, not, ◌||◌, List, ◌∷◌, length, sym, ap, ◌∙◌, subst, ⊎_elim}
 use Rattle.std.proofs.lemmas.Bool.{false≢true, or_left}
+use Rattle.list_laws.proofs.Booleans.{not_true}
 use Rattle.exec_graph.specs.Values.{followers_at}
 use Rattle.plan_check.specs.Labels.{IsJoined, IsNegated, mark_at}
 use Rattle.plan_check.specs.Walks.{IsMarked, last_number}
 use Rattle.plan_check.specs.declared.labelling.Join.TheVariants.{Neither}
-use Rattle.plan_check.proofs.LabelFacts.{decided, not_true}
+use Rattle.plan_check.proofs.LabelFacts.{decided}
 use Rattle.plan_check.proofs.MarkFacts.{marked_below}
 use Rattle.plan_witness.specs.Runs.{PlainStep}
 use Rattle.plan_witness.specs.Ways.{IsShortestWay, NoneLeads}

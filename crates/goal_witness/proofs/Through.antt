@@ -11,9 +11,10 @@ use Rattle.exec_graph.specs.declared.graphs.Graph.{Graph}
 use Rattle.plan_check.specs.ContextVerdicts.{HoldsAt}
 use Rattle.plan_check.specs.Labels.{ComesAfter, HoldsIn}
 use Rattle.plan_check.specs.Walks.{IsWalk, last_number}
+use Rattle.plan_check.proofs.WalkFacts.{last_below}
 use Rattle.plan_rules.specs.Rules.{PlainPlan}
 use Rattle.plan_witness.specs.Runs.{PlainStep}
-use Rattle.plan_witness.proofs.GraphRuns.{along_ends, along_length, end_of_walk, last_node, last_place, length_walk, path_of, step_goes, step_to, walk_of}
+use Rattle.plan_witness.proofs.GraphRuns.{along_ends, along_length, end_of_walk, last_place, length_walk, path_of, step_goes, step_to, walk_of}
 use Rattle.task_core.specs.Conditions.{ids_below}
 use Rattle.task_core.specs.ContextPlans.{Configuration}
 use Rattle.task_core.specs.Paths.{IsPath, last_of}
@@ -87,7 +88,7 @@ module _ (scene : Scene) (s : IsScene scene) where
           walk = record { walk = w.walk; each = along_back i w.numbers l w.walk (subst (EachOn P (place i)) (sym w.places) each) };
           ends = end_of_walk sys plan plain s.graph i rest w;
           long = length_walk sys plan plain s.graph i rest w;
-          below = last_node sys plan plain s.graph i w.numbers l w.walk;
+          below = last_below size next s.graph.next_below i w.numbers l w.walk;
         }
 
     pub way_through : (Q : Configuration → Type 0) (E : ℕ → Type 0) → ((i : ℕ) → i < size → E i ↔ Q (place i))
@@ -96,7 +97,7 @@ module _ (scene : Scene) (s : IsScene scene) where
     way_through Q E same i numbers steps l least along = record {
       run_of = along.run_of;
       through = through_steps i numbers steps l least.walk along;
-      ends = subst Q (sym (along_ends sys plan place i numbers steps along)) ((same (last_number i numbers) (last_node sys plan plain s.graph i numbers l least.walk.walk)).0 least.ends);
+      ends = subst Q (sym (along_ends sys plan place i numbers steps along)) ((same (last_number i numbers) (last_below size next s.graph.next_below i numbers l least.walk.walk)).0 least.ends);
       shortest = λ rest path each q.
           let w = walk_through i rest l path each in
           let few = least.least w.numbers w.walk ((same (last_number i w.numbers) w.below).1 (subst Q (sym w.ends) q)) in
@@ -155,7 +156,7 @@ module _ (scene : Scene) (s : IsScene scene) where
     -- the lasso that was found
     pub lasso_through : (i : ℕ) (stem back : List PlainStep) → i < size → IsLassoFound scene right i stem back → IsLassoThrough sys plan P (place i) stem back
     lasso_through i stem back l f =
-        let b = last_node sys plan plain s.graph i f.numbers l f.least.walk.walk in
+        let b = last_below size next s.graph.next_below i f.numbers l f.least.walk.walk in
         record {
           arrives = way_through (ComesBackThrough sys plan P) (IsRoundWithout next right) round_through i f.numbers stem l f.least f.along;
           returns = subst (λ x. IsShortestBack sys plan P x back) (sym (along_ends sys plan place i f.numbers stem f.along))

@@ -10,7 +10,7 @@ use Rattle.plan_witness.specs.Ways.{HasGrown, IsRound, at, far}
 use Rattle.plan_witness.proofs.Visits.{found_fewer, found_here, found_passed, found_round, found_zeros, visited_round}
 use Rattle.goal_witness.specs.Zones.{IsZone, next_in}
 use Rattle.goal_witness.proofs.Kept.{kept_below, kept_follows, kept_from, kept_marked}
-use Rattle.plan_witness.proofs.Leads.{contained_at}
+use Rattle.plan_witness.proofs.Taken.{contained_at}
 
 -- the follower at a place
 abbrev pub follower : Graph → ℕ → ℕ → ℕ

@@ -1,5 +1,5 @@
 -- Private: how one part of a goal fails, and which part inside fails after it.
-use Rattle.std.specs.Prelude.{◌<◌, ◌+◌, ℕ, List, [], ◌∷◌}
+use Rattle.std.specs.Prelude.{◌<◌, ◌+◌, ℕ, Bool, true, false, List, [], ◌∷◌}
 use Rattle.ctl_syntax.specs.Goals.{CtlTree, CtlTrees, plain, negation, all, any, implication, ax}
 use Rattle.ctl_syntax.specs.Goals.{ex, af, ef, ag, eg, au, eu, aw, ew, no_goal, goal_then}
 use Rattle.ctl_syntax.specs.Values.{ctl_value}
@@ -56,3 +56,8 @@ IsFailing scene goal i (Ends how) =
     ((record { part = goal; how = how_value (fluent_count scene.task.now) how }) ∷ [])
 IsFailing scene goal i (Leads how part j) =
     LeadsInside scene goal i (how_value (fluent_count scene.task.now) how) (ctl_value part.now) j
+
+-- Private: g holds until h does, and h comes about; or, where it is weak, g may hold for ever
+abbrev pub until_of : Bool → CtlTree Cond → CtlTree Cond → CtlTree Cond
+until_of true g h = aw g h
+until_of false g h = au g h

@@ -1,22 +1,21 @@
 //! How one part of a goal fails.
 
 ghost use Rattle.std.specs.Prelude.{◌≡◌, ◌<◌, IfNone, IfOk, IfSome, false, length, map, true, ℕ};
-ghost use Rattle.ctl_syntax.specs.Goals.{af, ag, all, au, aw, ax, goal_row};
+ghost use Rattle.ctl_syntax.specs.Goals.{af, ag, all, ax, goal_row};
 ghost use Rattle.ctl_syntax.specs.Values.{NamesBelow, ctl_value};
 ghost use Rattle.exec_graph.specs.Values.{graph_size};
 ghost use Rattle.plan_check.specs.Labels.{ComesAfter, ShowsGoal, mark_at};
 ghost use Rattle.plan_check.specs.Plain.{HasFollowersInside};
 ghost use Rattle.task_core.specs.Tasks.{fluent_count};
-ghost use Rattle.goal_witness.specs.Failing.{IsFailing};
-ghost use Rattle.goal_witness.specs.Scenes.{IsFalseAtNumber, IsScene, size_in};
+ghost use Rattle.goal_witness.specs.Failing.{IsFailing, until_of};
+ghost use Rattle.goal_witness.specs.Scenes.{IsFalseAtNumber, IsScene};
 ghost use Rattle.goal_witness.specs.Walks.{Lacks};
 
 use crate::links::How;
 use crate::runs::{Sides, endless, step_to, way_without};
-use crate::zones::is_marked;
 use ctl_syntax::Ctl;
 use exec_graph::{Graph, Steps};
-use plan_check::{labels, same_label};
+use plan_check::{is_marked, labels, same_label};
 use plan_witness::Scene;
 use std::alloc::{AllocError, Global};
 use std::sync::ledger::Ledger;
@@ -30,11 +29,13 @@ pub(crate) enum Failing<'a> {
     Leads(How, &'a Ctl, u32),
 }
 
-/// Two parts of a goal.
+/// Two parts of a goal, the first of which is to hold until the second does; or, where they are weak, for
+/// ever.
 #[derive(Clone, Copy)]
 struct Pair<'a> {
     left: &'a Ctl,
     right: &'a Ctl,
+    weak: bool,
 }
 
 /// How a goal fails at the configuration of a number.
@@ -55,8 +56,22 @@ pub(crate) fn failing_at<'a, L: Ledger>(
         Ctl::Ax(part) => false_next(alloc, scene, part, number, steps),
         Ctl::Ag(part) => false_later(alloc, scene, part, number, steps),
         Ctl::Af(part) => false_always(alloc, scene, part, number, steps),
-        Ctl::Au(left, right) => false_until(alloc, scene, Pair { left, right }, number, steps),
-        Ctl::Aw(left, right) => false_before(alloc, scene, Pair { left, right }, number, steps),
+        Ctl::Au(left, right) => {
+            let parts = Pair {
+                left,
+                right,
+                weak: false,
+            };
+            false_until(alloc, scene, parts, number, steps)
+        }
+        Ctl::Aw(left, right) => {
+            let parts = Pair {
+                left,
+                right,
+                weak: true,
+            };
+            false_until(alloc, scene, parts, number, steps)
+        }
         Ctl::Plain(_) => Ok(Failing::Ends(How::False)),
         Ctl::Not(_) => Ok(Failing::Ends(How::False)),
         Ctl::Any(_) => Ok(Failing::Ends(How::False)),
@@ -206,9 +221,9 @@ fn false_always<'a, L: Ledger>(
     Ok(Failing::Ends(How::Lasso(lasso.stem, lasso.back)))
 }
 
-/// How two parts fail of which the second is to come about, and until then the first: by a shortest run on
-/// which the second is false, to where the first is false too, or by one on which the second is false for
-/// ever.
+/// How two parts fail of which the second is to come about, unless they are weak, and until then the first:
+/// by a shortest run on which the second is false, to where the first is false too, or by one on which the
+/// second is false for ever.
 fn false_until<'a, L: Ledger>(
     alloc: Global,
     scene: &Scene<'_>,
@@ -218,67 +233,24 @@ fn false_until<'a, L: Ledger>(
 ) -> Result<Failing<'a>, AllocError>
     requires scene { IsScene scene.now }
     requires fails { IsFalseAtNumber scene.now
-        (au (ctl_value parts.left.now) (ctl_value parts.right.now)) number }
-    ensures { IfOk result (IsFailing scene.now
-        (au (ctl_value parts.entry.left.now) (ctl_value parts.entry.right.now)) number) }
+        (until_of parts.weak (ctl_value parts.left.now) (ctl_value parts.right.now)) number }
+    ensures { IfOk result (IsFailing scene.now (until_of parts.entry.weak
+        (ctl_value parts.entry.left.now) (ctl_value parts.entry.right.now)) number) }
 {
     let left = label_of(alloc, scene, parts.left, steps)?;
     let right = label_of(alloc, scene, parts.right, steps)?;
-    match way_without(
-        alloc,
-        scene,
-        Sides {
-            left: &left,
-            right: &right,
-        },
-        number,
-        steps,
-    )? {
+    let sides = Sides {
+        left: &left,
+        right: &right,
+    };
+    match way_without(alloc, scene, sides, number, steps)? {
         Some(reached) => Ok(Failing::Leads(How::Way(reached.steps), parts.left, reached.end)),
         None => {
-            let lasso = endless(
-                alloc,
-                scene,
-                Sides {
-                    left: &left,
-                    right: &right,
-                },
-                number,
-                steps,
-            )?;
+            if parts.weak {
+                return Ok(Failing::Ends(How::False));
+            }
+            let lasso = endless(alloc, scene, sides, number, steps)?;
             Ok(Failing::Ends(How::Lasso(lasso.stem, lasso.back)))
         }
-    }
-}
-
-/// How two parts fail of which the first is to hold until the second does, or for ever: by a shortest run
-/// on which the second is false, to where the first is false too.
-fn false_before<'a, L: Ledger>(
-    alloc: Global,
-    scene: &Scene<'_>,
-    parts: Pair<'a>,
-    number: u32,
-    steps: &mut Steps<L>,
-) -> Result<Failing<'a>, AllocError>
-    requires scene { IsScene scene.now }
-    requires fails { IsFalseAtNumber scene.now
-        (aw (ctl_value parts.left.now) (ctl_value parts.right.now)) number }
-    ensures { IfOk result (IsFailing scene.now
-        (aw (ctl_value parts.entry.left.now) (ctl_value parts.entry.right.now)) number) }
-{
-    let left = label_of(alloc, scene, parts.left, steps)?;
-    let right = label_of(alloc, scene, parts.right, steps)?;
-    match way_without(
-        alloc,
-        scene,
-        Sides {
-            left: &left,
-            right: &right,
-        },
-        number,
-        steps,
-    )? {
-        Some(reached) => Ok(Failing::Leads(How::Way(reached.steps), parts.left, reached.end)),
-        None => Ok(Failing::Ends(How::False)),
     }
 }

@@ -3,7 +3,6 @@
 ghost use Rattle.std.specs.Prelude.{
   ◌≡◌,
   ◌<◌,
-  ◌≤◌,
   ◌↔◌,
   IfNone,
   IfOk,
@@ -14,21 +13,22 @@ ghost use Rattle.std.specs.Prelude.{
   ℕ,
 };
 ghost use Rattle.std.specs.List.{Contains};
-ghost use Rattle.exec_graph.specs.Values.{followers_at, graph_size};
+ghost use Rattle.exec_graph.specs.Values.{graph_size};
 ghost use Rattle.plan_check.specs.Walks.{IsMarked};
 ghost use Rattle.plan_witness.specs.Ways.{
   IsNearestRound,
   IsOnRound,
   IsShortestRoundAt,
-  IsShortestWay,
   at,
 };
 ghost use Rattle.goal_witness.specs.Zones.{HasNoRound, IsZone, IsZoneLasso, next_in};
 
-use crate::shortest::{Way, shortest_way, way_back};
-use crate::ways::{FAR, Ways, ways_from};
-use crate::zones::{Zone, is_marked};
-use exec_graph::{Graph, Steps};
+use crate::shortest::{shortest_way, way_back};
+use crate::ways::ways_from;
+use crate::zones::Zone;
+use exec_graph::Steps;
+use plan_check::is_marked;
+use plan_witness::{FAR, Way, Ways, follows, only_mark};
 use std::alloc::{AllocError, Global};
 use std::sync::ledger::Ledger;
 
@@ -188,38 +188,4 @@ fn follows_in<L: Ledger>(zone: &Zone<'_>, number: u32, other: u32, steps: &mut S
         return false;
     }
     follows(zone.graph, number, other, steps)
-}
-
-/// Whether a number follows another.
-fn follows<L: Ledger>(graph: &Graph, number: u32, other: u32, steps: &mut Steps<L>) -> bool
-    requires { number < graph_size graph.now }
-    ensures { (result ≡ true) ↔ Contains (followers_at graph.now number) other }
-{
-    for k in 0..graph.next_len(number) {
-        if graph.next_at(number, k, steps) == other {
-            return true;
-        }
-    }
-    false
-}
-
-/// A mark for one number alone.
-pub(crate) fn only_mark(alloc: Global, graph: &Graph, number: u32) -> Result<Vec<bool>, AllocError>
-    requires { number < graph_size graph.now }
-    ensures count { IfOk result (λ marks. length marks.items ≡ graph_size graph.now) }
-    ensures marked { IfOk result (λ marks. (i : ℕ) → i < graph_size graph.now
-        → IsMarked marks.items i ↔ (i ≡ number)) }
-{
-    let mut marks = Vec::new(alloc);
-    for i in 0..graph.len() {
-        marks.push(is_number(i, number))?;
-    }
-    Ok(marks)
-}
-
-/// Whether two numbers are the same.
-fn is_number(number: u32, other: u32) -> bool
-    ensures { (result ≡ true) ↔ (number ≡ other) }
-{
-    number == other
 }

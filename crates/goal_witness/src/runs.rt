@@ -1,10 +1,9 @@
 //! Runs of a plan along ways on which a goal fails.
 
-ghost use Rattle.std.specs.Prelude.{◌≡◌, ◌<◌, ◌∷◌, [], IfNone, IfOk, IfSome, false, length, true, ℕ};
+ghost use Rattle.std.specs.Prelude.{◌≡◌, ◌<◌, ◌∷◌, [], IfNone, IfOk, IfSome, length, true};
 ghost use Rattle.ctl_syntax.specs.Paths.{EveryPathMeets};
 ghost use Rattle.exec_graph.specs.Values.{followers_at};
 ghost use Rattle.plan_check.specs.Labels.{ComesAfter, mark_at};
-ghost use Rattle.plan_check.specs.Plain.{HasPredecessors};
 ghost use Rattle.plan_check.specs.Walks.{IsWalk};
 ghost use Rattle.plan_witness.specs.Values.{steps_value};
 ghost use Rattle.task_core.specs.Tasks.{fluent_count};
@@ -18,12 +17,12 @@ ghost use Rattle.goal_witness.specs.Walks.{
   NoneWithout,
 };
 
-use crate::rounds::{WayBack, lasso_from, only_mark};
+use crate::rounds::{WayBack, lasso_from};
 use crate::shortest::shortest_way;
 use crate::zones::Zone;
 use exec_graph::Steps;
 use plan_check::{Along, Join, Need, joined, negated, spread};
-use plan_witness::{RunStep, Scene, steps_along};
+use plan_witness::{RunStep, Scene, only_mark, steps_along};
 use std::alloc::{AllocError, Global};
 use std::sync::ledger::Ledger;
 

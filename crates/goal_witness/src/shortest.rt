@@ -12,20 +12,13 @@ ghost use Rattle.plan_witness.specs.Ways.{
 };
 ghost use Rattle.goal_witness.specs.Zones.{IsZone, next_in};
 
-use crate::ways::{FAR, Ways, ways_from};
+use crate::ways::ways_from;
 use crate::zones::Zone;
 use exec_graph::Steps;
+use plan_witness::{FAR, Way, Ways};
 use std::alloc::{AllocError, Global};
 use std::collections::VecDeque;
 use std::sync::ledger::Ledger;
-
-/// A way: the number in which it begins, those to which its steps lead, and the one in which it ends.
-#[derive(Drop)]
-pub(crate) struct Way {
-    pub(crate) start: u32,
-    pub(crate) numbers: Vec<u32>,
-    pub(crate) end: u32,
-}
 
 /// A shortest way from a number with a mark in `starts` to one with a mark in `ends`.
 pub(crate) fn shortest_way<L: Ledger>(

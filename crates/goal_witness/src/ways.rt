@@ -4,186 +4,98 @@ ghost use Rattle.std.specs.Prelude.{
   ◌≡◌,
   ◌+◌,
   ◌<◌,
-  ◌≤◌,
-  ◌⊎◌,
   if◌then◌else◌,
-  slice_index_or,
   slice_set,
-  IfNone,
   IfOk,
-  IfSome,
   false,
   length,
   true,
-  ℕ,
 };
-ghost use Rattle.std.specs.List.{Contains};
-ghost use Rattle.exec_graph.specs.Values.{followers_at, graph_size};
+ghost use Rattle.exec_graph.specs.Values.{graph_size};
 ghost use Rattle.plan_check.specs.Walks.{IsMarked};
-ghost use Rattle.plan_witness.specs.Ways.{AreWays, HasGrown, IsNearest, IsRound, at};
+ghost use Rattle.plan_witness.specs.Ways.{AreWays, HasGrown, IsRound, at};
 ghost use Rattle.goal_witness.specs.Zones.{IsZone, next_in};
 
-use crate::zones::{Zone, is_marked};
+use crate::zones::Zone;
 use exec_graph::Steps;
+use plan_check::is_marked;
+use plan_witness::{FAR, Ways};
 use std::alloc::{AllocError, Global};
 use std::sync::ledger::Ledger;
 
-/// The length of a way to a number that none leads to.
-pub(crate) const FAR: u32 = 4_294_967_295;
-
-/// For each configuration the length of a shortest way to it, and the number of the one before it on
-/// such a way.
-#[derive(Drop)]
-pub(crate) struct Ways {
-    pub(crate) lengths: Vec<u32>,
-    pub(crate) before: Vec<u32>,
+/// Puts a way of this length to a number with a mark, by the one before it, unless a way is known.
+fn reach_marked(ways: &mut Ways, inside: &[bool], number: u32, before: u32, now: u32) -> bool
+    requires inside { number < length inside.now }
+    requires lengths { number < length ways.old.lengths.items }
+    requires before { number < length ways.old.before.items }
+    ensures marked { result ≡ true → IsMarked inside.now number }
+    ensures unknown { result ≡ true → at ways.old.lengths.items number ≡ FAR }
+    ensures known { result ≡ false → IsMarked inside.now number
+        → at ways.old.lengths.items number < FAR }
+    ensures lengths { ways.new.lengths.items ≡ (if result
+        then slice_set ways.old.lengths.items number now else ways.old.lengths.items) }
+    ensures before { ways.new.before.items ≡ (if result
+        then slice_set ways.old.before.items number before else ways.old.before.items) }
+{
+    if !is_marked(inside, number) {
+        return false;
+    }
+    ways.reach(number, before, now)
 }
 
-impl Ways {
-    /// The ways of no step: to the numbers with a mark.
-    fn new(alloc: Global, starts: &[bool]) -> Result<Ways, AllocError>
-        ensures lengths { IfOk result (λ ways. length ways.lengths.items ≡ length starts.now) }
-        ensures before { IfOk result (λ ways. length ways.before.items ≡ length starts.now) }
-        ensures each { IfOk result (λ ways. (i : ℕ) → i < length starts.now
-            → at ways.lengths.items i ≡ (if slice_index_or starts.now i false then 0 else FAR)) }
-    {
-        let mut lengths = Vec::new(alloc);
-        let mut before = Vec::new(alloc);
-        for start in starts {
-            lengths.push(if *start { 0 } else { FAR })?;
-            before.push(0)?;
+/// Goes one step on from a number, where the way to it has this length. Says whether a way to
+/// some other was found.
+fn visit<L: Ledger>(
+    ways: &mut Ways,
+    zone: &Zone<'_>,
+    number: u32,
+    now: u32,
+    steps: &mut Steps<L>,
+) -> bool
+    requires zone { IsZone zone.now.graph.now zone.now.inside.now }
+    requires number { number < graph_size zone.now.graph.now }
+    requires few { now < 262145 }
+    requires round { IsRound (graph_size zone.now.graph.now)
+        (next_in zone.now.graph.now zone.now.inside.now)
+        ways.old.lengths.items ways.old.before.items now number }
+    ensures round { IsRound (graph_size zone.now.graph.now)
+        (next_in zone.now.graph.now zone.now.inside.now)
+        ways.new.lengths.items ways.new.before.items now (number + 1) }
+    ensures grown { HasGrown ways.old.lengths.items ways.new.lengths.items result }
+{
+    if ways.length_at(number) != now {
+        return false;
+    }
+    let mut found = false;
+    for k in 0..zone.graph.next_len(number) {
+        let follower = zone.graph.next_at(number, k, steps);
+        if reach_marked(ways, zone.inside, follower, number, now + 1) {
+            found = true;
         }
-        Ok(Ways { lengths, before })
     }
+    found
+}
 
-    /// The length of the way to a number.
-    pub(crate) fn length_at(&self, number: u32) -> u32
-        requires { number < length self.now.lengths.items }
-        ensures { result ≡ at self.now.lengths.items number }
-    {
-        self.lengths[number as usize]
-    }
-
-    /// The number before another on the way to it.
-    pub(crate) fn before_at(&self, number: u32) -> u32
-        requires { number < length self.now.before.items }
-        ensures { result ≡ at self.now.before.items number }
-    {
-        self.before[number as usize]
-    }
-
-    /// Puts a way of this length to a number, by the one before it, unless a way is known.
-    fn reach(&mut self, number: u32, before: u32, now: u32) -> bool
-        requires lengths { number < length self.old.lengths.items }
-        requires before { number < length self.old.before.items }
-        ensures unknown { result ≡ true → at self.old.lengths.items number ≡ FAR }
-        ensures known { result ≡ false → at self.old.lengths.items number < FAR }
-        ensures lengths { self.new.lengths.items ≡ (if result
-            then slice_set self.old.lengths.items number now else self.old.lengths.items) }
-        ensures before { self.new.before.items ≡ (if result
-            then slice_set self.old.before.items number before else self.old.before.items) }
-    {
-        if self.length_at(number) != FAR {
-            return false;
+/// Goes one step on from each number to which the way has this length. Says whether a way to
+/// some other was found.
+fn round<L: Ledger>(ways: &mut Ways, zone: &Zone<'_>, now: u32, steps: &mut Steps<L>) -> bool
+    requires zone { IsZone zone.now.graph.now zone.now.inside.now }
+    requires few { now < 262145 }
+    requires round { IsRound (graph_size zone.now.graph.now)
+        (next_in zone.now.graph.now zone.now.inside.now)
+        ways.old.lengths.items ways.old.before.items now 0 }
+    ensures round { IsRound (graph_size zone.now.graph.now)
+        (next_in zone.now.graph.now zone.now.inside.now)
+        ways.new.lengths.items ways.new.before.items now (graph_size zone.now.graph.now) }
+    ensures grown { HasGrown ways.old.lengths.items ways.new.lengths.items result }
+{
+    let mut found = false;
+    for number in 0..zone.graph.len() {
+        if visit(ways, zone, number, now, steps) {
+            found = true;
         }
-        self.lengths[number as usize] = now;
-        self.before[number as usize] = before;
-        true
     }
-
-    /// The same, for a number with a mark alone.
-    fn reach_marked(&mut self, inside: &[bool], number: u32, before: u32, now: u32) -> bool
-        requires inside { number < length inside.now }
-        requires lengths { number < length self.old.lengths.items }
-        requires before { number < length self.old.before.items }
-        ensures marked { result ≡ true → IsMarked inside.now number }
-        ensures unknown { result ≡ true → at self.old.lengths.items number ≡ FAR }
-        ensures known { result ≡ false → IsMarked inside.now number
-            → at self.old.lengths.items number < FAR }
-        ensures lengths { self.new.lengths.items ≡ (if result
-            then slice_set self.old.lengths.items number now else self.old.lengths.items) }
-        ensures before { self.new.before.items ≡ (if result
-            then slice_set self.old.before.items number before else self.old.before.items) }
-    {
-        if !is_marked(inside, number) {
-            return false;
-        }
-        self.reach(number, before, now)
-    }
-
-    /// Goes one step on from a number, where the way to it has this length. Says whether a way to
-    /// some other was found.
-    fn visit<L: Ledger>(
-        &mut self,
-        zone: &Zone<'_>,
-        number: u32,
-        now: u32,
-        steps: &mut Steps<L>,
-    ) -> bool
-        requires zone { IsZone zone.now.graph.now zone.now.inside.now }
-        requires number { number < graph_size zone.now.graph.now }
-        requires few { now < 262145 }
-        requires round { IsRound (graph_size zone.now.graph.now)
-            (next_in zone.now.graph.now zone.now.inside.now)
-            self.old.lengths.items self.old.before.items now number }
-        ensures round { IsRound (graph_size zone.now.graph.now)
-            (next_in zone.now.graph.now zone.now.inside.now)
-            self.new.lengths.items self.new.before.items now (number + 1) }
-        ensures grown { HasGrown self.old.lengths.items self.new.lengths.items result }
-    {
-        if self.length_at(number) != now {
-            return false;
-        }
-        let mut found = false;
-        for k in 0..zone.graph.next_len(number) {
-            let follower = zone.graph.next_at(number, k, steps);
-            if self.reach_marked(zone.inside, follower, number, now + 1) {
-                found = true;
-            }
-        }
-        found
-    }
-
-    /// Goes one step on from each number to which the way has this length. Says whether a way to
-    /// some other was found.
-    fn round<L: Ledger>(&mut self, zone: &Zone<'_>, now: u32, steps: &mut Steps<L>) -> bool
-        requires zone { IsZone zone.now.graph.now zone.now.inside.now }
-        requires few { now < 262145 }
-        requires round { IsRound (graph_size zone.now.graph.now)
-            (next_in zone.now.graph.now zone.now.inside.now)
-            self.old.lengths.items self.old.before.items now 0 }
-        ensures round { IsRound (graph_size zone.now.graph.now)
-            (next_in zone.now.graph.now zone.now.inside.now)
-            self.new.lengths.items self.new.before.items now (graph_size zone.now.graph.now) }
-        ensures grown { HasGrown self.old.lengths.items self.new.lengths.items result }
-    {
-        let mut found = false;
-        for number in 0..zone.graph.len() {
-            if self.visit(zone, number, now, steps) {
-                found = true;
-            }
-        }
-        found
-    }
-
-    /// The nearest of the numbers with a mark.
-    pub(crate) fn nearest(&self, marks: &[bool]) -> Option<u32>
-        requires count { length self.now.lengths.items ≡ length marks.now }
-        requires few { length marks.now ≤ 262144 }
-        ensures some { IfSome result (IsNearest self.now.lengths.items marks.now) }
-        ensures none { IfNone result ((i : ℕ) → IsMarked marks.now i
-            → at self.now.lengths.items i < FAR → ⊥) }
-    {
-        let mut nearest = None;
-        let mut least = FAR;
-        for i in 0..marks.len() {
-            if marks[i] && self.lengths[i] < least {
-                least = self.lengths[i];
-                nearest = Some(i as u32);
-            }
-        }
-        nearest
-    }
+    found
 }
 
 /// The shortest ways from the numbers with a mark, by steps to configurations of the part.
@@ -203,7 +115,7 @@ pub(crate) fn ways_from<L: Ledger>(
     let _count = zone.graph.len();
     let mut ways = Ways::new(alloc, starts)?;
     let mut now = 0;
-    while ways.round(zone, now, steps) {
+    while round(&mut ways, zone, now, steps) {
         now += 1;
     }
     Ok(ways)

@@ -22,9 +22,9 @@ ghost use Rattle.goal_witness.specs.Witnesses.{IsWitness, MissesGoal, witness_va
 
 use crate::failing::{Failing, failing_at, label_of};
 use crate::links::{How, Link};
-use crate::zones::is_marked;
 use ctl_syntax::Ctl;
 use exec_graph::{Graph, Steps};
+use plan_check::is_marked;
 use plan_rules::Plan;
 use plan_witness::{Run, RunStep, Scene};
 use std::alloc::{AllocError, Global};

@@ -52,7 +52,7 @@ pub(crate) fn has_end_outside(goal: &Cond, graph: &Graph) -> bool
 }
 
 /// A mark for each configuration that has no follower and is in the goal.
-pub(crate) fn goal_ends(alloc: Global, goal: &Cond, graph: &Graph) -> Result<Vec<bool>, AllocError>
+pub fn goal_ends(alloc: Global, goal: &Cond, graph: &Graph) -> Result<Vec<bool>, AllocError>
     requires { IsTrue (ids_below 256 goal.now) }
     ensures count { IfOk result (λ marks. length marks.items ≡ graph_size graph.now) }
     ensures marked { IfOk result (λ marks. (n i : ℕ) → IsTrue (ids_below n goal.now)

@@ -22,10 +22,12 @@ mod verdicts;
 pub use classes::check_class;
 pub use contexts::check_ctl;
 pub use counted::{judge_class, judge_ctl};
+pub use ends::goal_ends;
 pub use goals::labels;
 pub use labelling::{Join, joined, negated, same_label};
 pub use laws::{
     one_context_verdict, one_verdict, reasons_exclude_freedom, yes_is_met, yes_is_solution,
 };
-pub use spreading::{Along, Need, spread};
+pub use reaching::mark_leading;
+pub use spreading::{Along, Need, is_marked, spread};
 pub use verdicts::{Reason, Verdict};

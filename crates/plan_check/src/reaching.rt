@@ -12,7 +12,7 @@ use std::alloc::{AllocError, Global};
 use std::sync::ledger::Ledger;
 
 /// Marks each configuration from which some walk leads to a marked one.
-pub(crate) fn mark_leading<L: Ledger>(
+pub fn mark_leading<L: Ledger>(
     alloc: Global,
     graph: &Graph,
     marks: &mut Vec<bool>,

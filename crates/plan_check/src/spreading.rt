@@ -80,7 +80,7 @@ pub(crate) fn other(need: Need) -> Need
 }
 
 /// Whether a number has a mark.
-fn is_marked(marks: &[bool], number: u32) -> bool
+pub fn is_marked(marks: &[bool], number: u32) -> bool
     requires { number < length marks.now }
     ensures { result ≡ mark_at marks.now number }
 {

@@ -1,6 +1,7 @@
 -- What shows why a plan fails is reached by the plan.
-use Rattle.std.proofs.Common.{◌≡◌, ◌∙◌, List, [], ◌∷◌, map, refl, ap, arith}
+use Rattle.std.proofs.Common.{◌≡◌, ◌∙◌, List, [], ◌∷◌, map, refl, ap}
 use Rattle.std.specs.List.{Contains}
+use Rattle.list_laws.proofs.Elements.{some_element}
 use Rattle.task_core.specs.ContextPlans.{Configuration}
 use Rattle.task_core.specs.Paths.{IsPath, last_of}
 use Rattle.task_core.specs.Solutions.{IsReached, MayEnd, MayReachGoal}
@@ -19,10 +20,6 @@ use Rattle.exec_graph.specs.Executions.{GoesTo, IsReachedBy}
 use Rattle.exec_graph.specs.Orders.{in_first}
 use Rattle.plan_witness.specs.Ends.{IsEnd, IsEndInside, LeadsTo}
 use Rattle.plan_finding.specs.Shown.{ContextFailuresAreShown, FailuresAreShown}
-
-pub some_of : {X : Type 0} (xs : List X) → (xs ≡ [] → ⊥) → (x : X) × Contains xs x
-some_of [] some = absurd (some refl)
-some_of (x ∷ xs) some = (x, (0, omega arith, refl))
 
 module _ (sys : System) (ok : IsSystem sys) (written : Class) (rules : List PlanRule) where
   abbrev plan : PlainPlan
@@ -60,7 +57,7 @@ module _ (sys : System) (ok : IsSystem sys) (written : Class) (rules : List Plan
 
   pub terminal_at : (x : Configuration) → IsEnd sys plan x → IsTerminal pairs x.state
   terminal_at x end a pair =
-      let t = some_of (sys.next x.state a) (denoted-table sys ok rules x.state a pair).1 in
+      let t = some_element (sys.next x.state a) (denoted-table sys ok rules x.state a pair).1 in
       end (in_first t.0) (record { action = a; pair = pair; outcome = t.1 }, refl)
 
   reaches_goal : (x : Configuration) → LeadsTo sys plan (IsEndInside sys plan) x → MayReachGoal sys pairs x.state

@@ -1,10 +1,10 @@
 -- A plan with contexts that is a yes never ends.
+use Rattle.list_laws.proofs.Elements.{some_element}
 use Rattle.task_core.specs.Tasks.{system_of}
 use Rattle.plan_check.specs.declared.verdicts.Reason.TheVariants.{Stuck, Unexecutable}
 use Rattle.plan_rules.specs.Denoted.{denoted_contexts}
 use Rattle.list_laws.proofs.Options.{some_value}
 use Rattle.plan_finding.specs.Shown.{ContextPlansNeverEnd}
-use Rattle.plan_finding.proofs.Failures.{some_of}
 
 pub never_end : ContextPlansNeverEnd
 never_end task contexts rules goal bound is x reached end =
@@ -12,6 +12,6 @@ never_end task contexts rules goal bound is x reached end =
     let plan = denoted_contexts rules in
     let never = is.free Stuck in
     let a = some_value (plan.act x.state x.context) (never.acts x reached) in
-    let t = some_of (sys.next x.state a.0) (is.free Unexecutable x a.0 reached a.1) in
+    let t = some_element (sys.next x.state a.0) (is.free Unexecutable x a.0 reached a.1) in
     let next = some_value (plan.ctxt x.state x.context t.0) (never.contexts x a.0 t.0 reached a.1 t.1) in
     end (record { state = t.0; context = next.0 }) (record { action = a.0; acts = a.1; outcome = t.1; context = next.1 })

@@ -1,5 +1,5 @@
 -- Where a state stands among others.
-use Rattle.std.proofs.Common.{◌≡◌, ℕ, zero, suc, ◌+◌, ◌<◌, ◌≤◌, Bool, true, false, List, [], ◌∷◌, Contains, drop, get_or, length, map, slice_get, Some, refl, sym, ap, ◌∙◌, subst, arith}
+use Rattle.std.proofs.Common.{◌≡◌, ℕ, zero, suc, ◌+◌, ◌<◌, Bool, true, false, List, [], ◌∷◌, Contains, drop, get_or, length, map, slice_get, Some, refl, sym, ap, ◌∙◌, subst, arith}
 use Rattle.std.specs.Prelude.{if◌then◌else◌}
 use Rattle.std.specs.List.{All}
 use Rattle.std.proofs.Math.Seq.{drop-cons}
@@ -34,12 +34,6 @@ looked_past n xs i s w whole wx ww l is other total =
     let here : place_in (map (vector n) (drop i xs)) (vector n w) ≡ suc (place_in (map (vector n) (drop (suc i) xs)) (vector n w)) = looked n xs i s w wx ww l is ∙ ap (λ b. if b then 0 else suc (place_in (map (vector n) (drop (suc i) xs)) (vector n w))) other in
     let moved : i + suc (place_in (map (vector n) (drop (suc i) xs)) (vector n w)) ≡ (i + 1) + place_in (map (vector n) (drop (suc i) xs)) (vector n w) = omega arith in
     sym (moved ∙ ap (λ k. (i + 1) + place_in (map (vector n) (drop k xs)) (vector n w)) next) ∙ ap (λ k. i + k) (sym here) ∙ total
-
-pub drop_all : {X : Type 0} (xs : List X) (i : ℕ) → length xs ≤ i → drop i xs ≡ []
-drop_all [] zero l = refl
-drop_all [] (suc i) l = refl
-drop_all (x ∷ xs) zero l = absurd (omega (arith, l))
-drop_all (x ∷ xs) (suc i) l = drop_all xs i (omega (arith, l))
 
 -- a state of the list stands at its place
 stands_by : (w : Vector) (ws : List Vector) (v : Vector) (b : Bool) → same_vector w v ≡ b → ((h : Contains ws v) → slice_get ws (place_in ws v) ≡ Some v) → Contains (w ∷ ws) v

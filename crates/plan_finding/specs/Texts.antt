@@ -1,6 +1,6 @@
 -- The text of a run with what is the matter at its end: what is printed, byte for byte.
 use Rattle.std.specs.Prelude.{◌==◌, ◌&&◌, ◌+◌, ℕ, suc, Bool, true, List, [], ◌∷◌, ◌++◌, codes, decimal}
-use Rattle.std.specs.Prelude.{if◌then◌else◌, length, map, false, None, Option, Some, slice_index_or}
+use Rattle.std.specs.Prelude.{if◌then◌else◌, length, false, None, Option, Some, slice_index_or}
 use Rattle.std.specs.List.{flat_map}
 use Rattle.plan_finding.specs.Findings.{Ending, PlainFound, again_from, comes_back, in_goal, never_ending}
 use Rattle.goal_witness.specs.Texts.{false_lines}
@@ -10,7 +10,7 @@ use Rattle.plan_finding.specs.Stays.{PlainStays}
 use Rattle.plan_rules.specs.Rules.{PlainPlan, PlanRule, automaton, table}
 use Rattle.plan_rules.specs.Texts.{atom_text, line_feed, name_at}
 use Rattle.plan_witness.specs.Runs.{PlainRun, PlainStep}
-use Rattle.state_text.specs.Texts.{after_space, changes_text, condition_text, true_text}
+use Rattle.state_text.specs.Texts.{after_space, changes_text, conditions_text, number_text, true_text}
 use Rattle.task_core.specs.Cubes.{matches}
 use Rattle.task_core.specs.Names.{Name}
 use Rattle.task_core.specs.Vectors.{Vector}
@@ -49,10 +49,6 @@ move_text source step =
     rule_text source step.rule ++ codes ": " ++ atom_text (name_at source.actions step.action)
     ++ codes ", outcome " ++ decimal step.outcome
 
--- the number of a step, counted from 1, as step 3,
-abbrev pub number_text : ℕ → List ℕ
-number_text number = codes "step " ++ decimal number ++ codes ", "
-
 -- the lines of a step from a state: what it is, and a line for each change
 abbrev pub step_lines : Source → ℕ → Vector → PlainStep → List ℕ
 step_lines source number before step =
@@ -65,10 +61,6 @@ steps_text source number before [] = []
 steps_text source number before (step ∷ steps) =
     step_lines source number before step
     ++ steps_text source (number + 1) step.after.state steps
-
--- conditions, each after a space
-abbrev pub conditions_text : List Name → List Cond → List ℕ
-conditions_text fluents parts = flat_map after_space (map (condition_text fluents) parts)
 
 -- which parts of a precondition are false; where none is, it holds
 abbrev pub refusal_note : List Name → List Cond → List ℕ

@@ -99,7 +99,11 @@ pub(crate) fn ending_at<'a>(
 }
 
 /// The parts of the goal that are false in a state.
-fn false_goal<'a>(alloc: Global, task: &'a Task, state: &State) -> Result<Vec<&'a Cond>, AllocError>
+pub fn false_goal<'a>(
+    alloc: Global,
+    task: &'a Task,
+    state: &State,
+) -> Result<Vec<&'a Cond>, AllocError>
     requires goal { IsSome task.now.goal }
     ensures { let v = vector (fluent_count task.now) state.now in
         IfOk result (λ parts. HasFalseGoal task.now v (map (λ part. part.now) parts.items)) }
@@ -135,7 +139,7 @@ fn not_executable<'a>(
 }
 
 /// The parts of an action's precondition that are false in a state.
-fn false_precondition<'a>(
+pub fn false_precondition<'a>(
     alloc: Global,
     task: &'a Task,
     action: ActionId,

@@ -4,7 +4,6 @@ ghost use Rattle.plan_finding.specs.Aims.{HasGoalFor, IsAimAt};
 ghost use Rattle.plan_finding.specs.Findings.{IsFound, cycle_from as cycle_of};
 ghost use Rattle.plan_finding.specs.Places.{EndsReached};
 ghost use Rattle.plan_finding.specs.Values.{found_value};
-ghost use Rattle.plan_rules.specs.Plans.{IsPlanOf};
 ghost use Rattle.plan_rules.specs.Rules.{plain_of};
 ghost use Rattle.plan_witness.specs.Lassos.{ComesBack, IsLasso};
 ghost use Rattle.plan_witness.specs.Runs.{IsShortestRun, NoneReached};
@@ -12,7 +11,7 @@ ghost use Rattle.plan_witness.specs.Scenes.{IsFollowed, plan_in, sys_in};
 ghost use Rattle.plan_witness.specs.Values.{lasso_value, run_value};
 ghost use Rattle.plan_witness.specs.Within.{HasStepsWithin, IsRunWithin};
 ghost use Rattle.std.specs.Prelude.{◌≡◌, IfNone, IfOk, IfSome, ℕ};
-ghost use Rattle.task_core.specs.Tasks.{action_count, fluent_count, system_of};
+ghost use Rattle.task_core.specs.Tasks.{fluent_count, system_of};
 
 use crate::aims::{Aim, is_round};
 use crate::endings::{Ending, ending_at};

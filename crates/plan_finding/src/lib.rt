@@ -23,11 +23,11 @@ mod stays;
 mod texts;
 mod verdicts;
 
-pub use endings::{Ending, missed_lines};
+pub use endings::{Ending, false_goal, false_precondition, missed_lines};
 pub use findings::{Found, cycle_from};
 pub use laws::{context_plans_never_end, failures_are_shown};
 pub use misses::{JudgedBy, find_miss};
 pub use sources::{Source, line_at};
 pub use stays::Stays;
-pub use texts::{ending_sentence, finding_text};
+pub use texts::{ending_sentence, finding_text, push_initial, push_refusal, push_rule};
 pub use verdicts::{Finding, find_for_class, find_for_contexts, with_run};

@@ -6,14 +6,13 @@ ghost use Rattle.plan_guide.specs.RunRules.{IsRunRuleOf};
 ghost use Rattle.plan_rules.specs.Denoted.{denoted_contexts, rule_at};
 ghost use Rattle.plan_rules.specs.Plans.{IsPlanOf, IsRuleOf};
 ghost use Rattle.plan_rules.specs.Rules.{context_rule_of, plain_of, rule_of};
-ghost use Rattle.std.specs.Prelude.{◌≡◌, ◌<◌, All, IfNone, IfSome, None, false, map, true};
-ghost use Rattle.task_core.specs.Cubes.{matches};
+ghost use Rattle.std.specs.Prelude.{◌≡◌, ◌<◌, All, IfNone, IfSome, None, map};
 ghost use Rattle.task_core.specs.States.{IsWithin, vector};
 ghost use Rattle.task_core.specs.Systems.{Exec};
 ghost use Rattle.task_core.specs.Tasks.{action_count, fluent_count, system_of};
 
-use plan_rules::{AutoRule, Plan, Rule, has_all};
-use plan_witness::counting_rule;
+use plan_rules::{AutoRule, Plan, Rule};
+use plan_witness::{bad_rule_number, counting_rule};
 use task_core::{ActionId, State, Task, is_exec};
 
 /// A rule by its number in the plan's text, with its action.
@@ -57,35 +56,11 @@ fn bad_table_rule(task: &Task, rules: &[Rule], state: &State) -> Option<Chosen>
     ensures none { let v = vector (fluent_count task.now) state.now in
         IfNone result (HasBadRule (system_of task.now) (map rule_of rules.now) v → ⊥) }
 {
-    for number in 0..rules.len() {
-        let rule = &rules[number];
-        if is_bad_rule(task, rule, state) {
-            return Some(Chosen {
-                number,
-                action: rule.action,
-            });
-        }
-    }
-    None
-}
-
-/// Whether the rule matches the state, and its action can't be executed there.
-fn is_bad_rule(task: &Task, rule: &Rule, state: &State) -> bool
-    requires rule { let n = fluent_count task.now in let m = action_count task.now in
-        IsRuleOf n m (rule_of rule.now) }
-    requires inside { IsWithin (fluent_count task.now) state.now }
-    ensures matched { let v = vector (fluent_count task.now) state.now in
-        result ≡ true → matches rule.now.cube.items v ≡ true }
-    ensures refused { let v = vector (fluent_count task.now) state.now in
-        result ≡ true → Exec (system_of task.now) v rule.now.action.0 → ⊥ }
-    ensures good { let v = vector (fluent_count task.now) state.now in
-        result ≡ false → matches rule.now.cube.items v ≡ true
-        → Exec (system_of task.now) v rule.now.action.0 }
-{
-    if !has_all(task, &rule.cube, state) {
-        return false;
-    }
-    !is_exec(task, state, rule.action)
+    let number = bad_rule_number(task, rules, state)?;
+    Some(Chosen {
+        number,
+        action: rules[number].action,
+    })
 }
 
 /// The rule that counts in a state and a context, where its action can't be executed there.

@@ -5,7 +5,6 @@ ghost use Rattle.goal_witness.specs.Texts.{false_lines};
 ghost use Rattle.plan_finding.specs.Findings.{again_from as again_of};
 ghost use Rattle.plan_finding.specs.Texts.{
   back_text,
-  conditions_text,
   context_note,
   ending_text,
   first_match as first_match_of,
@@ -19,7 +18,6 @@ ghost use Rattle.plan_finding.specs.Texts.{
   missed_text,
   more_text,
   move_text,
-  number_text,
   numbers_text,
   outcomes_text,
   record_line,
@@ -47,7 +45,6 @@ ghost use Rattle.plan_rules.specs.Rules.{plain_of, rule_of};
 ghost use Rattle.plan_witness.specs.Values.{run_value, step_value, steps_value};
 ghost use Rattle.std.specs.Option.{option_map};
 ghost use Rattle.std.specs.Prelude.{◌≡◌, ◌++◌, All, IfOk, OnOk, Some, map, string_bytes, ℕ};
-ghost use Rattle.task_core.specs.Names.{name_bytes};
 ghost use Rattle.task_core.specs.States.{vector};
 ghost use Rattle.task_core.specs.Tasks.{action_count, fluent_count, fluent_names};
 
@@ -59,7 +56,7 @@ use crate::verdicts::Finding;
 use goal_witness::{Line, push_lines};
 use plan_rules::{Plan, Rule, has_all, push_number};
 use plan_witness::{Run, RunStep};
-use state_text::{push_action, push_changes, push_condition, push_true};
+use state_text::{push_action, push_changes, push_parts, push_step_number, push_true};
 use std::alloc::{AllocError, Global};
 use task_core::{Cond, State, Task};
 
@@ -239,7 +236,7 @@ pub fn ending_sentence(
 }
 
 /// Appends the line of the initial state.
-fn push_initial(
+pub fn push_initial(
     out: &mut String,
     task: &Task,
     number: usize,
@@ -292,15 +289,6 @@ fn push_step(
     push_changes(out, source.task, before, &step.state)
 }
 
-/// Appends the number of a step.
-fn push_step_number(out: &mut String, number: usize) -> Result<(), AllocError>
-    ensures { OnOk result (string_bytes out.new ≡ string_bytes out.old ++ number_text number) }
-{
-    out.push_str("step ")?;
-    push_number(out, number)?;
-    out.push_str(", ")
-}
-
 /// Appends the rule, the action and the outcome of a step.
 fn push_move(out: &mut String, source: &Source<'_>, step: &RunStep) -> Result<(), AllocError>
     ensures { (n : ℕ) → OnOk result (string_bytes out.new ≡ string_bytes out.old
@@ -314,7 +302,7 @@ fn push_move(out: &mut String, source: &Source<'_>, step: &RunStep) -> Result<()
 }
 
 /// Appends a rule, with its line.
-fn push_rule(out: &mut String, source: &Source<'_>, rule: usize) -> Result<(), AllocError>
+pub fn push_rule(out: &mut String, source: &Source<'_>, rule: usize) -> Result<(), AllocError>
     ensures { OnOk result (string_bytes out.new ≡ string_bytes out.old
         ++ rule_text (source_value source.now) rule) }
 {
@@ -455,7 +443,7 @@ fn push_again(out: &mut String, number: usize) -> Result<(), AllocError>
 }
 
 /// Appends which parts of a precondition are false.
-fn push_refusal(out: &mut String, task: &Task, parts: &[&Cond]) -> Result<(), AllocError>
+pub fn push_refusal(out: &mut String, task: &Task, parts: &[&Cond]) -> Result<(), AllocError>
     ensures { OnOk result (string_bytes out.new ≡ string_bytes out.old
         ++ refusal_note (fluent_names task.now) (map (λ part. part.now) parts.now)) }
 {
@@ -464,18 +452,6 @@ fn push_refusal(out: &mut String, task: &Task, parts: &[&Cond]) -> Result<(), Al
     }
     out.push_str("false is")?;
     push_parts(out, task, parts)
-}
-
-/// Appends conditions, each after a space.
-fn push_parts(out: &mut String, task: &Task, parts: &[&Cond]) -> Result<(), AllocError>
-    ensures { OnOk result (string_bytes out.new ≡ string_bytes out.old
-        ++ conditions_text (fluent_names task.now) (map (λ part. part.now) parts.now)) }
-{
-    for part in parts {
-        out.push(' ')?;
-        push_condition(out, &task.fluents, part)?;
-    }
-    Ok(())
 }
 
 /// Appends the record of a run, or that there is none.

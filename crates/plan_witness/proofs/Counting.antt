@@ -1,6 +1,6 @@
 -- The rule that counts, by its number and as the rules denote it.
 use Rattle.std.proofs.Common.{◌≡◌, ℕ, zero, suc, ◌<◌, ◌↔◌, Bool, true, false, not, List, [], ◌∷◌, map, Option, None, Some, refl, sym, ap, ◌∙◌, subst, arith, ⊎_elim, inl, inr}
-use Rattle.std.specs.Prelude.{IsTrue, find, length, slice_get}
+use Rattle.std.specs.Prelude.{IsTrue, find, slice_get}
 use Rattle.std.specs.List.{All, Contains}
 use Rattle.std.specs.Option.{IfNone, IsSome, option_and_then, option_map}
 use Rattle.std.proofs.lemmas.List.Elements.{All-weaker}
@@ -61,11 +61,6 @@ by_rule sys rules x y rule at f =
 
 pub no_rule : (sys : System) (rules : List ContextRule) (x y : Configuration) → rule_at rules x.state x.context ≡ None → Follows sys (denoted_contexts rules) x y → ⊥
 no_rule sys rules x y none f = none-some f.action (sym (ap (λ (o : Option ContextRule). option_map (λ (r : ContextRule). r.action) o) none) ∙ f.acts)
-
-pub get_below : {X : Type 0} (xs : List X) (k : ℕ) (x : X) → slice_get xs k ≡ Some x → k < length xs
-get_below [] k x e = absurd (none-some x e)
-get_below (y ∷ ys) zero x e = omega arith
-get_below (y ∷ ys) (suc k) x e = let l = get_below ys k x e in omega (arith, l)
 
 -- there is a value where there being none contradicts a fact
 pub some_by : {X : Type 0} (o : Option X) (A : Type 0) → A → IfNone o (A → ⊥) → IsSome o

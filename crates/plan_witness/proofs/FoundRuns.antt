@@ -2,7 +2,7 @@
 use Rattle.std.proofs.Common.{◌≡◌, ◌↔◌, ℕ, suc, ◌<◌, ◌+◌, Bool, false, List, [], ◌∷◌, ◌++◌, length, take, get_or, nat_lt, refl, sym, ap, ◌∙◌, subst, arith}
 use Rattle.std.specs.List.{Contains}
 use Rattle.std.proofs.lemmas.Grind.{get_or_default_zero}
-use Rattle.std.proofs.lemmas.List.{take_more}
+use Rattle.std.proofs.lemmas.List.{take_more, map-append}
 use Rattle.task_core.specs.ContextPlans.{Configuration}
 use Rattle.task_core.specs.States.{vector}
 use Rattle.task_core.specs.Systems.{System}
@@ -16,6 +16,7 @@ use Rattle.exec_graph.specs.Values.{followers_at, graph_size, plain_graph, state
 use Rattle.exec_graph.specs.declared.graphs.Graph.{Graph}
 use Rattle.plan_check.specs.Walks.{IsMarked, IsWalk, last_number}
 use Rattle.plan_check.proofs.MarkFacts.{marked_below}
+use Rattle.plan_check.proofs.WalkFacts.{last_below}
 use Rattle.plan_witness.specs.Lassos.{ComesBack, IsShortestRound}
 use Rattle.plan_witness.specs.Marked.{IsGraphIn, IsMarkedPlace, IsRoundAlong, IsRunAlong, place_at}
 use Rattle.plan_witness.specs.Runs.{IsShortestRun, IsStepOf, NoneReached, PlainStep, end_of}
@@ -23,7 +24,7 @@ use Rattle.plan_witness.specs.Values.{run_value, step_value, steps_value}
 use Rattle.plan_witness.specs.Ways.{IsOnRound, IsShortestRoundAt, IsShortestWay, NoneLeads}
 use Rattle.plan_witness.specs.declared.runs.Run.{Run}
 use Rattle.plan_witness.specs.declared.runs.RunStep.{RunStep}
-use Rattle.plan_witness.proofs.GraphRuns.{along_ends, along_more, begins_initial, map_push, last_node, none_along, round_along, round_meaning, shortest_along, step_goes}
+use Rattle.plan_witness.proofs.GraphRuns.{along_ends, along_more, begins_initial, none_along, round_along, round_meaning, shortest_along, step_goes}
 use Rattle.plan_witness.proofs.Meanings.{at_place, marked_meaning}
 use Rattle.plan_witness.proofs.Walks.{last_at, walk_at}
 
@@ -77,7 +78,7 @@ module _ (task : Task) (plan : Plan) (graph : Graph) (g : IsGraphIn task plan gr
   stem_none = none_found (ComesBack sys plain) (IsOnRound (followers_at graph)) (round_meaning sys plain (plain_graph n graph) g)
 
   pub way_below : (Q : ℕ → Type 0) (start end : ℕ) (numbers : List ℕ) → IsShortestWay (followers_at graph) seen Q start numbers → last_number start numbers ≡ end → end < graph_size graph
-  way_below Q start end numbers way is = subst (λ k. k < graph_size graph) is (last_node sys plain (plain_graph n graph) g start numbers (start_below start way.begins) way.walk)
+  way_below Q start end numbers way is = subst (λ k. k < graph_size graph) is (last_below (graph_size graph) (followers_at graph) g.next_below start numbers (start_below start way.begins) way.walk)
 
   pub round_found : (start end : ℕ) (numbers : List ℕ) (run : Run) (back : ℕ) (backs : List ℕ) (steps : List PlainStep)
       → IsShortestWay (followers_at graph) seen (IsOnRound (followers_at graph)) start numbers → last_number start numbers ≡ end → vector n run.start ≡ state_at n graph start
@@ -113,7 +114,7 @@ along_step sys plan place n start numbers k from number steps step l is last alo
     let more = along_more sys plan place start (take k numbers) (steps_value n steps) number (step_value n step) along (subst (λ i. IsStepOf sys plan (place i) (step_value n step)) last s) after in
     let grown : take (k + 1) numbers ≡ take k numbers ++ number ∷ [] = take_more numbers k number l ∙ ap (λ x. take k numbers ++ x ∷ []) (sym is) in
     subst (λ xs. IsRunAlong sys plan place start xs (steps_value n (steps ++ step ∷ []))) (sym grown)
-    (subst (IsRunAlong sys plan place start (take k numbers ++ number ∷ [])) (sym (map_push (step_value n) steps step)) more)
+    (subst (IsRunAlong sys plan place start (take k numbers ++ number ∷ [])) (sym (map-append (step_value n) steps (step ∷ []))) more)
 
 pub along_nothing : (sys : System) (plan : PlainPlan) (place : ℕ → Configuration) (start : ℕ) → IsRunAlong sys plan place start [] []
 along_nothing _ plan place start = record { run_of = tt; places = refl }

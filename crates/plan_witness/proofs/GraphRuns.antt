@@ -1,23 +1,21 @@
 -- The walks of a plan's graph are the paths of the plan, and the runs along them.
 use Rattle.std.proofs.Common.{◌≡◌, ◌↔◌, ℕ, ◌<◌, Bool, false, List, [], ◌∷◌, ◌++◌, length, map, get_or, refl, sym, ap, ◌∙◌, subst, arith}
 use Rattle.std.specs.List.{Contains}
-use Rattle.std.proofs.lemmas.List.{length-map}
+use Rattle.std.proofs.lemmas.List.{length-map, map-append}
 use Rattle.task_core.specs.Systems.{System}
 use Rattle.task_core.specs.ContextPlans.{Configuration, IsInitial}
 use Rattle.task_core.specs.Paths.{IsPath, last_of}
+use Rattle.task_core.proofs.Paths.{last_onward, path_onward}
 use Rattle.plan_rules.specs.Rules.{PlainPlan}
 use Rattle.exec_graph.specs.Executions.{GoesTo, IsReachedBy}
 use Rattle.exec_graph.specs.Graphs.{IsGraphOf, PlainGraph}
 use Rattle.exec_graph.proofs.Reaching.{reached_first, reached_keeps, reached_next}
 use Rattle.plan_check.specs.Walks.{IsMarked, IsWalk, last_number}
+use Rattle.plan_check.proofs.WalkFacts.{last_below}
 use Rattle.plan_witness.specs.Lassos.{ComesBack, IsShortestRound}
 use Rattle.plan_witness.specs.Marked.{IsRunAlong}
 use Rattle.plan_witness.specs.Runs.{IsRunOf, IsShortestRun, IsStepOf, NoneReached, PlainRun, PlainStep, end_of}
 use Rattle.plan_witness.specs.Ways.{IsOnRound, IsShortestRoundAt, IsShortestWay, NoneLeads}
-
-pub map_push : {X Y : Type 0} (f : X → Y) (xs : List X) (x : X) → map f (xs ++ x ∷ []) ≡ map f xs ++ f x ∷ []
-map_push f [] x = refl
-map_push f (y ∷ ys) x = ap (λ zs. f y ∷ zs) (map_push f ys x)
 
 -- a run ends in the last of the configurations to which its steps lead
 pub ends_last : (x : Configuration) (steps : List PlainStep) → end_of x steps ≡ last_of x (map (λ (step : PlainStep). step.after) steps)
@@ -45,10 +43,10 @@ module _ (sys : System) (plan : PlainPlan) (place : ℕ → Configuration) where
   along_more start numbers steps number step r s after = record {
     run_of = run_push (place start) steps step r.run_of (subst (λ x. IsStepOf sys plan x step) (sym (along_ends start numbers steps r)) s);
     places =
-        map_push (λ (t : PlainStep). t.after) steps step
+        map-append (λ (t : PlainStep). t.after) steps (step ∷ [])
         ∙ ap (λ xs. xs ++ step.after ∷ []) r.places
         ∙ ap (λ x. map place numbers ++ x ∷ []) after
-        ∙ sym (map_push place numbers number);
+        ∙ sym (map-append place numbers (number ∷ []));
   }
 
 module _ (sys : System) (plan : PlainPlan) (graph : PlainGraph) (h : IsGraphOf sys plan graph) where
@@ -76,10 +74,6 @@ module _ (sys : System) (plan : PlainPlan) (graph : PlainGraph) (h : IsGraphOf s
   pub path_of : (i : ℕ) (rest : List ℕ) → i < graph.size → IsWalk graph.next i rest → IsPath (GoesTo sys plan) (place i) (map place rest)
   path_of i [] l w = tt
   path_of i (j ∷ rest) l w = (step_goes i j l w.0, path_of j rest (h.next_below i j l w.0) w.1)
-
-  pub last_node : (i : ℕ) (rest : List ℕ) → i < graph.size → IsWalk graph.next i rest → last_number i rest < graph.size
-  last_node i [] l w = l
-  last_node i (j ∷ rest) l w = last_node j rest (h.next_below i j l w.0) w.1
 
   -- paths are walks
   pub record IsWalkOf (i : ℕ) (rest : List Configuration) : Type 0 where
@@ -110,14 +104,6 @@ module _ (sys : System) (plan : PlainPlan) (graph : PlainGraph) (h : IsGraphOf s
     path : IsPath (GoesTo sys plan) start rest
     ends : last_of start rest ≡ x
 
-  path_onward : (x : Configuration) (rest : List Configuration) (y : Configuration) → IsPath (GoesTo sys plan) x rest → GoesTo sys plan (last_of x rest) y → IsPath (GoesTo sys plan) x (rest ++ y ∷ [])
-  path_onward x [] y path goes = (goes, tt)
-  path_onward x (z ∷ rest) y path goes = (path.0, path_onward z rest y path.1 goes)
-
-  path_ends : (x : Configuration) (rest : List Configuration) (y : Configuration) → last_of x (rest ++ y ∷ []) ≡ y
-  path_ends x [] y = refl
-  path_ends x (z ∷ rest) y = path_ends z rest y
-
   path_to : (x : Configuration) → IsReachedBy sys plan x → IsPathTo x
   path_to =
       reached_keeps sys IsPathTo plan
@@ -126,8 +112,8 @@ module _ (sys : System) (plan : PlainPlan) (graph : PlainGraph) (h : IsGraphOf s
         start = p.start;
         initial = p.initial;
         rest = p.rest ++ y ∷ [];
-        path = path_onward p.start p.rest y p.path (subst (λ z. GoesTo sys plan z y) (sym p.ends) goes);
-        ends = path_ends p.start p.rest y;
+        path = path_onward (GoesTo sys plan) p.start p.rest y p.path (subst (λ z. GoesTo sys plan z y) (sym p.ends) goes);
+        ends = last_onward p.start p.rest y;
       })
 
   pub begins_initial : (starts : List Bool) → ((i : ℕ) → i < graph.size → get_or starts i false ≡ graph.initial i) → (i : ℕ) → i < graph.size → IsMarked starts i → IsInitial sys (place i)
@@ -151,14 +137,14 @@ module _ (sys : System) (plan : PlainPlan) (graph : PlainGraph) (h : IsGraphOf s
         let is = from.1.is in
         let w = walk_of i rest l (subst (λ x. IsPath (GoesTo sys plan) x rest) (sym is) path) in
         let ends : place (last_number i w.numbers) ≡ last_of start rest = end_of_walk i rest w ∙ ap (λ x. last_of x rest) is in
-        (i, w.numbers, from.2, w.walk, (meaning (last_number i w.numbers) (last_node i w.numbers l w.walk)).1 (subst P (sym ends) p), length_walk i rest w)
+        (i, w.numbers, from.2, w.walk, (meaning (last_number i w.numbers) (last_below graph.size graph.next h.next_below i w.numbers l w.walk)).1 (subst P (sym ends) p), length_walk i rest w)
 
     pub shortest_along : (start : ℕ) (numbers : List ℕ) → start < graph.size → IsShortestWay graph.next starts Q start numbers
         → (run : PlainRun) → run.start ≡ place start → IsRunAlong sys plan place start numbers run.steps → IsShortestRun sys plan P run
     shortest_along start numbers l way run begins along = record {
       initial = subst (IsInitial sys) (sym begins) (begins_initial starts marks start l way.begins);
       run_of = subst (λ x. IsRunOf sys plan x run.steps) (sym begins) along.run_of;
-      shows = subst P (sym (ap (λ x. end_of x run.steps) begins ∙ along_ends sys plan place start numbers run.steps along)) ((meaning (last_number start numbers) (last_node start numbers l way.walk)).0 way.shows);
+      shows = subst P (sym (ap (λ x. end_of x run.steps) begins ∙ along_ends sys plan place start numbers run.steps along)) ((meaning (last_number start numbers) (last_below graph.size graph.next h.next_below start numbers l way.walk)).0 way.shows);
       shortest = λ from rest initial path p.
           let w = walk_from from rest initial path p in
           let least = way.least w.0 w.1 w.2 w.3 w.4 in
@@ -192,7 +178,7 @@ module _ (sys : System) (plan : PlainPlan) (graph : PlainGraph) (h : IsGraphOf s
           follower = j;
           rest = w.numbers;
           walk = (at.2, w.walk);
-          round = h.once (last_number j w.numbers) i (last_node j w.numbers at.1.below w.walk) l ends;
+          round = h.once (last_number j w.numbers) i (last_below graph.size graph.next h.next_below j w.numbers at.1.below w.walk) l ends;
         }),
   )
 
@@ -210,7 +196,7 @@ module _ (sys : System) (plan : PlainPlan) (graph : PlainGraph) (h : IsGraphOf s
         let is = at.1.is in
         let w = walk_of j rest at.1.below (subst (λ x. IsPath (GoesTo sys plan) x rest) (sym is) path.1) in
         let ends : place (last_number j w.numbers) ≡ place i = end_of_walk j rest w ∙ ap (λ x. last_of x rest) is ∙ round in
-        let least = r.least j w.numbers (at.2, w.walk) (h.once (last_number j w.numbers) i (last_node j w.numbers at.1.below w.walk) l ends) in
+        let least = r.least j w.numbers (at.2, w.walk) (h.once (last_number j w.numbers) i (last_below graph.size graph.next h.next_below j w.numbers at.1.below w.walk) l ends) in
         let long = length_walk j rest w in
         let same = along_length sys plan place start numbers steps along in
         omega (arith, least, long, same);

@@ -3,6 +3,7 @@ use Rattle.std.proofs.Common.{◌≡◌, ℕ, ◌+◌, ◌<◌, ◌≤◌, Bool,
 use Rattle.std.specs.List.{Contains}
 use Rattle.plan_check.specs.Walks.{IsMarked, IsWalk, StaysBelow, last_number}
 use Rattle.plan_check.proofs.MarkFacts.{marked_below}
+use Rattle.plan_check.proofs.WalkFacts.{last_below}
 use Rattle.plan_witness.specs.Ways.{AreWays, IsNearest, IsShortestWay, IsWayBack, NoneLeads, at, far}
 
 pub back_facts : (n : ℕ) (next : ℕ → List ℕ) (starts : List Bool) (lengths before : List ℕ) → AreWays n next starts lengths before
@@ -52,11 +53,6 @@ module _ (n : ℕ) (next : ℕ → List ℕ) (starts : List Bool) (lengths befor
   pub none : (ends : List Bool) → ((i : ℕ) → IsMarked ends i → at lengths i < far → ⊥) → NoneLeads next starts (IsMarked ends)
   none ends never i rest m walk e = never (last_number i rest) e (from_start i rest m walk).reached
 
-  -- a walk stays below
-  last_below : (i : ℕ) (rest : List ℕ) → i < n → IsWalk next i rest → last_number i rest < n
-  last_below i [] l walk = l
-  last_below i (j ∷ rest) l walk = last_below j rest (stays i j l walk.0) walk.1
-
   -- the same for any property of numbers
   pub shortest_to : (P : ℕ → Type 0) (end start : ℕ) (numbers : List ℕ) → P end → ((j : ℕ) → j < n → P j → at lengths end ≤ at lengths j) → IsWayBack n next lengths end start numbers
       → IsShortestWay next starts P start numbers
@@ -67,11 +63,11 @@ module _ (n : ℕ) (next : ℕ → List ℕ) (starts : List Bool) (lengths befor
     least = λ i rest m walk e.
         let b = from_start i rest m walk in
         let most = b.most in
-        let low = least (last_number i rest) (last_below i rest (subst (λ k. i < k) count (marked_below starts i m)) walk) e in
+        let low = least (last_number i rest) (last_below n next stays i rest (subst (λ k. i < k) count (marked_below starts i m)) walk) e in
         let long = x.long in
         omega (arith, most, low, long);
   }
 
   pub none_to : (P : ℕ → Type 0) → ((i : ℕ) → i < n → P i → at lengths i < far → ⊥) → NoneLeads next starts P
   none_to P never i rest m walk e =
-      never (last_number i rest) (last_below i rest (subst (λ k. i < k) count (marked_below starts i m)) walk) e (from_start i rest m walk).reached
+      never (last_number i rest) (last_below n next stays i rest (subst (λ k. i < k) count (marked_below starts i m)) walk) e (from_start i rest m walk).reached

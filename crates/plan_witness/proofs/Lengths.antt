@@ -15,7 +15,7 @@ use Rattle.exec_graph.specs.Executions.{GoesTo, IsReachedBy}
 use Rattle.exec_graph.specs.Values.{followers_at, graph_size, plain_graph, state_at}
 use Rattle.exec_graph.specs.declared.graphs.Graph.{Graph}
 use Rattle.plan_check.specs.Walks.{last_number}
-use Rattle.plan_check.proofs.WalkFacts.{walk_append}
+use Rattle.plan_check.proofs.WalkFacts.{last_below, walk_append}
 use Rattle.plan_witness.specs.Ends.{IsEnd}
 use Rattle.plan_witness.specs.Heights.{AreHeights, HasNoStart, HasWalksWithin, IsHighestStart, IsWayDown}
 use Rattle.plan_witness.specs.Longest.{HasPathsWithin, IsLongestRun}
@@ -24,7 +24,7 @@ use Rattle.plan_witness.specs.Runs.{IsRunOf, PlainStep, end_of}
 use Rattle.plan_witness.specs.Values.{run_value, steps_value}
 use Rattle.plan_witness.specs.Ways.{at}
 use Rattle.plan_witness.specs.declared.runs.Run.{Run}
-use Rattle.plan_witness.proofs.GraphRuns.{along_ends, along_length, last_node, length_walk, node_of, path_of, walk_of}
+use Rattle.plan_witness.proofs.GraphRuns.{along_ends, along_length, length_walk, node_of, path_of, walk_of}
 use Rattle.plan_witness.proofs.Meanings.{end_meaning}
 use Rattle.plan_witness.proofs.Tall.{walk_low}
 
@@ -82,7 +82,7 @@ module _ (task : Task) (plan : Plan) (graph : Graph) (g : IsGraphIn task plan gr
     pub reached_down : (numbers : List ℕ) (run : Run) → IsWayDown (followers_at graph) start numbers (at heights start) → vector n run.start ≡ state_at n graph start
         → IsRunAlong sys plain (place_at n graph) start numbers (steps_value n run.steps.items) → IsReachedBy sys plain (end_of (run_value n run).start (run_value n run).steps)
     reached_down numbers run down e along =
-        let last = last_node sys plain (plain_graph n graph) g start numbers s.below down.walk in
+        let last = last_below (graph_size graph) (followers_at graph) g.next_below start numbers s.below down.walk in
         subst (IsReachedBy sys plain) (sym (ap (λ x. end_of x (steps_value n run.steps.items)) (begins run e) ∙ along_ends sys plain (place_at n graph) start numbers (steps_value n run.steps.items) along))
         (g.reached (last_number start numbers) last)
 
@@ -95,7 +95,7 @@ module _ (task : Task) (plan : Plan) (graph : Graph) (g : IsGraphIn task plan gr
           run_of = subst (λ x. IsRunOf sys plain x (steps_value n run.steps.items)) (sym b) along.run_of;
           end =
               subst (IsEnd sys plain) (sym (ap (λ x. end_of x (steps_value n run.steps.items)) b ∙ along_ends sys plain (place_at n graph) start numbers (steps_value n run.steps.items) along))
-              ((end_meaning task plan graph g (last_number start numbers) (last_node sys plain (plain_graph n graph) g start numbers s.below down.walk)).0 (ends_walk numbers down));
+              ((end_meaning task plan graph g (last_number start numbers) (last_below (graph_size graph) (followers_at graph) g.next_below start numbers s.below down.walk)).0 (ends_walk numbers down));
           longest = λ from rest initial path.
               let at = node_of sys plain (plain_graph n graph) g from (reached_first sys plain from initial) in
               let is = at.1.is in

@@ -6,7 +6,6 @@ pub mod GraphRuns
 pub mod Counting
 pub mod Meanings
 pub mod FoundRuns
-pub mod Leads
 pub mod Everywhere
 pub mod Tall
 pub mod Lengths

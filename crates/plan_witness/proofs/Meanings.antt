@@ -1,5 +1,5 @@
 -- The reasons, at the numbers of a graph and at the configurations of its plan.
-use Rattle.std.proofs.Common.{◌≡◌, ◌↔◌, ℕ, ◌<◌, Bool, true, false, not, List, [], ◌∷◌, map, Option, Some, None, Result, Ok, Err, refl, sym, ◌∙◌, subst, arith}
+use Rattle.std.proofs.Common.{◌≡◌, ◌↔◌, ℕ, ◌<◌, Bool, true, false, not, List, [], ◌∷◌, length, map, Option, Some, None, Result, Ok, Err, refl, sym, ◌∙◌, subst, arith}
 use Rattle.std.specs.List.{Contains}
 use Rattle.std.specs.Option.{IfNone, IfSome}
 use Rattle.std.specs.Result.{IfOk}
@@ -11,6 +11,7 @@ use Rattle.task_core.specs.Tasks.{fluent_count, system_of}
 use Rattle.task_core.specs.Vectors.{Vector}
 use Rattle.task_core.specs.declared.conditions.Cond.{Cond}
 use Rattle.task_core.specs.declared.tasks.Task.{Task}
+use Rattle.task_core.proofs.Paths.{path_keeps}
 use Rattle.task_core.proofs.TaskSystem.{goal_states_of, is_system, states_where_has, states_where_holds}
 use Rattle.plan_rules.specs.Rules.{plain_of, PlainPlan}
 use Rattle.plan_rules.specs.declared.rules.Plan.{Plan}
@@ -18,15 +19,17 @@ use Rattle.exec_graph.proofs.Reaching.{reached_first, reached_next, reached_stat
 use Rattle.exec_graph.specs.Executions.{GoesTo, IsReachedBy}
 use Rattle.exec_graph.specs.Values.{followers_at, graph_size, plain_graph, state_at}
 use Rattle.exec_graph.specs.declared.graphs.Graph.{Graph}
+use Rattle.plan_check.specs.Labels.{IsNegated, mark_at}
 use Rattle.plan_check.specs.Plain.{IsGoalEnd, is_goal_at}
 use Rattle.plan_check.specs.Walks.{IsMarked, LeadsToMarked, last_number}
+use Rattle.plan_check.proofs.WalkFacts.{last_below}
 use Rattle.plan_witness.specs.Ends.{IsEnd, IsEndInside, IsEndOutside, IsEndless, IsLostStart, IsNumberOutside, LeadsTo}
 use Rattle.plan_witness.specs.Leading.{IsMarkedStart}
 use Rattle.plan_witness.specs.Marked.{IsGraphIn, IsMarkedPlace, place_at}
 use Rattle.plan_witness.specs.Runs.{IsShortestRun, NoneReached, PlainRun}
 use Rattle.plan_witness.specs.Values.{run_value}
 use Rattle.plan_witness.specs.declared.runs.Run.{Run}
-use Rattle.plan_witness.proofs.GraphRuns.{end_of_walk, last_node, last_place, node_of, path_of, step_goes, step_to, walk_of}
+use Rattle.plan_witness.proofs.GraphRuns.{end_of_walk, last_place, node_of, path_of, step_goes, step_to, walk_of}
 
 pub if_found : {R E : Type 0} (r : Result (Option R) E) (P Q : R → Type 0) → ((x : R) → P x → Q x) → IfOk r (λ o. IfSome o P) → IfOk r (λ o. IfSome o Q)
 if_found (Ok (Some x)) P Q f h = f x h
@@ -38,19 +41,21 @@ if_none (Ok (Some x)) A B f h = tt
 if_none (Ok None) A B f h = f h
 if_none (Err e) A B f h = tt
 
-pub not_true : (b : Bool) → not b ≡ true → b ≡ false
-not_true true e = absurd (false≢true e)
-not_true false e = refl
-
-pub not_marked : (b m : Bool) → b ≡ m → (not b ≡ true) ↔ (m ≡ true → ⊥)
-not_marked true m e = ((λ h. absurd (false≢true h)), (λ no. absurd (no (sym e))))
-not_marked false m e = ((λ _ h. false≢true (e ∙ h)), (λ _. refl))
+not_marked : (b : Bool) → (not b ≡ true) ↔ (b ≡ true → ⊥)
+not_marked true = ((λ h. absurd (false≢true h)), (λ no. absurd (no refl)))
+not_marked false = ((λ _ h. false≢true h), (λ _. refl))
 
 pub both_ways : {A B C : Type 0} → A ↔ B → B ↔ C → A ↔ C
 both_ways f g = ((λ a. g.0 (f.0 a)), (λ c. f.1 (g.1 c)))
 
 pub neither : {A B : Type 0} → A ↔ B → (A → ⊥) ↔ (B → ⊥)
 neither f = ((λ no b. no (f.1 b)), (λ no a. no (f.0 a)))
+
+-- a number has the one mark exactly where it leads to no end, if it has the other exactly where it does
+pub none_lead : (n : ℕ) (next : ℕ → List ℕ) (ends lead others : List Bool) → length lead ≡ n → ((i : ℕ) → i < n → IsMarked lead i ↔ LeadsToMarked next ends i) → IsNegated (length lead) lead others
+    → (i : ℕ) → i < n → IsMarked others i ↔ (LeadsToMarked next ends i → ⊥)
+none_lead n next ends lead others long leads is i l =
+    both_ways (subst (λ (b : Bool). (b ≡ true) ↔ (IsMarked lead i → ⊥)) (sym (is.each i (subst (λ k. i < k) (sym long) l))) (not_marked (mark_at lead i))) (neither (leads i l))
 
 pub at_place : (n : ℕ) (graph : Graph) (i : ℕ) (s : Vector) (c : ℕ) → (place_at n graph i).state ≡ s → (place_at n graph i).context ≡ c → place_at n graph i ≡ record { state = s; context = c }
 at_place n graph i s c e f = λ k. record { state = e k; context = f k }
@@ -105,7 +110,7 @@ module _ (task : Task) (plan : Plan) (graph : Graph) (g : IsGraphIn task plan gr
   leads_meaning ends P meaning i l = (
     (λ x.
         let e = last_number i x.rest in
-        let below = last_node sys plain (plain_graph n graph) g i x.rest l x.walk in
+        let below = last_below (graph_size graph) (followers_at graph) g.next_below i x.rest l x.walk in
         record {
           rest = map (place_at n graph) x.rest;
           path = path_of sys plain (plain_graph n graph) g i x.rest l x.walk;
@@ -114,7 +119,7 @@ module _ (task : Task) (plan : Plan) (graph : Graph) (g : IsGraphIn task plan gr
     (λ x.
         let w = walk_of sys plain (plain_graph n graph) g i x.rest l x.path in
         let e = last_number i w.numbers in
-        let below = last_node sys plain (plain_graph n graph) g i w.numbers l w.walk in
+        let below = last_below (graph_size graph) (followers_at graph) g.next_below i w.numbers l w.walk in
         let at = end_of_walk sys plain (plain_graph n graph) g i x.rest w in
         record { rest = w.numbers; walk = w.walk; ends = (meaning e below).1 (subst P (sym at) x.ends) }),
   )
@@ -179,14 +184,10 @@ same_run task plan graph g marks P meaning run h = record {
   shortest = λ start rest initial path p. h.shortest start rest initial path (marked_place task plan graph g marks P meaning _ (reached_end start rest initial path) p);
 }
   where
-    reached_from : (x : Configuration) (rest : List Configuration) → IsReachedBy (system_of task) (plain_of plan) x → IsPath (GoesTo (system_of task) (plain_of plan)) x rest
-        → IsReachedBy (system_of task) (plain_of plan) (last_of x rest)
-    reached_from x [] r path = r
-    reached_from x (y ∷ rest) r path = reached_from y rest (reached_next (system_of task) (plain_of plan) x y r path.0) path.1
-
     reached_end : (start : Configuration) (rest : List Configuration) → IsInitial (system_of task) start → IsPath (GoesTo (system_of task) (plain_of plan)) start rest
         → IsReachedBy (system_of task) (plain_of plan) (last_of start rest)
-    reached_end start rest initial path = reached_from start rest (reached_first (system_of task) (plain_of plan) start initial) path
+    reached_end start rest initial path =
+        path_keeps (GoesTo (system_of task) (plain_of plan)) (IsReachedBy (system_of task) (plain_of plan)) (reached_next (system_of task) (plain_of plan)) start rest (reached_first (system_of task) (plain_of plan) start initial) path
 
 -- what a search for a marked number found, or didn't find, where the marks are those of a property
 module _ (task : Task) (plan : Plan) (graph : Graph) (g : IsGraphIn task plan graph) (made : List Bool) (P : Configuration → Type 0)

@@ -19,11 +19,11 @@ use Rattle.exec_graph.specs.Executions.{GoesTo, IsReachedBy}
 use Rattle.exec_graph.specs.Values.{followers_at, graph_size, plain_graph}
 use Rattle.exec_graph.specs.declared.graphs.Graph.{Graph}
 use Rattle.plan_check.specs.Walks.{IsMarked, IsWalk, last_number}
-use Rattle.plan_check.proofs.WalkFacts.{last_append, walk_append}
+use Rattle.plan_check.proofs.WalkFacts.{last_append, last_below, walk_append}
 use Rattle.plan_witness.specs.Marked.{IsGraphIn, place_at}
 use Rattle.plan_witness.specs.Onward.{AreMet, AreOnward, LeadsOnTo}
 use Rattle.plan_witness.specs.Ways.{AreWays, at, far}
-use Rattle.plan_witness.proofs.GraphRuns.{end_of_walk, last_node, last_place, node_of, path_of, walk_of}
+use Rattle.plan_witness.proofs.GraphRuns.{end_of_walk, last_place, node_of, path_of, walk_of}
 use Rattle.plan_witness.proofs.LeastWays.{walk_bound}
 
 -- one number more
@@ -133,7 +133,7 @@ module _ (task : Task) (plan : Plan) (graph : Graph) (g : IsGraphIn task plan gr
         let bound =
         walk_bound size (followers_at graph) starts lengths before w g.next_below start walked.numbers 0 node.1.below (record { most = omega (arith, zeroth); reached = omega (arith, zeroth) }) walked.walk in
         let ends : place (last_number start walked.numbers) ≡ place i = end_of_walk sys plain (plain_graph n graph) g start leads.rest walked ∙ ap (λ z. last_of z leads.rest) is ∙ leads.ends in
-        let last = g.once (last_number start walked.numbers) i (last_node sys plain (plain_graph n graph) g start walked.numbers node.1.below walked.walk) l ends in
+        let last = g.once (last_number start walked.numbers) i (last_below (graph_size graph) (followers_at graph) g.next_below start walked.numbers node.1.below walked.walk) l ends in
         lt-ltb (at lengths i) far (subst (λ k. at lengths k < far) last bound.reached)
 
     pub are_onward : (numbers : List ℕ) → numbers ≡ filter (λ i. nat_lt (at lengths i) far) (range_with_len 0 size) → AreOnward sys plain met x numbers

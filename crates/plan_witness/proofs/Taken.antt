@@ -1,7 +1,8 @@
 -- Outcomes and rules by their numbers.
-use Rattle.std.proofs.Common.{◌≡◌, ℕ, zero, suc, ◌<◌, ⊎_elim, Bool, true, false, List, [], ◌∷◌, length, map, slice_get, Option, Some, None, refl, sym, ap, ◌∙◌, subst}
+use Rattle.std.proofs.Common.{◌≡◌, ℕ, zero, suc, ◌<◌, ⊎_elim, Bool, true, false, List, [], ◌∷◌, length, map, get_or, slice_get, Option, Some, None, refl, sym, ap, ◌∙◌, subst}
 use Rattle.std.specs.List.{Contains, cons_option, filter_map, range_with_len}
 use Rattle.std.proofs.lemmas.Bool.{and_parts, cond-true, cond-false, eqb-true}
+use Rattle.std.proofs.lemmas.Grind.{get_or_default_zero}
 use Rattle.std.proofs.lemmas.Option.{none-some, same_Some, slice_get-get_or}
 use Rattle.task_core.specs.Cubes.{matches}
 use Rattle.task_core.specs.States.{IsWithin, vector}
@@ -39,6 +40,9 @@ get_mapped f (y ∷ ys) (suc i) x e = get_mapped f ys i x e
 
 pub get_contained : {X : Type 0} (xs : List X) (x : X) → Contains xs x → (i : ℕ) × (i < length xs) × (slice_get xs i ≡ Some x)
 get_contained xs x (i, l, is) = (i, l, slice_get-get_or xs i x l ∙ ap Some is)
+
+pub contained_at : (xs : List ℕ) (j : ℕ) → Contains xs j → (k : ℕ) × (k < length xs) × (get_or xs k 0 ≡ j)
+contained_at xs j (k, l, is) = (k, l, sym (get_or_default_zero xs k j l) ∙ is)
 
 -- the state to which an outcome leads is an outcome's by number
 pub outcome_number : (task : Task) (s : Vector) (a : ℕ) (t : Vector) → HasOutcome (system_of task) s a t

@@ -1,13 +1,14 @@
 -- Configurations in which a plan ends, or from which it doesn't.
-use Rattle.std.specs.Prelude.{◌≡◌, ℕ, false, List, [], None, Some}
+use Rattle.std.specs.Prelude.{◌≡◌, ℕ, false, true, List, [], None, Some, slice_get}
 use Rattle.std.specs.List.{Contains}
-use Rattle.task_core.specs.Systems.{HasOutcome, System, goal_states}
+use Rattle.task_core.specs.Cubes.{matches}
+use Rattle.task_core.specs.Systems.{Exec, HasOutcome, System, goal_states}
 use Rattle.task_core.specs.Vectors.{Vector}
 use Rattle.task_core.specs.ContextPlans.{Configuration, IsInitial}
 use Rattle.task_core.specs.Paths.{IsPath, last_of}
 use Rattle.task_core.specs.declared.conditions.Cond.{Cond}
 use Rattle.plan_rules.specs.Denoted.{next_context}
-use Rattle.plan_rules.specs.Rules.{ContextRule, PlainPlan}
+use Rattle.plan_rules.specs.Rules.{ContextRule, PlainPlan, PlanRule}
 use Rattle.exec_graph.specs.Executions.{GoesTo}
 use Rattle.exec_graph.specs.Values.{followers_at}
 use Rattle.exec_graph.specs.declared.graphs.Graph.{Graph}
@@ -60,3 +61,10 @@ pub record LosesOutcome (sys : System) (rule : ContextRule) (s : Vector) : Type 
   pub after : Vector
   pub outcome : HasOutcome sys s rule.action after
   pub lost : next_context rule.next after ≡ None
+
+-- the rule of a number matches s, and its action can't be executed there
+pub record IsBadRuleAt (sys : System) (rules : List PlanRule) (s : Vector) (number : ℕ) : Type 0 where
+  pub rule : PlanRule
+  pub numbered : slice_get rules number ≡ Some rule
+  pub matched : matches rule.cube s ≡ true
+  pub refused : Exec sys s rule.action → ⊥

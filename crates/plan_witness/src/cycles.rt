@@ -3,7 +3,6 @@
 ghost use Rattle.std.specs.Prelude.{
   ◌≡◌,
   ◌<◌,
-  ◌≤◌,
   ◌↔◌,
   IfNone,
   IfOk,
@@ -16,7 +15,7 @@ ghost use Rattle.std.specs.Prelude.{
 ghost use Rattle.std.specs.List.{Contains};
 ghost use Rattle.task_core.specs.Tasks.{action_count, fluent_count, system_of};
 ghost use Rattle.plan_check.specs.Plain.{HasFollowersInside};
-ghost use Rattle.plan_check.specs.Walks.{IsMarked, last_number};
+ghost use Rattle.plan_check.specs.Walks.{IsMarked};
 ghost use Rattle.plan_rules.specs.Plans.{IsPlanOf};
 ghost use Rattle.plan_rules.specs.Rules.{plain_of};
 ghost use Rattle.exec_graph.specs.Values.{IsWithinFluents, followers_at, graph_size};
@@ -27,7 +26,6 @@ ghost use Rattle.plan_witness.specs.Runs.{NoneReached};
 ghost use Rattle.plan_witness.specs.Scenes.{IsFollowed, place_in, plan_in, size_in, sys_in};
 ghost use Rattle.plan_witness.specs.Values.{lasso_value, steps_value};
 ghost use Rattle.plan_witness.specs.Ways.{
-  AreWaysFromSome,
   IsNearestRound,
   IsOnRound,
   IsShortestRoundAt,
@@ -221,7 +219,7 @@ fn follower_marks<L: Ledger>(
 }
 
 /// Whether a number follows another.
-fn follows<L: Ledger>(graph: &Graph, number: u32, other: u32, steps: &mut Steps<L>) -> bool
+pub fn follows<L: Ledger>(graph: &Graph, number: u32, other: u32, steps: &mut Steps<L>) -> bool
     requires { number < graph_size graph.now }
     ensures { (result ≡ true) ↔ Contains (followers_at graph.now number) other }
 {
@@ -234,7 +232,7 @@ fn follows<L: Ledger>(graph: &Graph, number: u32, other: u32, steps: &mut Steps<
 }
 
 /// A mark for one number alone.
-fn only_mark(alloc: Global, graph: &Graph, number: u32) -> Result<Vec<bool>, AllocError>
+pub fn only_mark(alloc: Global, graph: &Graph, number: u32) -> Result<Vec<bool>, AllocError>
     requires { number < graph_size graph.now }
     ensures count { IfOk result (λ marks. length marks.items ≡ graph_size graph.now) }
     ensures marked { IfOk result (λ marks. (i : ℕ) → i < graph_size graph.now

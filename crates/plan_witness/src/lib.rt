@@ -9,7 +9,6 @@
 mod components;
 mod cycles;
 mod heights;
-mod leading;
 mod levels;
 mod longest;
 mod onward;
@@ -23,12 +22,14 @@ mod stuck;
 mod unreachable;
 mod ways;
 
-pub use cycles::{Lasso, cycle_run};
+pub use cycles::{Lasso, cycle_run, follows, only_mark};
 pub use longest::longest_run;
 pub use onward::onward_numbers;
-pub use reasons::{terminal_run, unexecutable_run};
+pub use reasons::{bad_rule_number, terminal_run, unexecutable_run};
 pub use rules::counting_rule;
 pub use runs::{Run, RunStep, steps_along};
 pub use scenes::{Scene, Spot};
+pub use shortest::Way;
 pub use stuck::{lost_outcome, stuck_run};
 pub use unreachable::{endless_run, goal_run, lost_run};
+pub use ways::{FAR, Ways};

@@ -30,13 +30,11 @@ ghost use Rattle.plan_rules.specs.Rules.{context_rule_of, plain_of, rule_of};
 ghost use Rattle.exec_graph.specs.Executions.{
   HasBadAction,
   HasBadRule,
-  HasLostOutcome,
   IsReachedBy,
-  IsStuckAt,
   IsUnexecutableAt,
 };
 ghost use Rattle.exec_graph.specs.Values.{IsWithinFluents, graph_size};
-ghost use Rattle.plan_witness.specs.Ends.{IsEndOutside, IsNumberOutside};
+ghost use Rattle.plan_witness.specs.Ends.{IsBadRuleAt, IsEndOutside, IsNumberOutside};
 ghost use Rattle.plan_witness.specs.Marked.{IsGraphIn, place_at};
 ghost use Rattle.plan_witness.specs.Runs.{IsShortestRun, NoneReached, end_of};
 ghost use Rattle.plan_witness.specs.Values.{run_value};
@@ -165,12 +163,32 @@ fn has_bad_rule(task: &Task, rules: &[Rule], state: &State) -> bool
     ensures { let sys = system_of task.now in let v = vector (fluent_count task.now) state.now in
         (result ≡ true) ↔ HasBadRule sys (map rule_of rules.now) v }
 {
+    match bad_rule_number(task, rules, state) {
+        Some(_number) => true,
+        None => false,
+    }
+}
+
+/// The number of a rule that matches the state and whose action can't be executed there; the first
+/// one.
+pub fn bad_rule_number(task: &Task, rules: &[Rule], state: &State) -> Option<usize>
+    requires rules { let n = fluent_count task.now in let m = action_count task.now in
+        All (λ rule. IsRuleOf n m (rule_of rule)) rules.now }
+    requires within { IsWithin (fluent_count task.now) state.now }
+    ensures below { IfSome result (λ number. number < length rules.now) }
+    ensures bad { let sys = system_of task.now in let v = vector (fluent_count task.now) state.now in
+        IfSome result (λ number. IsBadRuleAt sys (map rule_of rules.now) v number) }
+    ensures has { let sys = system_of task.now in let v = vector (fluent_count task.now) state.now in
+        IfSome result (λ _. HasBadRule sys (map rule_of rules.now) v) }
+    ensures none { let sys = system_of task.now in let v = vector (fluent_count task.now) state.now in
+        IfNone result (HasBadRule sys (map rule_of rules.now) v → ⊥) }
+{
     for number in 0..rules.len() {
         if is_bad_rule(task, &rules[number], state) {
-            return true;
+            return Some(number);
         }
     }
-    false
+    None
 }
 
 /// Whether the rule matches the state, and its action can't be executed there.

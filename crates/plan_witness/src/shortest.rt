@@ -21,10 +21,10 @@ use std::sync::ledger::Ledger;
 /// A way through a graph: the number in which it begins, those to which its steps lead, and the one
 /// in which it ends.
 #[derive(Drop)]
-pub(crate) struct Way {
-    pub(crate) start: u32,
-    pub(crate) numbers: Vec<u32>,
-    pub(crate) end: u32,
+pub struct Way {
+    pub start: u32,
+    pub numbers: Vec<u32>,
+    pub end: u32,
 }
 
 /// A shortest way from a number with a mark in `starts` to one with a mark in `ends`.

@@ -8,18 +8,14 @@ ghost use Rattle.std.specs.Prelude.{
   IfOk,
   IfSome,
   IsSome,
-  IsTrue,
   [],
   false,
   length,
-  nat_lt,
-  slice_index_or,
   true,
   ℕ,
 };
-ghost use Rattle.task_core.specs.Conditions.{ids_below};
 ghost use Rattle.task_core.specs.Tasks.{action_count, fluent_count, system_of};
-ghost use Rattle.plan_check.specs.Plain.{HasFollowersInside, IsGoalEnd};
+ghost use Rattle.plan_check.specs.Plain.{HasFollowersInside, HasPredecessors};
 ghost use Rattle.plan_check.specs.Walks.{IsMarked, LeadsToMarked};
 ghost use Rattle.plan_rules.specs.Plans.{IsPlanOf};
 ghost use Rattle.plan_rules.specs.Rules.{plain_of};
@@ -32,14 +28,14 @@ ghost use Rattle.plan_witness.specs.Runs.{IsShortestRun, NoneReached, end_of};
 ghost use Rattle.plan_witness.specs.Values.{run_value};
 ghost use Rattle.plan_witness.specs.Within.{IsRunWithin};
 
-use crate::leading::leading;
 use crate::runs::{Run, shortest_run};
 use crate::scenes::Scene;
 use exec_graph::{Graph, Steps};
+use plan_check::{goal_ends, is_marked, mark_leading, negated};
 use plan_rules::Plan;
 use std::alloc::{AllocError, Global};
 use std::sync::ledger::Ledger;
-use task_core::{Cond, Task, cond_holds};
+use task_core::Task;
 
 /// A shortest run to a configuration from which no path of the plan leads to an end; `None` exactly
 /// where the plan may reach no such configuration.
@@ -148,33 +144,6 @@ fn is_end(graph: &Graph, number: u32) -> bool
     graph.next_len(number) == 0
 }
 
-/// A mark for each configuration that none follows, in the goal.
-fn goal_ends(alloc: Global, goal: &Cond, graph: &Graph) -> Result<Vec<bool>, AllocError>
-    requires { IsTrue (ids_below 256 goal.now) }
-    ensures count { IfOk result (λ marks. length marks.items ≡ graph_size graph.now) }
-    ensures marked { IfOk result (λ marks. (n i : ℕ) → IsTrue (ids_below n goal.now)
-        → i < graph_size graph.now → IsMarked marks.items i ↔ IsGoalEnd n goal.now graph.now i) }
-{
-    let mut marks = Vec::new(alloc);
-    for i in 0..graph.len() {
-        marks.push(is_goal_end(goal, graph, i))?;
-    }
-    Ok(marks)
-}
-
-/// Whether none follows a configuration, and it is in the goal.
-fn is_goal_end(goal: &Cond, graph: &Graph, number: u32) -> bool
-    requires goal { IsTrue (ids_below 256 goal.now) }
-    requires number { number < graph_size graph.now }
-    ensures { (n : ℕ) → IsTrue (ids_below n goal.now)
-        → (result ≡ true) ↔ IsGoalEnd n goal.now graph.now number }
-{
-    if graph.next_len(number) != 0 {
-        return false;
-    }
-    cond_holds(goal, graph.state(number))
-}
-
 /// A mark for each configuration from which no walk leads to one of the ends.
 fn not_leading<L: Ledger>(
     alloc: Global,
@@ -183,34 +152,15 @@ fn not_leading<L: Ledger>(
     steps: &mut Steps<L>,
 ) -> Result<Vec<bool>, AllocError>
     requires inside { HasFollowersInside graph.now }
+    requires turned { HasPredecessors graph.now }
     requires count { length ends.now ≡ graph_size graph.now }
     ensures count { IfOk result (λ marks. length marks.items ≡ graph_size graph.now) }
     ensures marked { IfOk result (λ marks. (i : ℕ) → i < graph_size graph.now
         → IsMarked marks.items i ↔ (LeadsToMarked (followers_at graph.now) ends.now i → ⊥)) }
 {
-    let lead = leading(alloc, graph, ends, steps)?;
+    let mut lead = Vec::from_slice(alloc, ends)?;
+    mark_leading(alloc, graph, &mut lead, steps)?;
     negated(alloc, &lead)
-}
-
-/// A mark for each number without one.
-fn negated(alloc: Global, marks: &[bool]) -> Result<Vec<bool>, AllocError>
-    ensures count { IfOk result (λ others. length others.items ≡ length marks.now) }
-    ensures marked { IfOk result (λ others. (i : ℕ) → i < length marks.now
-        → IsMarked others.items i ↔ (IsMarked marks.now i → ⊥)) }
-{
-    let mut others = Vec::new(alloc);
-    for i in 0..marks.len() {
-        others.push(!has_mark(marks, i))?;
-    }
-    Ok(others)
-}
-
-/// Whether a number has a mark.
-fn has_mark(marks: &[bool], number: usize) -> bool
-    requires { number < length marks.now }
-    ensures { result ≡ slice_index_or marks.now number false }
-{
-    marks[number]
 }
 
 /// A mark for each configuration with one in which an execution may begin.
@@ -236,5 +186,5 @@ fn is_marked_start(graph: &Graph, marks: &[bool], number: u32) -> bool
     if !graph.initial(number) {
         return false;
     }
-    has_mark(marks, number as usize)
+    is_marked(marks, number)
 }

@@ -5,7 +5,6 @@ ghost use Rattle.std.specs.Prelude.{
   ◌+◌,
   ◌<◌,
   ◌≤◌,
-  ◌↔◌,
   if◌then◌else◌,
   slice_index_or,
   slice_set,
@@ -27,19 +26,19 @@ use std::alloc::{AllocError, Global};
 use std::sync::ledger::Ledger;
 
 /// The length of a way to a number that none leads to.
-pub(crate) const FAR: u32 = 4_294_967_295;
+pub const FAR: u32 = 4_294_967_295;
 
 /// For each configuration the length of a shortest way to it, and the number of the one before it on
 /// such a way.
 #[derive(Drop)]
-pub(crate) struct Ways {
-    pub(crate) lengths: Vec<u32>,
-    pub(crate) before: Vec<u32>,
+pub struct Ways {
+    pub lengths: Vec<u32>,
+    pub before: Vec<u32>,
 }
 
 impl Ways {
     /// The ways of no step: to the numbers with a mark.
-    fn new(alloc: Global, starts: &[bool]) -> Result<Ways, AllocError>
+    pub fn new(alloc: Global, starts: &[bool]) -> Result<Ways, AllocError>
         ensures lengths { IfOk result (λ ways. length ways.lengths.items ≡ length starts.now) }
         ensures before { IfOk result (λ ways. length ways.before.items ≡ length starts.now) }
         ensures each { IfOk result (λ ways. (i : ℕ) → i < length starts.now
@@ -55,7 +54,7 @@ impl Ways {
     }
 
     /// The length of the way to a number.
-    pub(crate) fn length_at(&self, number: u32) -> u32
+    pub fn length_at(&self, number: u32) -> u32
         requires { number < length self.now.lengths.items }
         ensures { result ≡ at self.now.lengths.items number }
     {
@@ -63,7 +62,7 @@ impl Ways {
     }
 
     /// The number before another on the way to it.
-    pub(crate) fn before_at(&self, number: u32) -> u32
+    pub fn before_at(&self, number: u32) -> u32
         requires { number < length self.now.before.items }
         ensures { result ≡ at self.now.before.items number }
     {
@@ -71,7 +70,7 @@ impl Ways {
     }
 
     /// Puts a way of this length to a number, by the one before it, unless a way is known.
-    fn reach(&mut self, number: u32, before: u32, now: u32) -> bool
+    pub fn reach(&mut self, number: u32, before: u32, now: u32) -> bool
         requires lengths { number < length self.old.lengths.items }
         requires before { number < length self.old.before.items }
         ensures unknown { result ≡ true → at self.old.lengths.items number ≡ FAR }
@@ -141,7 +140,7 @@ impl Ways {
     }
 
     /// The nearest of the numbers with a mark.
-    pub(crate) fn nearest(&self, marks: &[bool]) -> Option<u32>
+    pub fn nearest(&self, marks: &[bool]) -> Option<u32>
         requires count { length self.now.lengths.items ≡ length marks.now }
         requires few { length marks.now ≤ 262144 }
         ensures some { IfSome result (IsNearest self.now.lengths.items marks.now) }

@@ -3,7 +3,7 @@ use Rattle.std.proofs.Common.{◌≡◌, ◌==◌, ◌+◌, ◌<◌, ◌≤◌, 
 use Rattle.std.specs.List.{All}
 use Rattle.std.proofs.lemmas.Bool.{and_from, and_left, and_right, cases_lt, eq-eqb, ne_eqb}
 use Rattle.std.proofs.lemmas.List.{length-map}
-use Rattle.std.proofs.lemmas.Option.{none-some, same_Some, slice_get-get_or}
+use Rattle.std.proofs.lemmas.Option.{none-some, same_Some, slice_get-get_or, slice_get_within}
 use Rattle.list_laws.proofs.Elements.{All-unmap}
 use Rattle.task_core.specs.ContextPlans.{Configuration}
 use Rattle.task_core.specs.Cubes.{matches}
@@ -19,7 +19,7 @@ use Rattle.plan_rules.specs.Plans.{IsCubeOf, IsPlanOf}
 use Rattle.plan_rules.specs.Rules.{ContextRule, plain_of}
 use Rattle.plan_rules.specs.declared.rules.Plan.{Plan}
 use Rattle.plan_witness.specs.Runs.{IsCounting, is_for}
-use Rattle.plan_witness.proofs.Counting.{find_nothing, get_below}
+use Rattle.plan_witness.proofs.Counting.{find_nothing}
 use Rattle.plan_witness.proofs.Taken.{get_mapped}
 use Rattle.recorded_run.specs.Indexed.{AreIndexedFor, rules_in, run_rule_value}
 use Rattle.recorded_run.specs.declared.rules.IndexedRules.{IndexedRules}
@@ -55,13 +55,13 @@ module _ (n m : ℕ) (few : n ≤ 256) (indexed : IndexedRules) (is : AreIndexed
 
   pub in_task : (k : ℕ) (rule : RunRule) → slice_get listed k ≡ Some rule → IsRunRuleOf n m (run_rule_value rule)
   in_task k rule at =
-      let lt : k < length listed = get_below listed k rule at in
+      let lt : k < length listed = slice_get_within listed k rule at in
       let same : get_or listed k rule ≡ rule = same_Some (get_or listed k rule) rule (sym (slice_get-get_or listed k rule lt) ∙ at) in
       subst (λ (r : RunRule). IsRunRuleOf n m (run_rule_value r)) same (All-unmap (IsRunRuleOf n m) run_rule_value listed is.each k rule lt)
 
   answered : (k : ℕ) (rule : RunRule) → slice_get listed k ≡ Some rule → get_or said k false ≡ matches rule.cube.now (vector n state)
   answered k rule at =
-      let lt : k < length listed = get_below listed k rule at in
+      let lt : k < length listed = slice_get_within listed k rule at in
       let same : get_or listed k rule ≡ rule = same_Some (get_or listed k rule) rule (sym (slice_get-get_or listed k rule lt) ∙ at) in
       let cubes : All (λ (r : RunRule). IsCubeOf n r.cube.now) listed = λ j d l. (All-unmap (IsRunRuleOf n m) run_rule_value listed is.each j d l).cube in
       answer_is (λ (r : RunRule). r.cube.now) listed indexed.index n state few is.index cubes k rule lt
@@ -107,6 +107,6 @@ module _ (n m : ℕ) (few : n ≤ 256) (indexed : IndexedRules) (is : AreIndexed
   nothing from to all before none =
       find_nothing (is_for here) (rules_in indexed)
       (λ k other at.
-      let lt : k < length (rules_in indexed) = get_below (rules_in indexed) k other at in
+      let lt : k < length (rules_in indexed) = slice_get_within (rules_in indexed) k other at in
       let long : length (rules_in indexed) ≡ to = length-map listed run_rule_value ∙ sym all in
       unmatched_from from to none before k other (subst (λ l. k < l) long lt) at)

@@ -1,5 +1,5 @@
 -- A run, and one step more of it.
-use Rattle.std.proofs.Common.{◌≡◌, ◌+◌, ℕ, zero, suc, Err, IfOk, List, [], ◌∷◌, ◌++◌, Ok, Option, Result, Some, arith, drop, length, map, refl, slice_get, sym, ap, ◌∙◌, subst, length-append}
+use Rattle.std.proofs.Common.{◌≡◌, ◌+◌, ℕ, List, [], ◌∷◌, ◌++◌, Option, Some, drop, length, map, refl, sym, ap, ◌∙◌, subst, length-append}
 use Rattle.std.proofs.lemmas.List.{map-append}
 use Rattle.list_laws.proofs.Elements.{map-map}
 use Rattle.task_core.specs.ContextPlans.{first_context}
@@ -18,7 +18,7 @@ use Rattle.run_replay.specs.Traces.{Goes, Trace, TraceStep}
 use Rattle.run_replay.specs.declared.worlds.Step.{Step}
 use Rattle.run_replay.proofs.RunLaws.{ends, one_more, starts}
 use Rattle.recorded_run.specs.RecordedRuns.{AreRuledSteps, IsRecordedRun, IsRuledStep, IsStop, RuledStep, end_context, end_state}
-use Rattle.recorded_run.specs.Turns.{HasComeTo, HasHalted, IsHaltOf, IsRuledHalt, IsTurn, halt_ending, numbers_left, plain_steps}
+use Rattle.recorded_run.specs.Turns.{HasComeTo, HasHalted, IsHaltOf, IsRuledHalt, IsTurn, halt_ending, plain_steps}
 use Rattle.recorded_run.specs.Values.{made_value, mades_value, stop_value}
 use Rattle.recorded_run.specs.declared.runs.Halted.{Halted}
 use Rattle.recorded_run.specs.declared.runs.MadeStep.{MadeStep}
@@ -122,19 +122,3 @@ recorded task plan first words run stop stops h =
           subst (λ (s : Vector). IsStop task (run_rules plan) s (end_context (Some first_context) (mades_value n steps)) ending (stop_value stop)) (sym h.come.at_state)
           (subst (λ (c : Option ℕ). IsStop task (run_rules plan) (vector n run.course.state) c ending (stop_value stop)) (sym h.come.at_context) here);
     }
-
-pub if_ok : {A E : Type 0} (r : Result A E) (P Q : A → Type 0) → ((x : A) → P x → Q x) → IfOk r P → IfOk r Q
-if_ok (Ok x) P Q f p = f x p
-if_ok (Err e) P Q f p = p
-
--- the outcome numbers that are left, by the next one
-drop_more : (words : List ℕ) (k : ℕ) → numbers_left (slice_get words k) (drop (suc k) words) ≡ drop k words
-drop_more [] zero = refl
-drop_more [] (suc k) = refl
-drop_more (word ∷ words) zero = refl
-drop_more (word ∷ words) (suc k) = drop_more words k
-
-pub words_left : (words : List ℕ) (k : ℕ) → numbers_left (slice_get words k) (drop (k + 1) words) ≡ drop k words
-words_left words k =
-    let e : k + 1 ≡ suc k = omega arith in
-    ap (λ (j : ℕ). numbers_left (slice_get words k) (drop j words)) e ∙ drop_more words k

@@ -1,26 +1,15 @@
 -- Texts that are appended one after another.
-use Rattle.std.proofs.Common.{◌≡◌, ℕ, ◌+◌, ◌<◌, Bor, List, [], ◌∷◌, ◌++◌, Result, Ok, Err, OnOk, append_assoc, ap, codes, get_or, length, map, refl, sym, take, ◌∙◌}
+use Rattle.std.proofs.Common.{◌≡◌, ℕ, ◌+◌, ◌<◌, Bor, List, [], ◌∷◌, ◌++◌, ap, codes, get_or, length, map, refl, sym, take, ◌∙◌}
 use Rattle.std.specs.List.{flat_map}
 use Rattle.std.proofs.lemmas.List.{append-nil, take_more, map-append}
 use Rattle.std.proofs.lemmas.List.Concat.{flat_map-append}
-use Rattle.plan_finding.specs.Texts.{conditions_text}
+use Rattle.state_text.specs.Texts.{conditions_text}
 use Rattle.task_core.specs.Names.{Name}
 use Rattle.task_core.specs.declared.conditions.Cond.{Cond}
 use Rattle.recorded_run.specs.RecordedRuns.{RuledStep}
 use Rattle.recorded_run.specs.Texts.{goal_text}
 use Rattle.recorded_run.specs.Values.{made_value, mades_value}
 use Rattle.recorded_run.specs.declared.runs.MadeStep.{MadeStep}
-
-pub on_ok : {A E : Type 0} (r : Result A E) (P Q : Type 0) → (P → Q) → OnOk r P → OnOk r Q
-on_ok (Ok x) P Q f p = f p
-on_ok (Err e) P Q f p = p
-
-pub pushed_two : (old a b mid new : List ℕ) → mid ≡ old ++ a → new ≡ mid ++ b → new ≡ old ++ (a ++ b)
-pushed_two old a b mid new first second = second ∙ ap (λ xs. xs ++ b) first ∙ append_assoc old a b
-
-pub pushed_four : (old a b c d m1 m2 m3 new : List ℕ) → m1 ≡ old ++ a → m2 ≡ m1 ++ b → m3 ≡ m2 ++ c → new ≡ m3 ++ d → new ≡ old ++ (((a ++ b) ++ c) ++ d)
-pushed_four old a b c d m1 m2 m3 new e f g h =
-    pushed_two old ((a ++ b) ++ c) d m3 new (pushed_two old (a ++ b) c m2 m3 (pushed_two old a b m1 m2 e f) g) h
 
 -- the lines of steps, one step more
 pub lines_more : (line : RuledStep → List ℕ) (n : ℕ) (steps : List MadeStep) (i : ℕ) (made : MadeStep) → i < length steps → made ≡ get_or steps i made

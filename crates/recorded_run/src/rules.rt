@@ -1,6 +1,6 @@
 //! The rules of a plan as they are run, and which of them counts.
 
-ghost use Rattle.std.specs.Prelude.{◌≡◌, ◌<◌, All, IfNone, IfOk, IfSome, None, length, map};
+ghost use Rattle.std.specs.Prelude.{◌≡◌, ◌<◌, IfNone, IfOk, IfSome, None, map};
 ghost use Rattle.task_core.specs.States.{vector};
 ghost use Rattle.task_core.specs.Tasks.{action_count, fluent_count};
 ghost use Rattle.plan_guide.specs.RunRules.{IsRunRuleOf, in_one_context, run_rules};

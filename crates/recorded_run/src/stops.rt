@@ -1,7 +1,7 @@
 //! Why a run stops.
 
-ghost use Rattle.std.specs.Prelude.{◌≡◌, ◌<◌, ℕ, IfOk, List, MatchOption, None, Option, map};
-ghost use Rattle.plan_finding.specs.Findings.{HasFalseGoal, HasFalsePrecondition};
+ghost use Rattle.std.specs.Prelude.{◌≡◌, ℕ, IfOk, List, MatchOption, None, Option, map};
+ghost use Rattle.plan_finding.specs.Findings.{HasFalseGoal};
 ghost use Rattle.plan_rules.specs.Rules.{ContextRule};
 ghost use Rattle.task_core.specs.States.{vector};
 ghost use Rattle.task_core.specs.Tasks.{action_count, fluent_count};
@@ -11,9 +11,9 @@ ghost use Rattle.recorded_run.specs.Values.{stop_value};
 
 use crate::rules::Counting;
 use crate::turns::Halt;
-use condition_parts::false_parts;
+use plan_finding::{false_goal, false_precondition};
 use std::alloc::{AllocError, Global};
-use task_core::{ActionId, Cond, State, Task};
+use task_core::{Cond, State, Task};
 
 /// Why a run stops.
 #[derive(Drop)]
@@ -47,7 +47,7 @@ pub(crate) fn stop_at<'a>(
         → IsStop task.now rules v context (halt_ending number halt) (stop_value stop)) }
 {
     match halt {
-        Halt::PlanEnds => Ok(Stop::PlanEnds(false_goal(alloc, task, state)?)),
+        Halt::PlanEnds => Ok(Stop::PlanEnds(goal_parts(alloc, task, state)?)),
         Halt::RecordEnds(counting) => Ok(Stop::RecordEnds(counting)),
         Halt::MostMade => Ok(Stop::MostMade),
         Halt::NoOutcome(counting, word, outcomes) => Ok(Stop::NoOutcome(counting, word, outcomes)),
@@ -59,7 +59,7 @@ pub(crate) fn stop_at<'a>(
 }
 
 /// The parts of the goal by reachability that are false in a state, if the task has one.
-fn false_goal<'a>(
+fn goal_parts<'a>(
     alloc: Global,
     task: &'a Task,
     state: &State,
@@ -70,21 +70,6 @@ fn false_goal<'a>(
 {
     match &task.goal {
         None => Ok(None),
-        Some(goal) => Ok(Some(false_parts(alloc, goal, state)?)),
+        Some(_goal) => Ok(Some(false_goal(alloc, task, state)?)),
     }
-}
-
-/// The parts of an action's precondition that are false in a state.
-fn false_precondition<'a>(
-    alloc: Global,
-    task: &'a Task,
-    action: ActionId,
-    state: &State,
-) -> Result<Vec<&'a Cond>, AllocError>
-    requires { action.0 < action_count task.now }
-    ensures { let v = vector (fluent_count task.now) state.now in IfOk result (λ parts.
-        HasFalsePrecondition task.now v action.0 (map (λ part. part.now) parts.items)) }
-{
-    let ground = &task.actions[action.0 as usize];
-    false_parts(alloc, &ground.exec, state)
 }

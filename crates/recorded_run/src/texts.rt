@@ -1,13 +1,6 @@
 //! The text of a run.
 
 ghost use Rattle.std.specs.Prelude.{◌≡◌, ◌++◌, ℕ, IfOk, OnOk, map, string_bytes};
-ghost use Rattle.plan_finding.specs.Texts.{
-  conditions_text,
-  initial_line,
-  number_text,
-  refusal_note,
-  rule_text,
-};
 ghost use Rattle.plan_finding.specs.Values.{source_value};
 ghost use Rattle.plan_rules.specs.Rules.{plain_of};
 ghost use Rattle.task_core.specs.States.{vector};
@@ -39,9 +32,9 @@ ghost use Rattle.recorded_run.specs.declared.stops.Stop.TheVariants.{
 use crate::rules::Counting;
 use crate::runs::{MadeStep, RecordedRun};
 use crate::stops::Stop;
-use plan_finding::{Source, line_at};
+use plan_finding::{Source, push_initial, push_refusal, push_rule};
 use plan_rules::{Plan, push_number};
-use state_text::{push_action, push_changes, push_condition, push_true};
+use state_text::{push_action, push_changes, push_parts, push_step_number};
 use std::alloc::{AllocError, Global};
 use task_core::{ActionId, Cond, State, Task};
 
@@ -58,24 +51,11 @@ pub fn recorded_text(
         ≡ text_of (source_value source.now) number (vector n first.now) (run_value n run.now)) }
 {
     let mut out = String::new(alloc);
-    push_initial(&mut out, source.task, number, first)?;
+    push_initial(&mut out, source.task, number as usize, first)?;
     push_mades(&mut out, source, &run.steps)?;
     push_stop(&mut out, source, &run.stop)?;
     out.push('\n')?;
     Ok(out)
-}
-
-/// Appends the line of the initial state.
-fn push_initial(out: &mut String, task: &Task, number: u32, state: &State) -> Result<(), AllocError>
-    ensures { OnOk result (string_bytes out.new ≡ string_bytes out.old
-        ++ initial_line (fluent_names task.now) number
-        (vector (fluent_count task.now) state.now)) }
-{
-    out.push_str("initial ")?;
-    push_number(out, number)?;
-    out.push(':')?;
-    push_true(out, task, state)?;
-    out.push('\n')
 }
 
 /// Appends the lines of steps.
@@ -96,20 +76,11 @@ fn push_made(out: &mut String, source: &Source<'_>, made: &MadeStep) -> Result<(
         OnOk result (string_bytes out.new ≡ string_bytes out.old
         ++ made_lines (source_value source.now) (made_value n made.now)) }
 {
-    push_step_number(out, made.step.number)?;
+    push_step_number(out, made.step.number as usize)?;
     push_move(out, source, made)?;
     push_next(out, source.plan, made.context)?;
     out.push_str("\n")?;
     push_changes(out, source.task, &made.step.before, &made.step.after)
-}
-
-/// Appends the number of a step.
-fn push_step_number(out: &mut String, number: u64) -> Result<(), AllocError>
-    ensures { OnOk result (string_bytes out.new ≡ string_bytes out.old ++ number_text number) }
-{
-    out.push_str("step ")?;
-    push_number(out, number)?;
-    out.push_str(", ")
 }
 
 /// Appends the rule, the action and the outcome of a step.
@@ -135,18 +106,6 @@ fn push_act(
     push_rule(out, source, rule)?;
     out.push_str(": ")?;
     push_action(out, source.task, action)
-}
-
-/// Appends a rule, with its line.
-fn push_rule(out: &mut String, source: &Source<'_>, rule: usize) -> Result<(), AllocError>
-    ensures { OnOk result (string_bytes out.new ≡ string_bytes out.old
-        ++ rule_text (source_value source.now) rule) }
-{
-    out.push_str("rule ")?;
-    push_number(out, rule)?;
-    out.push_str(" (line ")?;
-    push_number(out, line_at(source, rule))?;
-    out.push_str(")")
 }
 
 /// Appends the context to which a step leads, or that there is none, where the plan has contexts.
@@ -329,28 +288,4 @@ fn push_beyond(
     out.push_str(": it has ")?;
     push_number(out, outcomes)?;
     out.push_str(", counted from 0")
-}
-
-/// Appends which parts of a precondition are false.
-fn push_refusal(out: &mut String, task: &Task, parts: &[&Cond]) -> Result<(), AllocError>
-    ensures { OnOk result (string_bytes out.new ≡ string_bytes out.old
-        ++ refusal_note (fluent_names task.now) (map (λ part. part.now) parts.now)) }
-{
-    if parts.is_empty() {
-        return out.push_str("though its precondition holds");
-    }
-    out.push_str("false is")?;
-    push_parts(out, task, parts)
-}
-
-/// Appends conditions, each after a space.
-fn push_parts(out: &mut String, task: &Task, parts: &[&Cond]) -> Result<(), AllocError>
-    ensures { OnOk result (string_bytes out.new ≡ string_bytes out.old
-        ++ conditions_text (fluent_names task.now) (map (λ part. part.now) parts.now)) }
-{
-    for part in parts {
-        out.push(' ')?;
-        push_condition(out, &task.fluents, part)?;
-    }
-    Ok(())
 }

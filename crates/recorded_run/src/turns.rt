@@ -1,13 +1,12 @@
 //! One turn of a run.
 
-ghost use Rattle.std.specs.Prelude.{◌≡◌, ◌<◌, ◌↔◌, ◌∷◌, ℕ, IfSome, IsTrue, List, Some};
-ghost use Rattle.std.specs.Option.{option_map};
+ghost use Rattle.std.specs.Prelude.{◌≡◌, ◌<◌, ◌∷◌, ℕ, List, Some};
 ghost use Rattle.plan_guide.specs.RunRules.{IsRunRuleOf};
 ghost use Rattle.plan_rules.specs.Advices.{advised_by};
-ghost use Rattle.plan_rules.specs.Denoted.{can_execute, denoted_contexts};
+ghost use Rattle.plan_rules.specs.Denoted.{denoted_contexts};
 ghost use Rattle.plan_rules.specs.Rules.{ContextRule};
 ghost use Rattle.plan_witness.specs.Runs.{IsCounting};
-ghost use Rattle.run_replay.specs.Traces.{outcome_state, turn as turn_of};
+ghost use Rattle.run_replay.specs.Traces.{turn as turn_of};
 ghost use Rattle.run_replay.specs.Turns.{taking, turn_by};
 ghost use Rattle.task_core.specs.States.{IsWithin, vector};
 ghost use Rattle.task_core.specs.Systems.{Exec};
@@ -18,8 +17,8 @@ ghost use Rattle.recorded_run.specs.Turns.{IsRuledTurn, IsTurn, IsTurnOf, number
 use crate::rules::{Chosen, Counting, IndexedRules};
 use crate::runs::MadeStep;
 use plan_rules::context_in;
-use run_replay::Step;
-use task_core::{ActionId, State, Task, in_space, is_exec, outcome_count, step};
+use run_replay::{Step, is_executable, outcome_state};
+use task_core::{State, Task, outcome_count};
 
 /// Why a run makes no further step.
 #[derive(Clone, Copy)]
@@ -152,38 +151,4 @@ fn make_step(task: &Task, at: &Standing<'_>, chosen: &Chosen<'_>, word: u32) -> 
         step,
         context: context_in(task, &chosen.rule.onward, &after),
     })
-}
-
-/// The state to which an action that can be executed leads by this outcome number; `None` where the
-/// number is none of the action's outcomes, and where this outcome leads to no state.
-fn outcome_state(task: &Task, state: &State, action: ActionId, word: u32) -> Option<State>
-    requires in_range { action.0 < action_count task.now }
-    requires within { IsWithin (fluent_count task.now) state.now }
-    requires executable { Exec (system_of task.now) (vector (fluent_count task.now) state.now)
-        action.0 }
-    ensures value { let n = fluent_count task.now in option_map (vector n) result
-        ≡ outcome_state (system_of task.now) (vector n state.now) action.0 word }
-    ensures within { IfSome result (IsWithin (fluent_count task.now)) }
-{
-    if word >= outcome_count(task, action) {
-        return None;
-    }
-    let after = step(task, state, action, word);
-    if in_space(task, &after) {
-        Some(after)
-    } else {
-        None
-    }
-}
-
-/// Whether an action can be executed in a state.
-fn is_executable(task: &Task, state: &State, action: ActionId) -> bool
-    requires in_range { action.0 < action_count task.now }
-    requires within { IsWithin (fluent_count task.now) state.now }
-    ensures value { result
-        ≡ can_execute (system_of task.now) (vector (fluent_count task.now) state.now) action.0 }
-    ensures executable { IsTrue result
-        ↔ Exec (system_of task.now) (vector (fluent_count task.now) state.now) action.0 }
-{
-    is_exec(task, state, action)
 }

@@ -5,4 +5,5 @@
 mod record_files;
 mod replay_command;
 
-pub use replay_command::replay_files;
+pub use record_files::read_record_file;
+pub use replay_command::{ReplayProblem, ReplayRequest, first_state, replay_files};

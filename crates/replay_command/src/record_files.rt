@@ -15,7 +15,7 @@ use run_replay::{Recorded, read_words};
 use std::alloc::Global;
 
 /// The record in a file.
-pub(crate) fn read_record_file<S: Shelf>(
+pub fn read_record_file<S: Shelf>(
     alloc: Global,
     shelf: &mut S,
     name: &str,

@@ -62,18 +62,18 @@ const MOST_INITIAL: usize = 262_144;
 
 /// What was asked for, of the domain and the problem that two files hold.
 #[derive(Clone, Copy)]
-struct ReplayProblem<'a> {
-    asked: &'a ReplayWords<'a>,
-    domain: &'a Domain,
-    problem: &'a Problem,
+pub struct ReplayProblem<'a> {
+    pub asked: &'a ReplayWords<'a>,
+    pub domain: &'a Domain,
+    pub problem: &'a Problem,
 }
 
 /// What was asked for, the problem, and the task that it is grounded to.
 #[derive(Clone, Copy)]
-struct ReplayRequest<'a> {
-    asked: &'a ReplayWords<'a>,
-    problem: &'a Problem,
-    task: &'a Task,
+pub struct ReplayRequest<'a> {
+    pub asked: &'a ReplayWords<'a>,
+    pub problem: &'a Problem,
+    pub task: &'a Task,
 }
 
 /// The same with the plan that its file holds.
@@ -253,7 +253,12 @@ fn replay_record(
         (trace_under sys (plain_of request.now.plan.now) first recorded.words.items))
         (answer_of result) }
 {
-    let first = first_state(alloc, request, &recorded)?;
+    let named = ReplayRequest {
+        asked: request.asked,
+        problem: request.problem,
+        task: request.task,
+    };
+    let first = first_state(alloc, &named, &recorded)?;
     load_world(alloc, world, recorded.words)?;
     let start = Start {
         task: request.task,
@@ -264,9 +269,9 @@ fn replay_record(
 }
 
 /// The initial state whose number begins a record that was read out of its file.
-fn first_state(
+pub fn first_state(
     alloc: Global,
-    request: &RunRequest<'_>,
+    request: &ReplayRequest<'_>,
     recorded: &Recorded,
 ) -> Result<State, Refusal>
     ensures first { IfOk result (λ state. IsFirstState (initial_states request.now.task.now)

@@ -1,9 +1,10 @@
 -- A replay of the record of a run makes the run.
-use Rattle.std.proofs.Common.{◌≡◌, ◌∙◌, ℕ, zero, suc, ◌+◌, ◌≤◌, ◌<◌, ◌==◌, ◌&&◌, Bool, true, false, if◌then◌else◌, List, [], ◌∷◌, Option, Some, None, length, map, nat_lt, slice_get, arith, refl, sym, ap, subst}
-use Rattle.std.specs.Prelude.{⊤, find}
+use Rattle.std.proofs.Common.{◌≡◌, ◌∙◌, ℕ, zero, suc, ◌+◌, ◌≤◌, ◌<◌, ◌==◌, Bool, true, false, List, [], ◌∷◌, Option, Some, None, length, map, nat_lt, slice_get, arith, refl, sym, ap, subst}
+use Rattle.std.specs.Prelude.{⊤}
 use Rattle.std.specs.Option.{option_and_then, option_map}
-use Rattle.std.proofs.lemmas.Bool.{cond-false, cond-true, false≢true}
+use Rattle.std.proofs.lemmas.Bool.{cond-false, cond-true}
 use Rattle.std.proofs.lemmas.Bool.Decides.{nat_tests}
+use Rattle.list_laws.proofs.Booleans.{and_first, and_second}
 use Rattle.list_laws.proofs.Elements.{list_any-from}
 use Rattle.std.proofs.lemmas.Option.{none-some, same_Some}
 use Rattle.task_core.specs.ContextPlans.{Configuration, ContextPlan, first_context}
@@ -20,7 +21,7 @@ use Rattle.plan_rules.specs.Rules.{ContextRule, PlainPlan, PlanRule, automaton, 
 use Rattle.plan_witness.specs.Runs.{IsByOutcome, IsContextStep, IsRunOf, IsTableStep, PlainRun, PlainStep}
 use Rattle.plan_witness.proofs.Counting.{counting_at}
 use Rattle.plan_witness.proofs.Taken.{number_outcome}
-use Rattle.run_replay.specs.Traces.{Capped, Ended, Ending, Ends, Goes, Terminal, Trace, TraceStep, Turn, Unexecutable, acting, after_step, choosing, most_steps, outcome_state, run_plan, stepping, trace_from, turn}
+use Rattle.run_replay.specs.Traces.{Capped, Ended, Ending, Ends, Goes, Terminal, Trace, TraceStep, Unexecutable, acting, after_step, choosing, most_steps, outcome_state, run_plan, stepping, trace_from, turn}
 use Rattle.replayed_runs.specs.Replayed.{RecordsAreReplayed, as_traced, recorded}
 
 is_below : (a b : ℕ) → a < b → nat_lt a b ≡ true
@@ -28,14 +29,6 @@ is_below a b l = grind (arith, nat_tests)
 
 is_same : (a b : ℕ) → (a == b) ≡ true → a ≡ b
 is_same a b e = grind (arith, nat_tests)
-
-and_left : (a b : Bool) → (a && b) ≡ true → a ≡ true
-and_left true b is = refl
-and_left false b is = is
-
-and_right : (a b : Bool) → (a && b) ≡ true → b ≡ true
-and_right true b is = is
-and_right false b is = absurd (false≢true is)
 
 -- a trace without a step that leaves no number
 abbrev IsOver : Trace → Type 0
@@ -151,11 +144,11 @@ in_table : (sys : System) (class : Class) (rules : List PlanRule) (x : Configura
     → takes_first rules x.state steps ≡ true → TakesAll sys (run_plan (table class rules)) x steps
 in_table sys class rules x [] here is firsts = tt
 in_table sys class rules x (step ∷ steps) here (made, rest) firsts =
-    (takes made, in_table sys class rules step.after steps made.stays rest (and_right (first_match rules x.state == step.rule) (takes_first rules step.after.state steps) firsts))
+    (takes made, in_table sys class rules step.after steps made.stays rest (and_second (first_match rules x.state == step.rule) (takes_first rules step.after.state steps) firsts))
   where
     takes : IsTableStep sys rules x step → Takes sys (run_plan (table class rules)) x step
     takes made =
-        let number : first_match rules x.state ≡ step.rule = is_same (first_match rules x.state) step.rule (and_left (first_match rules x.state == step.rule) (takes_first rules step.after.state steps) firsts) in
+        let number : first_match rules x.state ≡ step.rule = is_same (first_match rules x.state) step.rule (and_first (first_match rules x.state == step.rule) (takes_first rules step.after.state steps) firsts) in
         let at : rule_at (map in_one_context rules) x.state x.context ≡ Some (in_one_context made.rule) =
         ap (rule_at (map in_one_context rules) x.state) here ∙ first_found rules x.state step.rule made.rule number made.numbered in
         record {

@@ -23,4 +23,5 @@ pub use records::{Recorded, read_words};
 pub use runs::{MOST_STEPS, Start, execute};
 pub use text::write_trace;
 pub use traces::{End, RunErr, Trace};
+pub use turns::{is_executable, outcome_state};
 pub use worlds::{RecordWorld, Step, World};

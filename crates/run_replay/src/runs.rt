@@ -21,7 +21,6 @@ ghost use Rattle.std.specs.Prelude.{
   IfOk,
   List,
   OnOk,
-  length,
   map,
 };
 ghost use Rattle.task_core.specs.States.{IsWithin};

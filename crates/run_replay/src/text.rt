@@ -18,7 +18,6 @@ ghost use Rattle.std.specs.Prelude.{
   All,
   IfOk,
   OnOk,
-  decimal,
   length,
   map,
   string_bytes,

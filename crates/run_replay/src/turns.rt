@@ -4,13 +4,13 @@ ghost use Rattle.plan_guide.specs.GuideRules.{rule_value};
 ghost use Rattle.plan_guide.specs.Guides.{IsGuideOf, IsReady, rules_of};
 ghost use Rattle.run_replay.specs.Traces.{outcome_state, turn as turn_of};
 ghost use Rattle.run_replay.specs.Turns.{IsTurn, MakesStepOf, taking, turn_by};
-ghost use Rattle.std.specs.Prelude.{◌≡◌, ◌<◌, ◌↔◌, ◌∷◌, ℕ, IfSome, IsTrue, length, List, Some};
+ghost use Rattle.std.specs.Prelude.{◌≡◌, ◌<◌, ◌↔◌, ◌∷◌, ℕ, IfSome, IsTrue, List, Some};
 ghost use Rattle.std.specs.Option.{option_map};
 ghost use Rattle.plan_rules.specs.Denoted.{can_execute, denoted_contexts};
 ghost use Rattle.task_core.specs.Systems.{Exec};
 ghost use Rattle.plan_rules.specs.Advices.{advised_by};
 ghost use Rattle.task_core.specs.States.{IsWithin, vector};
-ghost use Rattle.task_core.specs.Tasks.{action_count, fluent_count, outcomes_at, system_of};
+ghost use Rattle.task_core.specs.Tasks.{action_count, fluent_count, system_of};
 
 use crate::traces::{End, RunErr};
 use crate::worlds::{Step, World};
@@ -113,7 +113,7 @@ fn make_step(task: &Task, number: u64, state: &State, rule: &GuideRule<'_>, word
 
 /// The state to which an action that can be executed leads by this outcome number; `None` where the
 /// number is none of the action's outcomes, and where this outcome leads to no state.
-fn outcome_state(task: &Task, state: &State, action: ActionId, word: u32) -> Option<State>
+pub fn outcome_state(task: &Task, state: &State, action: ActionId, word: u32) -> Option<State>
     requires in_range { action.0 < action_count task.now }
     requires within { IsWithin (fluent_count task.now) state.now }
     requires executable { Exec (system_of task.now) (vector (fluent_count task.now) state.now)
@@ -134,7 +134,7 @@ fn outcome_state(task: &Task, state: &State, action: ActionId, word: u32) -> Opt
 }
 
 /// Whether an action can be executed in a state.
-fn is_executable(task: &Task, state: &State, action: ActionId) -> bool
+pub fn is_executable(task: &Task, state: &State, action: ActionId) -> bool
     requires in_range { action.0 < action_count task.now }
     requires within { IsWithin (fluent_count task.now) state.now }
     ensures value { result

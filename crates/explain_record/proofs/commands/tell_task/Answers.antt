@@ -7,7 +7,7 @@ use Rattle.command_base.specs.InitialStates.{empty_init}
 use Rattle.command_base.specs.Values.{answer_of, refusal_of, replay_words_of}
 use Rattle.command_base.proofs.Fetched.{plan_stops}
 use Rattle.command_base.proofs.Later.{failed_over}
-use Rattle.explain_record.specs.Values.{lined_of}
+use Rattle.explain_plan.specs.Values.{lined_of}
 use Rattle.explain_record.proofs.AfterFiles.{lined_holds, plan_answer, plan_refused, record_later}
 use Rattle.explain_record.proofs.commands.tell_task.Goals as goal
 

@@ -9,7 +9,7 @@ use Rattle.command_base.specs.InitialStates.{empty_init}
 use Rattle.command_base.specs.Values.{answer_of, refusal_of}
 use Rattle.replay_command.proofs.ReplayAnswers.{first_answer, first_refused}
 use Rattle.explain_record.specs.Told.{IsRunTold}
-use Rattle.explain_record.specs.Values.{lined_of}
+use Rattle.explain_plan.specs.Values.{lined_of}
 use Rattle.explain_record.proofs.shown.show_record.Goals as goal
 
 pub returns-in_err-first : goal.returns-in_err-first

@@ -61,15 +61,15 @@ returns-in-Au g c =
     let is = ap ctl_value c.in-Au.is ∙ value_Au c.in-Au.left c.in-Au.right ∙ ap (λ p. au (ctl_value p) (ctl_value c.in-Au.right.value)) (sym c.deref-in-Au.ensures) ∙ ap (λ p. au (ctl_value c.deref-in-Au.result.now) (ctl_value p)) (sym c.deref-in-Au-2.ensures) in
     subst (λ t. IfOk c.false_until.result (IsFailing c.args.scene.now t c.args.number)) (sym is) c.false_until.ensures
 
-pub false_before-requires-clause-fails : goal.false_before-requires-clause-fails
-false_before-requires-clause-fails g c =
+pub false_until-in-Aw-requires-clause-fails : goal.false_until-in-Aw-requires-clause-fails
+false_until-in-Aw-requires-clause-fails g c =
     let is = ap ctl_value c.in-Aw.is ∙ value_Aw c.in-Aw.left c.in-Aw.right ∙ ap (λ p. aw (ctl_value p) (ctl_value c.in-Aw.right.value)) (sym c.deref-in-Aw.ensures) ∙ ap (λ p. aw (ctl_value c.deref-in-Aw.result.now) (ctl_value p)) (sym c.deref-in-Aw-2.ensures) in
     subst (λ t. IsFalseAtNumber c.args.scene.now t c.args.number) is c.requires.fails
 
 pub returns-in-Aw : goal.returns-in-Aw
 returns-in-Aw g c =
     let is = ap ctl_value c.in-Aw.is ∙ value_Aw c.in-Aw.left c.in-Aw.right ∙ ap (λ p. aw (ctl_value p) (ctl_value c.in-Aw.right.value)) (sym c.deref-in-Aw.ensures) ∙ ap (λ p. aw (ctl_value c.deref-in-Aw.result.now) (ctl_value p)) (sym c.deref-in-Aw-2.ensures) in
-    subst (λ t. IfOk c.false_before.result (IsFailing c.args.scene.now t c.args.number)) (sym is) c.false_before.ensures
+    subst (λ t. IfOk c.false_until-in-Aw.result (IsFailing c.args.scene.now t c.args.number)) (sym is) c.false_until-in-Aw.ensures
 
 pub returns-in-Plain : goal.returns-in-Plain
 returns-in-Plain g c = told_as c.args.scene.now c.requires.scene (ctl_value c.args.goal.now) _ (ap ctl_value c.in-Plain.is ∙ value_Plain c.in-Plain.field-0) tt c.args.number c.requires.fails

@@ -1,20 +1,10 @@
-use Rattle.std.proofs.Common.{◌≡◌, ◌<◌, Bool, List, true, ℕ, length, sym, ap, ◌∙◌, subst}
-use Rattle.ctl_syntax.specs.Goals.{CtlTree}
+use Rattle.std.proofs.Common.{true, length, ap, ◌∙◌}
 use Rattle.ctl_syntax.specs.Values.{ctl_value}
-use Rattle.plan_check.specs.Labels.{ShowsGoal, mark_at}
 use Rattle.plan_witness.specs.Values.{steps_value}
 use Rattle.task_core.specs.Tasks.{fluent_count}
-use Rattle.task_core.specs.declared.conditions.Cond.{Cond}
-use Rattle.goal_witness.specs.Scenes.{size_in}
-use Rattle.plan_witness.specs.declared.scenes.Scene.{Scene}
 use Rattle.goal_witness.proofs.Fails.{ends_af, misses_af, none_everywhere}
+use Rattle.goal_witness.proofs.Found.{same_as, shows_as}
 use Rattle.goal_witness.proofs.failing.false_always.Goals as goal
-
-shows_as : (scene : Scene) (goal : CtlTree Cond) (marks read : List Bool) → read ≡ marks → ShowsGoal (fluent_count scene.task.now) scene.graph.now goal marks → ShowsGoal (fluent_count scene.task.now) scene.graph.now goal read
-shows_as scene goal marks read is = subst (λ ms. ShowsGoal (fluent_count scene.task.now) scene.graph.now goal ms) (sym is)
-
-same_as : (scene : Scene) (marks read : List Bool) (b : Bool) → read ≡ marks → ((i : ℕ) → i < size_in scene → mark_at marks i ≡ b) → (i : ℕ) → i < size_in scene → mark_at read i ≡ b
-same_as scene marks read b is = subst (λ ms. (i : ℕ) → i < size_in scene → mark_at ms i ≡ b) (sym is)
 
 pub endless-requires-clause-left : goal.endless-requires-clause-left
 endless-requires-clause-left g c = ap length c.deref.ensures.value ∙ c.in_ok-left.ensures.count

@@ -1,24 +1,15 @@
-use Rattle.std.proofs.Common.{◌≡◌, ◌<◌, Bool, List, false, ℕ, length, sym, ap, ◌∙◌, subst}
-use Rattle.ctl_syntax.specs.Goals.{CtlTree, ag}
+use Rattle.std.proofs.Common.{false, length, ap, ◌∙◌}
+use Rattle.list_laws.proofs.Options.{some_has}
+use Rattle.ctl_syntax.specs.Goals.{ag}
 use Rattle.ctl_syntax.specs.Values.{ctl_value}
 use Rattle.exec_graph.specs.Values.{followers_at}
-use Rattle.plan_check.specs.Labels.{ShowsGoal, mark_at}
 use Rattle.plan_witness.specs.Values.{steps_value}
 use Rattle.task_core.specs.Tasks.{fluent_count}
-use Rattle.task_core.specs.declared.conditions.Cond.{Cond}
-use Rattle.goal_witness.specs.Scenes.{size_in}
 use Rattle.goal_witness.specs.Walks.{IsWayFound, Lacks, NoneWithout}
 use Rattle.goal_witness.specs.declared.runs.Reached.{Reached}
-use Rattle.plan_witness.specs.declared.scenes.Scene.{Scene}
 use Rattle.goal_witness.proofs.Fails.{leads_ag, not_sat, true_ag}
-use Rattle.goal_witness.proofs.Found.{none_of, some_of}
+use Rattle.goal_witness.proofs.Found.{none_of, same_as, shows_as}
 use Rattle.goal_witness.proofs.failing.false_later.Goals as goal
-
-shows_as : (scene : Scene) (goal : CtlTree Cond) (marks read : List Bool) → read ≡ marks → ShowsGoal (fluent_count scene.task.now) scene.graph.now goal marks → ShowsGoal (fluent_count scene.task.now) scene.graph.now goal read
-shows_as scene goal marks read is = subst (λ ms. ShowsGoal (fluent_count scene.task.now) scene.graph.now goal ms) (sym is)
-
-same_as : (scene : Scene) (marks read : List Bool) (b : Bool) → read ≡ marks → ((i : ℕ) → i < size_in scene → mark_at marks i ≡ b) → (i : ℕ) → i < size_in scene → mark_at read i ≡ b
-same_as scene marks read b is = subst (λ ms. (i : ℕ) → i < size_in scene → mark_at ms i ≡ b) (sym is)
 
 pub way_without-requires-clause-left : goal.way_without-requires-clause-left
 way_without-requires-clause-left g c = ap length c.deref.ensures.value ∙ c.in_ok-left.ensures.count
@@ -35,7 +26,7 @@ way_without-requires-clause-lacks g c = same_as c.args.scene.now c.in_ok-right.r
 pub returns-in-Some : goal.returns-in-Some
 returns-in-Some g c =
     let scene = c.args.scene.now in
-    let way = some_of c.in_ok-reached.field-0 c.in-Some.reached (λ (r : Reached). IsWayFound scene c.deref.result.now c.deref-2.result.now c.args.number (steps_value (fluent_count scene.task.now) r.steps.items) r.end) c.in-Some.is c.in_ok-reached.ensures.some in
+    let way = some_has c.in_ok-reached.field-0 (λ (r : Reached). IsWayFound scene c.deref.result.now c.deref-2.result.now c.args.number (steps_value (fluent_count scene.task.now) r.steps.items) r.end) c.in-Some.reached c.in-Some.is c.in_ok-reached.ensures.some in
     leads_ag scene c.requires.scene (ctl_value c.args.part.now) c.args.number c.deref.result.now c.deref-2.result.now (steps_value (fluent_count scene.task.now) c.in-Some.reached.steps.items) c.in-Some.reached.end c.requires.fails
     (shows_as scene (ctl_value c.args.part.now) c.in_ok-left.left.items c.deref.result.now c.deref.ensures.value c.in_ok-left.ensures)
     (same_as scene c.in_ok-right.right.items c.deref-2.result.now false c.deref-2.ensures.value c.in_ok-right.ensures.each) way

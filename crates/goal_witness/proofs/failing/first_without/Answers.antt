@@ -2,7 +2,7 @@ use Rattle.std.proofs.Common.{◌≡◌, ◌<◌, true, length, sym, ◌∙◌, 
 use Rattle.std.proofs.lemmas.Grind.{get_or_default_zero}
 use Rattle.exec_graph.specs.Values.{followers_at}
 use Rattle.plan_check.specs.Labels.{mark_at}
-use Rattle.plan_witness.proofs.Leads.{contained_at}
+use Rattle.plan_witness.proofs.Taken.{contained_at}
 use Rattle.goal_witness.proofs.failing.first_without.Goals as goal
 
 pub is_marked-requires : goal.is_marked-requires

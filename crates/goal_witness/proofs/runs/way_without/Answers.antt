@@ -1,4 +1,5 @@
 use Rattle.std.proofs.Common.{◌≡◌, length, sym, ap, ◌∙◌, subst}
+use Rattle.list_laws.proofs.Options.{some_has}
 use Rattle.exec_graph.specs.Values.{followers_at}
 use Rattle.plan_check.specs.Walks.{IsMarked, IsWalk, last_number}
 use Rattle.plan_witness.specs.Values.{steps_value}
@@ -6,8 +7,8 @@ use Rattle.plan_witness.specs.Ways.{IsShortestWay, NoneLeads}
 use Rattle.task_core.specs.Tasks.{fluent_count}
 use Rattle.goal_witness.specs.Walks.{IsAlong}
 use Rattle.goal_witness.specs.Zones.{kept}
-use Rattle.goal_witness.specs.declared.shortest.Way.{Way}
-use Rattle.goal_witness.proofs.Found.{none_of, some_of}
+use Rattle.plan_witness.specs.declared.shortest.Way.{Way}
+use Rattle.goal_witness.proofs.Found.{none_of}
 use Rattle.goal_witness.proofs.Searched.{found_start, found_way, no_way, zone}
 use Rattle.goal_witness.proofs.runs.way_without.Goals as goal
 
@@ -32,7 +33,7 @@ steps_of-requires-clause-walk g c =
     let starts = c.deref-2.result.now in
     let ends = c.deref-3.result.now in
     let way = c.in-Some.way in
-    let shortest = some_of c.in_ok-way.field-0 way (λ (w : Way). IsShortestWay (kept next read) starts (IsMarked ends) w.start w.numbers.items) c.in-Some.is c.in_ok-way.ensures.shortest in
+    let shortest = some_has c.in_ok-way.field-0 (λ (w : Way). IsShortestWay (kept next read) starts (IsMarked ends) w.start w.numbers.items) way c.in-Some.is c.in_ok-way.ensures.shortest in
     let found = found_way scene c.requires.scene c.args.sides.right.now c.in_ok-inside.inside.items c.requires.right c.in_ok-inside.ensures c.args.number c.requires.number c.requires.lacks
     c.args.sides.left.now c.in_ok-ends.ends.items starts ends read c.deref.ensures.value c.requires.left c.in_ok-ends.ensures c.deref-3.ensures.value c.in_ok-only.only.items c.deref-2.ensures.value c.in_ok-only.ensures.count c.in_ok-only.ensures.marked
     way.start way.numbers.items shortest in
@@ -46,8 +47,8 @@ returns-in-Some-clause-some g c =
     let starts = c.deref-2.result.now in
     let ends = c.deref-3.result.now in
     let way = c.in-Some.way in
-    let shortest = some_of c.in_ok-way.field-0 way (λ (w : Way). IsShortestWay (kept next read) starts (IsMarked ends) w.start w.numbers.items) c.in-Some.is c.in_ok-way.ensures.shortest in
-    let end = some_of c.in_ok-way.field-0 way (λ (w : Way). last_number w.start w.numbers.items ≡ w.end) c.in-Some.is c.in_ok-way.ensures.end in
+    let shortest = some_has c.in_ok-way.field-0 (λ (w : Way). IsShortestWay (kept next read) starts (IsMarked ends) w.start w.numbers.items) way c.in-Some.is c.in_ok-way.ensures.shortest in
+    let end = some_has c.in_ok-way.field-0 (λ (w : Way). last_number w.start w.numbers.items ≡ w.end) way c.in-Some.is c.in_ok-way.ensures.end in
     let found = found_way scene c.requires.scene c.args.sides.right.now c.in_ok-inside.inside.items c.requires.right c.in_ok-inside.ensures c.args.number c.requires.number c.requires.lacks
     c.args.sides.left.now c.in_ok-ends.ends.items starts ends read c.deref.ensures.value c.requires.left c.in_ok-ends.ensures c.deref-3.ensures.value c.in_ok-only.only.items c.deref-2.ensures.value c.in_ok-only.ensures.count c.in_ok-only.ensures.marked
     way.start way.numbers.items shortest in

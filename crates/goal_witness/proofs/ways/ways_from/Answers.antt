@@ -24,7 +24,7 @@ loop-now-preserved g c =
     let r = c.round.ensures in
     let i = c.loop-now.invariant in
     record {
-      round = next_round (graph_size c.args.zone.now.graph.now) (next_in c.args.zone.now.graph.now c.args.zone.now.inside.now) c.round.new.self.lengths.items c.round.new.self.before.items c.loop-now.now r.round;
+      round = next_round (graph_size c.args.zone.now.graph.now) (next_in c.args.zone.now.graph.now c.args.zone.now.inside.now) c.round.new.ways.lengths.items c.round.new.ways.before.items c.loop-now.now r.round;
       starts = λ k b. ((λ m. (r.grown.zeros k).1 ((i.starts k b).0 m)), (λ z. (i.starts k b).1 ((r.grown.zeros k).0 z)));
       reached = λ k l h. r.round.most k l h;
       few = let m = r.grown.more c.loop-now-test.true in let f = i.few in omega (arith, m, f);
@@ -37,6 +37,6 @@ returns g c =
     let i = c.loop-now.invariant in
     let same = r.grown.same c.loop-now-test.false in
     let few = i.few in
-    made_ways n (next_in c.args.zone.now.graph.now c.args.zone.now.inside.now) c.args.starts.now c.round.new.self.lengths.items c.round.new.self.before.items c.loop-now.now (omega (arith, few)) (omega (arith, c.len-count.ensures.len, c.len-count.ensures.few)) r.round
+    made_ways n (next_in c.args.zone.now.graph.now c.args.zone.now.inside.now) c.args.starts.now c.round.new.ways.lengths.items c.round.new.ways.before.items c.loop-now.now (omega (arith, few)) (omega (arith, c.len-count.ensures.len, c.len-count.ensures.few)) r.round
     (λ k l h. subst (λ (xs : List ℕ). at xs k ≤ c.loop-now.now) (sym same) (i.reached k l (subst (λ (xs : List ℕ). at xs k < far) same h)))
     (λ k b. ((λ m. (r.grown.zeros k).1 ((i.starts k b).0 m)), (λ z. (i.starts k b).1 ((r.grown.zeros k).0 z))))

@@ -1,6 +1,6 @@
 use Rattle.std.proofs.Common.{sym, ap, not, ◌∙◌}
 use Rattle.std.proofs.lemmas.Bool.{false≢true}
-use Rattle.plan_check.proofs.LabelFacts.{not_true}
+use Rattle.list_laws.proofs.Booleans.{not_true}
 use Rattle.goal_witness.proofs.witnesses.is_followed.Goals as goal
 
 pub returns-then-unexecutable-clause-all : goal.returns-then-unexecutable-clause-all

@@ -1,12 +1,15 @@
 use Rattle.std.proofs.Common.{◌≡◌, ◌++◌, List, OnOk, codes, map, string_bytes, subst, sym}
+use Rattle.list_laws.proofs.Elements.{pushed_two}
+use Rattle.list_laws.proofs.Options.{on_ok}
 use Rattle.task_core.specs.Tasks.{fluent_names}
 use Rattle.goal_witness.specs.Lines.{line_value}
 use Rattle.goal_witness.specs.Texts.{false_lines}
 use Rattle.goal_witness.specs.declared.lines.Line.{Line}
-use Rattle.plan_finding.specs.Texts.{conditions_text, ending_text, missed_text, round_text}
+use Rattle.state_text.specs.Texts.{conditions_text}
+use Rattle.plan_finding.specs.Texts.{ending_text, missed_text, round_text}
 use Rattle.plan_finding.specs.Values.{ending_value, source_value}
 use Rattle.plan_finding.specs.declared.endings.Ending.{Ending as CodeEnding}
-use Rattle.plan_finding.proofs.Pushed.{on_ok, pushed_two, when_ok}
+use Rattle.plan_finding.proofs.Pushed.{when_ok}
 use Rattle.plan_finding.proofs.texts.push_ending.Goals as goal
 
 pub returns-in_ok-push_str-in-OutsideGoal : goal.returns-in_ok-push_str-in-OutsideGoal

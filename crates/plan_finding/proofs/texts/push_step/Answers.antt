@@ -1,12 +1,13 @@
 use Rattle.std.proofs.Common.{◌≡◌, ◌++◌, string_bytes}
+use Rattle.list_laws.proofs.Elements.{pushed_four, pushed_two}
+use Rattle.list_laws.proofs.Options.{on_ok}
 use Rattle.task_core.specs.States.{vector}
 use Rattle.task_core.specs.Tasks.{fluent_count, fluent_names}
 use Rattle.plan_rules.specs.Texts.{line_feed}
 use Rattle.plan_witness.specs.Values.{step_value}
-use Rattle.state_text.specs.Texts.{changes_text}
-use Rattle.plan_finding.specs.Texts.{context_note, move_text, number_text, step_lines}
+use Rattle.state_text.specs.Texts.{changes_text, number_text}
+use Rattle.plan_finding.specs.Texts.{context_note, move_text, step_lines}
 use Rattle.plan_finding.specs.Values.{source_value}
-use Rattle.plan_finding.proofs.Pushed.{on_ok, pushed_four, pushed_two}
 use Rattle.plan_finding.proofs.texts.push_step.Goals as goal
 
 pub returns : goal.returns

@@ -1,7 +1,7 @@
 use Rattle.std.proofs.Common.{arith}
 use Rattle.std.proofs.lemmas.Bool.{false≢true}
 use Rattle.exec_graph.specs.Values.{followers_at}
-use Rattle.plan_witness.proofs.Leads.{contained_at}
+use Rattle.plan_witness.proofs.Taken.{contained_at}
 use Rattle.plan_witness.proofs.cycles.follows.Goals as goal
 
 pub returns : goal.returns

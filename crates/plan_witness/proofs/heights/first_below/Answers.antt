@@ -3,7 +3,7 @@ use borrow.Author.Count.{below_more}
 use Rattle.std.proofs.lemmas.Grind.{get_or_default_zero}
 use Rattle.exec_graph.specs.Values.{followers_at}
 use Rattle.plan_witness.specs.Ways.{at}
-use Rattle.plan_witness.proofs.Leads.{contained_at}
+use Rattle.plan_witness.proofs.Taken.{contained_at}
 use Rattle.plan_witness.proofs.heights.first_below.Goals as goal
 
 pub is_one_below-requires-clause-other : goal.is_one_below-requires-clause-other

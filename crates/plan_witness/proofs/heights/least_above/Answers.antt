@@ -2,7 +2,7 @@ use Rattle.std.proofs.Common.{◌<◌, ◌≤◌, ◌+◌, length, sym, ◌∙�
 use Rattle.std.proofs.lemmas.Grind.{get_or_default_zero}
 use Rattle.exec_graph.specs.Values.{followers_at}
 use Rattle.plan_witness.specs.Ways.{at}
-use Rattle.plan_witness.proofs.Leads.{contained_at}
+use Rattle.plan_witness.proofs.Taken.{contained_at}
 use Rattle.plan_witness.proofs.heights.least_above.Goals as goal
 
 pub height_at-above-requires : goal.height_at-above-requires

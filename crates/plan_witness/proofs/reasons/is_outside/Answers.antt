@@ -2,7 +2,7 @@ use Rattle.std.proofs.Common.{not, sym, ap, ◌∙◌}
 use Rattle.std.proofs.lemmas.List.{nil_from_length}
 use Rattle.exec_graph.specs.Values.{followers_at, state_at}
 use Rattle.plan_check.proofs.GraphVerdicts.{goal_value}
-use Rattle.plan_witness.proofs.Meanings.{not_true}
+use Rattle.list_laws.proofs.Booleans.{not_true}
 use Rattle.plan_witness.proofs.reasons.is_outside.Goals as goal
 
 pub returns : goal.returns

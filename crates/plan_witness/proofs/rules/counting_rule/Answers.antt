@@ -2,13 +2,13 @@ use Rattle.std.proofs.Common.{◌≡◌, false, map, sym, ap, ◌∙◌, arith}
 use Rattle.std.specs.Prelude.{slice_get, Some}
 use borrow.Author.Count.{below_more}
 use Rattle.std.proofs.lemmas.List.{length-map}
-use Rattle.std.proofs.lemmas.Option.{same_Some, slice_get-get_or}
+use Rattle.std.proofs.lemmas.Option.{same_Some, slice_get-get_or, slice_get_within}
 use Rattle.task_core.specs.ContextPlans.{Configuration}
 use Rattle.task_core.specs.States.{vector}
 use Rattle.task_core.specs.Tasks.{fluent_count}
 use Rattle.plan_rules.specs.Rules.{context_rule_of}
 use Rattle.plan_witness.specs.Runs.{is_for}
-use Rattle.plan_witness.proofs.Counting.{find_nothing, get_below}
+use Rattle.plan_witness.proofs.Counting.{find_nothing}
 use Rattle.plan_witness.proofs.Taken.{get_mapped}
 use Rattle.plan_witness.proofs.rules.counting_rule.Goals as goal
 
@@ -40,4 +40,4 @@ pub returns-clause-none : goal.returns-clause-none
 returns-clause-none c =
     let x : Configuration = record { state = vector (fluent_count c.args.task.now) c.args.state.now; context = c.args.context } in
     find_nothing (is_for x) (map context_rule_of c.args.rules.now)
-    (λ k other e. c.loop-number.invariant k other (let l = get_below (map context_rule_of c.args.rules.now) k other e in omega (arith, l, length-map c.args.rules.now context_rule_of, c.loop-number-test.false)) e)
+    (λ k other e. c.loop-number.invariant k other (let l = slice_get_within (map context_rule_of c.args.rules.now) k other e in omega (arith, l, length-map c.args.rules.now context_rule_of, c.loop-number-test.false)) e)

@@ -1,11 +1,15 @@
 use Rattle.std.proofs.Common.{◌≡◌, ◌↔◌, ◌<◌, ℕ, [], Bool, List, sym, subst}
-use Rattle.task_core.specs.Tasks.{system_of}
+use Rattle.task_core.specs.Tasks.{fluent_count, system_of}
 use Rattle.plan_rules.specs.Rules.{plain_of}
 use Rattle.exec_graph.specs.Values.{followers_at, graph_size}
 use Rattle.plan_check.specs.Walks.{IsMarked}
+use Rattle.plan_check.proofs.SpreadSteps.{graph_turned}
 use Rattle.plan_witness.specs.Ends.{IsEndless}
 use Rattle.plan_witness.proofs.Meanings.{both_ways, endless_meaning, missing, shown}
 use Rattle.plan_witness.proofs.unreachable.endless_run.Goals as goal
+
+pub not_leading-requires-clause-turned : goal.not_leading-requires-clause-turned
+not_leading-requires-clause-turned g c = graph_turned (system_of c.args.task.now) (plain_of c.args.plan.now) (fluent_count c.args.task.now) c.args.graph.now c.requires.graph
 
 pub returns-clause-shortest : goal.returns-clause-shortest
 returns-clause-shortest g c =

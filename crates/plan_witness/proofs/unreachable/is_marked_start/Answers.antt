@@ -7,6 +7,6 @@ returns-then-not-initial c = ((λ e. absurd (false≢true e)), (λ x. absurd (fa
 
 pub returns : goal.returns
 returns c = (
-  (λ e. record { initial = sym (c.initial.ensures 0) ∙ c.if-not-initial.false; marked = sym c.has_mark.ensures ∙ e }),
-  (λ x. c.has_mark.ensures ∙ x.marked),
+  (λ e. record { initial = sym (c.initial.ensures 0) ∙ c.if-not-initial.false; marked = sym c.is_marked.ensures ∙ e }),
+  (λ x. c.is_marked.ensures ∙ x.marked),
 )

@@ -6,12 +6,16 @@ use Rattle.exec_graph.specs.Values.{followers_at, graph_size}
 use Rattle.plan_check.specs.Plain.{IsGoalEnd}
 use Rattle.plan_check.specs.Walks.{IsMarked, LeadsToMarked}
 use Rattle.plan_check.proofs.GraphVerdicts.{goal_below, goal_small}
+use Rattle.plan_check.proofs.SpreadSteps.{graph_turned}
 use Rattle.plan_witness.specs.Ends.{IsLostStart}
 use Rattle.plan_witness.proofs.Meanings.{both_ways, missing, lost_meaning, shown}
 use Rattle.plan_witness.proofs.unreachable.lost_run.Goals as goal
 
 pub goal_ends-requires : goal.goal_ends-requires
 goal_ends-requires g c = goal_small c.args.task.now c.unwrap.result.now (sym c.as_ref.ensures.value ∙ ap option_copied c.unwrap.ensures)
+
+pub not_leading-requires-clause-turned : goal.not_leading-requires-clause-turned
+not_leading-requires-clause-turned g c = graph_turned (system_of c.args.task.now) (plain_of c.args.plan.now) (fluent_count c.args.task.now) c.args.graph.now c.requires.graph
 
 pub returns-clause-shortest : goal.returns-clause-shortest
 returns-clause-shortest g c =

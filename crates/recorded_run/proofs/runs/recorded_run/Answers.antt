@@ -1,11 +1,11 @@
 use Rattle.std.proofs.Common.{List, subst}
+use Rattle.std.proofs.lemmas.Result.{IfOk-weaker}
 use Rattle.plan_rules.specs.Rules.{ContextRule, plain_of}
 use Rattle.task_core.specs.States.{vector}
 use Rattle.task_core.specs.Tasks.{fluent_count}
 use Rattle.recorded_run.specs.RecordedRuns.{IsRecordedRun}
 use Rattle.recorded_run.specs.Turns.{HasHalted}
 use Rattle.recorded_run.specs.Values.{run_value}
-use Rattle.recorded_run.proofs.Courses.{if_ok}
 use Rattle.recorded_run.proofs.runs.recorded_run.Goals as goal
 
 pub stopped-requires : goal.stopped-requires
@@ -18,4 +18,4 @@ returns c =
     let first = vector (fluent_count task) c.args.first.now in
     let words = c.args.words.now in
     let has = subst (λ (rules : List ContextRule). HasHalted task rules first words c.in_ok-halted.halted) c.in_ok-rules.ensures.rules c.in_ok-halted.ensures in
-    if_ok c.stopped.result _ (λ run. IsRecordedRun task plan first words (run_value (fluent_count task) run)) (λ run is. is plan first words has) c.stopped.ensures
+    IfOk-weaker c.stopped.result _ (λ run. IsRecordedRun task plan first words (run_value (fluent_count task) run)) (λ run is. is plan first words has) c.stopped.ensures

@@ -3,9 +3,9 @@ use Rattle.task_core.specs.Tasks.{fluent_count}
 use Rattle.recorded_run.proofs.Stopping.{at_no_outcome, at_plan_end, at_refusal}
 use Rattle.recorded_run.proofs.stops.stop_at.Goals as goal
 
-pub returns-in_ok-false_goal-in-PlanEnds : goal.returns-in_ok-false_goal-in-PlanEnds
-returns-in_ok-false_goal-in-PlanEnds c = λ rules context number ruled.
-    at_plan_end c.args.task.now rules (vector (fluent_count c.args.task.now) c.args.state.now) context number c.args.halt c.in_ok-false_goal-in-PlanEnds.field-0 c.in-PlanEnds.is c.in_ok-false_goal-in-PlanEnds.ensures
+pub returns-in_ok-goal_parts-in-PlanEnds : goal.returns-in_ok-goal_parts-in-PlanEnds
+returns-in_ok-goal_parts-in-PlanEnds c = λ rules context number ruled.
+    at_plan_end c.args.task.now rules (vector (fluent_count c.args.task.now) c.args.state.now) context number c.args.halt c.in_ok-goal_parts-in-PlanEnds.field-0 c.in-PlanEnds.is c.in_ok-goal_parts-in-PlanEnds.ensures
 
 pub returns-in-NoOutcome : goal.returns-in-NoOutcome
 returns-in-NoOutcome c = λ rules context number ruled.

@@ -1,8 +1,10 @@
 use Rattle.std.proofs.Common.{◌≡◌, ◌++◌, ◌∙◌, [], ap, codes, map, rules, string_bytes}
-use Rattle.plan_finding.specs.Texts.{conditions_text}
+use Rattle.list_laws.proofs.Elements.{pushed_two}
+use Rattle.list_laws.proofs.Options.{on_ok}
+use Rattle.state_text.specs.Texts.{conditions_text}
 use Rattle.task_core.specs.Tasks.{fluent_names}
 use Rattle.recorded_run.specs.Texts.{goal_text}
-use Rattle.recorded_run.proofs.Pushed.{on_ok, outside, pushed_two}
+use Rattle.recorded_run.proofs.Pushed.{outside}
 use Rattle.recorded_run.proofs.texts.push_goal.Goals as goal
 
 pub returns : goal.returns

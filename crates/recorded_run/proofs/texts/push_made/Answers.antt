@@ -1,13 +1,13 @@
 use Rattle.std.proofs.Common.{◌≡◌, ◌++◌, string_bytes}
+use Rattle.list_laws.proofs.Elements.{pushed_four, pushed_two}
+use Rattle.list_laws.proofs.Options.{on_ok}
 use Rattle.task_core.specs.States.{vector}
 use Rattle.task_core.specs.Tasks.{fluent_count, fluent_names}
-use Rattle.plan_finding.specs.Texts.{number_text}
 use Rattle.plan_finding.specs.Values.{source_value}
 use Rattle.plan_rules.specs.Texts.{line_feed}
-use Rattle.state_text.specs.Texts.{changes_text}
+use Rattle.state_text.specs.Texts.{changes_text, number_text}
 use Rattle.recorded_run.specs.Texts.{made_lines, move_text, next_note}
 use Rattle.recorded_run.specs.Values.{made_value}
-use Rattle.recorded_run.proofs.Pushed.{on_ok, pushed_four, pushed_two}
 use Rattle.recorded_run.proofs.texts.push_made.Goals as goal
 
 pub returns : goal.returns

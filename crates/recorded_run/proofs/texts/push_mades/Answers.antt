@@ -1,10 +1,11 @@
 use Rattle.std.proofs.Common.{◌++◌, ◌∙◌, ap, string_bytes, sym, take}
 use Rattle.std.specs.List.{flat_map}
+use Rattle.list_laws.proofs.Elements.{pushed_two}
 use Rattle.plan_finding.specs.Values.{source_value}
 use Rattle.task_core.specs.Tasks.{fluent_count}
 use Rattle.recorded_run.specs.Texts.{made_lines}
 use Rattle.recorded_run.specs.Values.{made_value, mades_value}
-use Rattle.recorded_run.proofs.Pushed.{lines_more, pushed_two}
+use Rattle.recorded_run.proofs.Pushed.{lines_more}
 use Rattle.recorded_run.proofs.texts.push_mades.Goals as goal
 
 pub loop-made-preserved : goal.loop-made-preserved

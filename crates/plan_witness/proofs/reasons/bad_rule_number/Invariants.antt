@@ -5,7 +5,7 @@ use Rattle.task_core.specs.States.{vector}
 use Rattle.task_core.specs.Systems.{Exec}
 use Rattle.task_core.specs.Tasks.{fluent_count, system_of}
 use Rattle.plan_rules.specs.Rules.{PlanRule, rule_of}
-use Rattle.plan_witness.proofs.reasons.has_bad_rule.Given as goal
+use Rattle.plan_witness.proofs.reasons.bad_rule_number.Given as goal
 
 abbrev pub invariant-loop-number : goal.invariant-loop-number
 invariant-loop-number l = (k : ℕ) (rule : PlanRule) → k < l.number → slice_get (map rule_of l.rules) k ≡ Some rule
