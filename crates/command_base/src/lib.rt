@@ -29,7 +29,9 @@ pub use files::fetch;
 pub use grounding::{check_goal, goal_in, ground_both, grounded};
 pub use initial_states::no_initial;
 pub use laws::texts_are_read_one_way;
-pub use pddl_texts::{domain_in, misread, problem_in, read_both};
+pub use pddl_texts::{
+    DomainFile, ReadTexts, domain_in, misread, problem_in, read_both, read_texts,
+};
 pub use plan_files::read_plan_file;
 pub use program_words::command_words;
 pub use words::{

@@ -8,7 +8,7 @@ ghost use Rattle.command_base.specs.PddlTexts.{
   IsFaultyProblem,
   SpellsProblemOf,
 };
-ghost use Rattle.command_base.specs.Reading.{Holds, IsFile, IsRefusedFile, file_limit};
+ghost use Rattle.command_base.specs.Reading.{IsFile, IsRefusedFile, file_limit};
 ghost use Rattle.command_base.specs.Shelves.{ReadsShelf};
 ghost use Rattle.command_base.specs.Values.{refusal_for, refusal_of};
 ghost use Rattle.domain_read.specs.Domains.{SpellsDomain};
@@ -77,24 +77,41 @@ pub fn problem_in(
     }
 }
 
+/// A domain, and the text of the file that spells it.
+#[derive(Drop)]
+pub struct DomainFile {
+    pub domain: Domain,
+    pub text: Vec<u8>,
+}
+
+/// A domain and a problem of it, and the texts of the files that spell them.
+#[derive(Drop)]
+pub struct ReadTexts {
+    pub file: DomainFile,
+    pub problem: Problem,
+    pub problem_text: Vec<u8>,
+}
+
 /// The domain in a file.
-pub fn read_domain_file<S: Shelf>(
+fn read_domain_file<S: Shelf>(
     alloc: Global,
     shelf: &mut S,
     name: &str,
-) -> Result<Domain, Refusal>
-    ensures holds { IfOk result
-        (λ d. Holds (S.held shelf.old) SpellsDomain name.now (domain_value d)) }
-    ensures fits { IfOk result (λ d. FitsDomain (domain_value d)) }
-    ensures words { IfOk result (λ d. HasWordNames (domain_value d)) }
+) -> Result<DomainFile, Refusal>
+    ensures file { IfOk result (λ file. IsFile (S.held shelf.old) name.now file.text.items) }
+    ensures spells { IfOk result
+        (λ file. SpellsDomain file.text.items (domain_value file.domain)) }
+    ensures fits { IfOk result (λ file. FitsDomain (domain_value file.domain)) }
+    ensures words { IfOk result (λ file. HasWordNames (domain_value file.domain)) }
     ensures refused { let failed = FailedLast S.fetched S.faults shelf.old shelf.new in
         IfErr result (λ refusal. (refusal_of refusal ≡ no_memory)
         ⊎ IsRefusedFile (S.held shelf.old) failed IsFaultyDomain name.now (refusal_of refusal)) }
     ensures fetch { S.fetched shelf.old name.now shelf.new }
     ensures shelf { ReadsShelf S.held S.faults result shelf.old shelf.new }
 {
-    let bytes = fetch(alloc, shelf, name)?;
-    domain_in(alloc, name, &bytes)
+    let text = fetch(alloc, shelf, name)?;
+    let domain = domain_in(alloc, name, &text)?;
+    Ok(DomainFile { domain, text })
 }
 
 /// The domain in a file, and the bytes of the file of a problem, which is fetched once the domain
@@ -104,12 +121,14 @@ fn fetch_both<S: Shelf>(
     shelf: &mut S,
     domain_name: &str,
     problem_name: &str,
-) -> Result<(Domain, Vec<u8>), Refusal>
-    ensures holds { IfOk result (λ both.
-        Holds (S.held shelf.old) SpellsDomain domain_name.now (domain_value both.0)) }
-    ensures fits { IfOk result (λ both. FitsDomain (domain_value both.0)) }
-    ensures words { IfOk result (λ both. HasWordNames (domain_value both.0)) }
-    ensures file { IfOk result (λ both.
+) -> Result<(DomainFile, Vec<u8>), Refusal>
+    ensures domain_file { IfOk result (λ both.
+        IsFile (S.held shelf.old) domain_name.now both.0.text.items) }
+    ensures spells { IfOk result
+        (λ both. SpellsDomain both.0.text.items (domain_value both.0.domain)) }
+    ensures fits { IfOk result (λ both. FitsDomain (domain_value both.0.domain)) }
+    ensures words { IfOk result (λ both. HasWordNames (domain_value both.0.domain)) }
+    ensures problem_file { IfOk result (λ both.
         IsFile (S.held shelf.old) problem_name.now both.1.items) }
     ensures refused { let failed = FailedLast S.fetched S.faults shelf.old shelf.new in
         IfErr result (λ refusal. RefusesBoth (S.held shelf.old) failed domain_name.now
@@ -127,6 +146,51 @@ fn fetch_both<S: Shelf>(
     let domain = read_domain_file(alloc, shelf, domain_name)?;
     let bytes = fetch(alloc, shelf, problem_name)?;
     Ok((domain, bytes))
+}
+
+/// The domain and the problem of it in two files, with the texts of the files.
+pub fn read_texts<S: Shelf>(
+    alloc: Global,
+    shelf: &mut S,
+    domain_name: &str,
+    problem_name: &str,
+) -> Result<ReadTexts, Refusal>
+    ensures domain_file { IfOk result (λ read.
+        IsFile (S.held shelf.old) domain_name.now read.file.text.items) }
+    ensures domain_spelled { IfOk result
+        (λ read. SpellsDomain read.file.text.items (domain_value read.file.domain)) }
+    ensures problem_file { IfOk result (λ read.
+        IsFile (S.held shelf.old) problem_name.now read.problem_text.items) }
+    ensures problem_spelled { IfOk result
+        (λ read. SpellsProblemOf (domain_value read.file.domain) read.problem_text.items
+        (problem_value read.problem)) }
+    ensures fits_domain { IfOk result (λ read. FitsDomain (domain_value read.file.domain)) }
+    ensures fits_problem { IfOk result
+        (λ read. FitsProblem (domain_value read.file.domain) (problem_value read.problem)) }
+    ensures names { IfOk result
+        (λ read. NamesAreWords (domain_value read.file.domain) (problem_value read.problem)) }
+    ensures refused { let failed = FailedLast S.fetched S.faults shelf.old shelf.new in
+        IfErr result (λ refusal. RefusesBoth (S.held shelf.old) failed domain_name.now
+        problem_name.now (refused (refusal_of refusal))) }
+    ensures stopped { let failed = FailedLast S.fetched S.faults shelf.old shelf.new in
+        IfErr result (λ refusal. FetchDomain (S.held shelf.old) failed S.fetched domain_name.now
+        (refused (refusal_of refusal)) (Fetches S.fetched (problem_name.now ∷ []))
+        shelf.old shelf.new) }
+    ensures fetches { FetchesBoth (S.held shelf.old) S.fetched domain_name.now problem_name.now
+        FetchesNothing shelf.old shelf.new }
+    ensures fetched { OnOk result
+        (Fetches S.fetched (domain_name.now ∷ problem_name.now ∷ []) shelf.old shelf.new) }
+    ensures shelf { ReadsShelf S.held S.faults result shelf.old shelf.new }
+{
+    // This does nothing: `names` rests on what it promises.
+    read_names_are_words();
+    let (file, problem_text) = fetch_both(alloc, shelf, domain_name, problem_name)?;
+    let problem = problem_in(alloc, problem_name, &problem_text, &file.domain)?;
+    Ok(ReadTexts {
+        file,
+        problem,
+        problem_text,
+    })
 }
 
 /// The domain and the problem of it in two files.
@@ -156,9 +220,7 @@ pub fn read_both<S: Shelf>(
         (Fetches S.fetched (domain_name.now ∷ problem_name.now ∷ []) shelf.old shelf.new) }
     ensures shelf { ReadsShelf S.held S.faults result shelf.old shelf.new }
 {
-    // This does nothing: `names` rests on what it promises.
-    read_names_are_words();
-    let (domain, bytes) = fetch_both(alloc, shelf, domain_name, problem_name)?;
-    let problem = problem_in(alloc, problem_name, &bytes, &domain)?;
-    Ok((domain, problem))
+    let read = read_texts(alloc, shelf, domain_name, problem_name)?;
+    let file = read.file;
+    Ok((file.domain, read.problem))
 }

@@ -1,6 +1,6 @@
 -- Private: what was read.
 use Rattle.mistakes_command.specs.Mistakes.{Spelled}
-use Rattle.mistakes_command.specs.declared.files.ReadTexts.{ReadTexts}
+use Rattle.command_base.specs.declared.pddl_texts.ReadTexts.{ReadTexts}
 use Rattle.pddl_ast.specs.Values.{domain_value, problem_value}
 
 abbrev pub spelled_by : ReadTexts → Spelled

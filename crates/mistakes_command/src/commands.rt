@@ -15,10 +15,9 @@ ghost use Rattle.mistakes_command.specs.Words.{
 ghost use Rattle.plan_io.specs.Fetches.{FailedLast, FetchesNothing};
 ghost use Rattle.std.specs.Prelude.{◌≡◌, ◌⊎◌, map, string_bytes};
 
-use crate::files::read_texts;
 use crate::found::shown;
 use crate::words::{MistakesWords, read_words};
-use command_base::{Refusal, Shown};
+use command_base::{Refusal, Shown, read_texts};
 use plan_io::Shelf;
 use std::alloc::Global;
 
@@ -56,6 +55,6 @@ fn mistakes_in_files<S: Shelf>(
         asked.now.names.problem.now FetchesNothing shelf.old shelf.new }
     ensures shelf { KeepsShelf S.held S.faults (answer_of result) shelf.old shelf.new }
 {
-    let read = read_texts(alloc, shelf, &asked.names)?;
+    let read = read_texts(alloc, shelf, asked.names.domain, asked.names.problem)?;
     shown(alloc, asked, &read)
 }

@@ -38,10 +38,9 @@ ghost use Rattle.std.specs.Prelude.{
   map,
 };
 
-use crate::files::ReadTexts;
 use crate::in_task::{add_task_notices, hints_in};
 use crate::words::MistakesWords;
-use command_base::{Refusal, Shown, Text};
+use command_base::{ReadTexts, Refusal, Shown, Text};
 use ground_task::{GroundErr, ground};
 use likely_mistakes::{Files, Mistakes, find_mistakes};
 use mistake_notices::{

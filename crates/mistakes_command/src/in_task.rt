@@ -23,7 +23,7 @@ ghost use Rattle.relaxed_reach.specs.Literals.{has};
 ghost use Rattle.sexpr_text.specs.Forest.{forest_of};
 ghost use Rattle.std.specs.Prelude.{◌≡◌, ◌≤◌, IfOk, IfSome, None, OnOk, length, map};
 
-use crate::files::ReadTexts;
+use command_base::ReadTexts;
 use group_hints::{GroupHints, Texts, group_hints};
 use likely_mistakes::{forms_of, sections_of};
 use mistake_notices::{Notice, Written, add_groups, add_never, goal_notice, invariant_notice};

@@ -5,7 +5,6 @@
 #![tactic(auto)]
 
 mod commands;
-mod files;
 mod found;
 mod in_task;
 mod top;

@@ -1,32 +1,9 @@
-use Rattle.std.proofs.lemmas.Result.{err_from_is_err_and}
-use Rattle.pddl_ast.specs.Values.{domain_value, problem_value}
-use Rattle.plan_io.specs.Fetches.{FailedLast}
-use Rattle.command_base.specs.Values.{refusal_of}
-use Rattle.command_base.proofs.Fetched.{files_may_be, files_stop, problem_misread}
 use Rattle.command_base.proofs.pddl_texts.read_both.Goals as goal
 
-pub returns-in_err-problem-clause-refused : goal.returns-in_err-problem-clause-refused
-returns-in_err-problem-clause-refused g c =
-    let p = err_from_is_err_and c.from_residual-in_err-problem.result c.from_residual-in_err-problem.ensures.1 in
-    let held = g.S.Shelf.held c.args.shelf.now in
-    let failed = FailedLast g.S.Shelf.fetched g.S.Shelf.faults c.args.shelf.now c.fetch_both.new.shelf in
-    let file = rw (← c.deref.ensures.value) at c.in_ok-domain.ensures.file in
-    rw (p.1, p.2) (problem_misread held failed c.args.domain_name.now c.args.problem_name.now _ _ (refusal_of c.in_err-problem.field-0.0) c.in_ok-domain.ensures.holds file c.in_err-problem.ensures.refused)
-
-pub returns-in_err-problem-clause-stopped : goal.returns-in_err-problem-clause-stopped
-returns-in_err-problem-clause-stopped g c =
-    let p = err_from_is_err_and c.from_residual-in_err-problem.result c.from_residual-in_err-problem.ensures.1 in
-    let held = g.S.Shelf.held c.args.shelf.now in
-    let failed = FailedLast g.S.Shelf.fetched g.S.Shelf.faults c.args.shelf.now c.fetch_both.new.shelf in
-    rw (p.1, p.2) (files_stop held failed g.S.Shelf.fetched c.args.domain_name.now c.args.problem_name.now _ c.args.shelf.now c.fetch_both.new.shelf (_, c.in_ok-domain.ensures.holds) c.in_ok-domain.ensures.fetched)
-
-pub returns-in_err-problem-clause-fetches : goal.returns-in_err-problem-clause-fetches
-returns-in_err-problem-clause-fetches g c =
-    files_may_be (g.S.Shelf.held c.args.shelf.now) g.S.Shelf.fetched c.args.domain_name.now c.args.problem_name.now c.args.shelf.now c.fetch_both.new.shelf (_, c.in_ok-domain.ensures.holds) c.in_ok-domain.ensures.fetched
-
-pub returns-clause-names : goal.returns-clause-names
-returns-clause-names g c =
-    let domain = domain_value c.in_ok-domain.domain in
-    let problem = problem_value c.in_ok-problem.problem in
-    let words = c.in_ok-domain.ensures.words in
-    c.read_names_are_words.ensures domain problem words.predicates words.actions words.constants c.in_ok-problem.ensures.words
+pub returns-clause-holds : goal.returns-clause-holds
+returns-clause-holds g c =
+    let read = c.in_ok-read.ensures in
+    record {
+      holds_domain = record { bytes = _; file = read.domain_file; spelled = read.domain_spelled };
+      holds_problem = record { bytes = _; file = read.problem_file; spelled = read.problem_spelled };
+    }

@@ -4,6 +4,7 @@ use Rattle.command_base.specs.Answers.{refused}
 use Rattle.command_base.specs.Values.{refusal_of}
 use Rattle.command_base.proofs.PddlDecides.{refused_both}
 use Rattle.mistakes_command.specs.Mistakes.{MistakesThen}
+use Rattle.mistakes_command.specs.ReadValues.{spelled_by}
 use Rattle.mistakes_command.specs.Values.{mistakes_words_of}
 use Rattle.mistakes_command.proofs.AfterReading.{after_mistakes, before_mistakes}
 use Rattle.mistakes_command.proofs.commands.mistakes_in_files.Goals as goal
@@ -22,13 +23,15 @@ returns-clause-answer g c =
     let held = g.S.Shelf.held c.args.shelf.now in
     let failed = FailedLast g.S.Shelf.fetched g.S.Shelf.faults c.args.shelf.now c.read_texts.new.shelf in
     let asked = mistakes_words_of c.args.asked.now in
-    after_mistakes held failed asked _ _ c.in_ok-read.ensures.texts c.shown.ensures
+    let read = c.in_ok-read.ensures in
+    after_mistakes held failed asked (spelled_by c.in_ok-read.read) _
+    (record { domain_file = read.domain_file; domain_spelled = read.domain_spelled; problem_file = read.problem_file; problem_spelled = read.problem_spelled }) c.shown.ensures
 
 pub shown-requires-clause-domain_text : goal.shown-requires-clause-domain_text
-shown-requires-clause-domain_text g c = c.in_ok-read.ensures.texts.domain_file.short
+shown-requires-clause-domain_text g c = c.in_ok-read.ensures.domain_file.short
 
 pub shown-requires-clause-problem_text : goal.shown-requires-clause-problem_text
-shown-requires-clause-problem_text g c = c.in_ok-read.ensures.texts.problem_file.short
+shown-requires-clause-problem_text g c = c.in_ok-read.ensures.problem_file.short
 
 pub shown-requires-clause-fits_domain : goal.shown-requires-clause-fits_domain
 shown-requires-clause-fits_domain g c = c.in_ok-read.ensures.fits_domain
