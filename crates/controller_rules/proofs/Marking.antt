@@ -1,5 +1,5 @@
 -- Marks that say which rules serve, and the rules that are marked.
-use Rattle.std.proofs.Common.{◌≡◌, ◌⊎◌, ◌+◌, ◌++◌, ◌<◌, ◌≤◌, ℕ, zero, suc, Bool, true, false, cond, List, [], ◌∷◌, length, drop, get_or, map, max, take, Option, Some, None, inl, inr, refl, sym, ap, ◌∙◌, subst, arith}
+use Rattle.std.proofs.Common.{◌≡◌, ◌⊎◌, ◌+◌, ◌++◌, ◌<◌, ◌≤◌, ℕ, zero, suc, Bool, true, false, cond, List, [], ◌∷◌, length, drop, get_or, map, max, take, Some, None, inl, inr, refl, sym, ap, ◌∙◌, subst, arith}
 use Rattle.std.proofs.lemmas.Bool.{cases_lt, false≢true}
 use Rattle.std.proofs.lemmas.List.{get_or_default, get_or-map, length-map, take-map}
 use Rattle.cube_index.specs.Places.{IsFirstTrue}
@@ -13,7 +13,7 @@ use Rattle.std.proofs.lemmas.List.Elements.{All-cons, All-contains, All-head, Al
 use Rattle.list_laws.proofs.Elements.{Contains-map}
 use Rattle.plan_document.specs.Faithful.{IsOneNext, IsToldRule}
 use Rattle.plan_guide.specs.RunRules.{run_rules}
-use Rattle.plan_rules.specs.Plans.{IsAutomatonOf, IsContextOf, IsContextRuleOf, IsNextOf, IsPlainPlanOf, IsRuleOf, most_contexts}
+use Rattle.plan_rules.specs.Plans.{IsContextOf, IsContextRuleOf, IsNextOf, IsPlainPlanOf, IsRuleOf}
 use Rattle.plan_rules.specs.Rules.{PlainPlan, always, automaton, context_rule_of, next_of, table}
 use Rattle.plan_rules.specs.declared.rules.AutoRule.{AutoRule}
 use Rattle.controller_rules.proofs.Graphs.{place_is}
