@@ -1,7 +1,7 @@
 -- Marks that say which rules serve, and the rules that are marked.
 use Rattle.std.proofs.Common.{◌≡◌, ◌⊎◌, ◌+◌, ◌++◌, ◌<◌, ◌≤◌, ℕ, zero, suc, Bool, true, false, cond, List, [], ◌∷◌, length, drop, get_or, map, max, take, Some, None, inl, inr, refl, sym, ap, ◌∙◌, subst, arith}
 use Rattle.std.proofs.lemmas.Bool.{cases_lt, false≢true}
-use Rattle.std.proofs.lemmas.List.{get_or_default, get_or-map, length-map, take-map}
+use Rattle.std.proofs.lemmas.List.{get_or_default, length-map, take-map}
 use Rattle.cube_index.specs.Places.{IsFirstTrue}
 use Rattle.exec_graph.specs.Graphs.{PlainGraph}
 use Rattle.plan_rules.specs.Rules.{ContextRule}
@@ -95,10 +95,15 @@ marked_more {X} {Y} f marks xs n x is before after below here mark was now =
     subst (λ m. after ≡ marked (take m marks) (map f (take m xs))) (sym next)
     (now ∙ ap (λ (b : Bool). cond b (before ++ f x ∷ []) before) mark ∙ ap (λ (ys : List Y). cond (get_or marks n false) (ys ++ f x ∷ []) ys) was ∙ step)
   where
+    at-map : (m : ℕ) (zs : List X) (d : X) → get_or (map f zs) m (f d) ≡ f (get_or zs m d)
+    at-map m [] d = refl
+    at-map zero (z ∷ zs) d = refl
+    at-map (suc m) (z ∷ zs) d = at-map m zs d
+
     step : cond (get_or marks n false) (marked (take n marks) (map f (take n xs)) ++ f x ∷ []) (marked (take n marks) (map f (take n xs))) ≡ marked (take (suc n) marks) (map f (take (suc n) xs))
     step =
         ap (λ (ys : List Y). cond (get_or marks n false) (marked (take n marks) ys ++ f x ∷ []) (marked (take n marks) ys)) (sym (take-map f n xs))
-        ∙ ap (λ (y : Y). cond (get_or marks n false) (marked (take n marks) (take n (map f xs)) ++ y ∷ []) (marked (take n marks) (take n (map f xs)))) (ap f here ∙ sym (get_or-map f xs n x (f x) below))
+        ∙ ap (λ (y : Y). cond (get_or marks n false) (marked (take n marks) (take n (map f xs)) ++ y ∷ []) (marked (take n marks) (take n (map f xs)))) (ap f here ∙ sym (at-map n xs x))
         ∙ sym (marked_suc marks (map f xs) n (f x) (subst (λ m. n < m) (sym (length-map xs f)) below))
         ∙ ap (marked (take (suc n) marks)) (take-map f (suc n) xs)
 

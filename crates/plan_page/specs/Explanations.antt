@@ -2,8 +2,8 @@
 -- one, and the data by which it is told.
 --
 -- Example: {"cycle_from":null,"initial":0,"outcomes":[1],"rules":[0],"sentence":"..","verdict":"no cycle"}
-use Rattle.std.specs.Prelude.{◌≡◌, ℕ, ◌==◌, Bool, true, IsUtf8, List, [], ◌∷◌, Option, None, Some, ⊤}
-use Rattle.std.specs.Prelude.{codes, if◌then◌else◌, is_some, length, map}
+use Rattle.std.specs.Prelude.{◌≡◌, ℕ, Bool, IsUtf8, List, [], ◌∷◌, Option, None, Some, ⊤}
+use Rattle.std.specs.Prelude.{codes, if◌then◌else◌, is_some, map}
 use Rattle.std.specs.Option.{option_and_then, option_map}
 use Rattle.serde_json.specs.Data.{Data, Items, item, member, no_items, no_members, null, object, string}
 use Rattle.serde_json.specs.Find.{as_array, as_null, as_number, as_str, as_u64, get}

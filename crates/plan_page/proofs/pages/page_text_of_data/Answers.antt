@@ -2,7 +2,7 @@ use Rattle.std.proofs.Common.{◌≡◌, false, rules}
 use Rattle.plan_picture.specs.Values.{nodes_of}
 use Rattle.plan_rules.specs.Rules.{plain_of}
 use Rattle.serde_json.specs.View.{view}
-use Rattle.serde_json.specs.Written.{compact_text, has_float}
+use Rattle.serde_json.specs.Written.{has_float}
 use Rattle.task_core.specs.Tasks.{action_names, fluent_count, fluent_names, system_of}
 use Rattle.plan_page.proofs.NoFloats.{data_free}
 use Rattle.plan_page.proofs.pages.page_text_of_data.Goals as goal
