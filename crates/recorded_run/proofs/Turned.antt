@@ -1,5 +1,5 @@
 -- A turn by the rule that counts.
-use Rattle.std.proofs.Common.{◌≡◌, ◌+◌, ◌==◌, ℕ, Bool, true, false, List, None, Option, Some, drop, if◌then◌else◌, length, slice_get, sym, ap, ◌∙◌, subst}
+use Rattle.std.proofs.Common.{◌≡◌, ◌+◌, ◌==◌, ℕ, zero, suc, Bool, true, false, List, [], ◌∷◌, None, Option, Some, drop, if◌then◌else◌, length, refl, slice_get, sym, ap, ◌∙◌, subst, arith}
 use Rattle.std.specs.Option.{option_map}
 use Rattle.std.proofs.lemmas.Bool.{cond-true, cond-false}
 use Rattle.std.proofs.lemmas.List.{length-map}
@@ -19,7 +19,6 @@ use Rattle.run_replay.specs.Running.{next_turn_of}
 use Rattle.recorded_run.specs.Turns.{IsTurn, numbers_left, plain_steps}
 use Rattle.recorded_run.specs.declared.runs.MadeStep.{MadeStep}
 use Rattle.recorded_run.specs.declared.turns.Turn.{Turn as CodeTurn}
-use Rattle.recorded_run.proofs.Courses.{words_left}
 
 -- in no context
 pub no_context : (sys : System) (rules : List ContextRule) (full : Bool) (number : ℕ) (s : Vector) (context : Option ℕ) (words : List ℕ) → context ≡ None
@@ -63,6 +62,16 @@ pub strays : (sys : System) (number : ℕ) (s : Vector) (action : ℕ) (context 
 strays sys number s action context word words a outcomes same none count =
     ap (stepping sys number s action context word words) (ap (λ (b : ℕ). outcome_state sys s b word) (sym same) ∙ sym none)
     ∙ ap (λ (k : ℕ). Ends (Stray number word k) words) (ap sys.outcomes (sym same) ∙ sym count)
+
+-- the outcome numbers that are left, by the next one
+words_left : (words : List ℕ) (k : ℕ) → numbers_left (slice_get words k) (drop (k + 1) words) ≡ drop k words
+words_left words k = ap (λ (j : ℕ). numbers_left (slice_get words k) (drop j words)) (let e : k + 1 ≡ suc k = omega arith in e) ∙ drop_more words k
+  where
+    drop_more : (ws : List ℕ) (j : ℕ) → numbers_left (slice_get ws j) (drop (suc j) ws) ≡ drop j ws
+    drop_more [] zero = refl
+    drop_more [] (suc j) = refl
+    drop_more (word ∷ ws) zero = refl
+    drop_more (word ∷ ws) (suc j) = drop_more ws j
 
 -- the next turn, by the number of steps so far
 pub next_turn_is : (n : ℕ) (sys : System) (rules : List ContextRule) (steps : List MadeStep) (state : State) (context : Option ℕ) (words : List ℕ) (made : ℕ) (word : Option ℕ) (t : CodeTurn)
