@@ -3,4 +3,4 @@ use Rattle.std.specs.Prelude.{IsSome}
 use Rattle.recorded_run.proofs.stops.goal_parts.Goals as goal
 
 pub false_goal-requires : goal.false_goal-requires
-false_goal-requires c = subst (λ o. IsSome o) (sym c.in-Some.is) refl
+false_goal-requires c = record { goal = subst (λ o. IsSome o) (sym c.in-Some.is) refl }
