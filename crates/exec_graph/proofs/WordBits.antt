@@ -1,5 +1,5 @@
 -- The words of states, bit by bit.
-use Rattle.std.proofs.Common.{◌≡◌, ℕ, zero, suc, ◌<◌, ◌/◌, ◌%◌, Bool, false, ◌||◌, ◌&&◌, eqb, min, max, List, [], ◌∷◌, length, get_or, refl, sym, ◌∙◌, ap, arith, bit_and, bit_or}
+use Rattle.std.proofs.Common.{◌≡◌, ℕ, zero, suc, ◌<◌, ◌/◌, ◌%◌, Bool, false, ◌||◌, ◌&&◌, eqb, max, List, [], ◌∷◌, length, get_or, refl, sym, ◌∙◌, ap, arith, bit_and, bit_or}
 use Rattle.std.specs.Int.{bit_at}
 use Rattle.std.proofs.lemmas.List.{get_or_past}
 use Rattle.std.proofs.lemmas.Nat.Bits.{bit_at_and, bit_at_or, bit_at-lt, bit_at-zero}

@@ -4,5 +4,6 @@ pub mod Goals
 pub mod Stepped
 pub mod Shown
 pub mod Numbered
+pub mod Taken
 pub mod Anys
 pub mod TextOfShown
