@@ -11,7 +11,7 @@ use Rattle.task_core.specs.Tasks.{action_names as names_of_actions, fluent_names
 use Rattle.task_core.specs.declared.tasks.Task.{Task}
 use Rattle.plan_io.specs.Fetches.{Fetches}
 use Rattle.plan_io.specs.Held.{Held}
-use Rattle.command_base.specs.Answers.{Answer, refused, Refusal}
+use Rattle.command_base.specs.Answers.{Answer, no_memory, refused, Refusal}
 use Rattle.command_base.specs.Fetching.{FetchDomain, FetchThen, HoldsSomePlan, RefusesBoth, RefusesPlan, Stops}
 use Rattle.command_base.specs.Grounding.{GroundThen}
 use Rattle.command_base.specs.PddlTexts.{HoldBoth, ReadBoth}
