@@ -1,9 +1,8 @@
 -- The plans that are printed, and their parts that serve.
-use Rattle.std.proofs.Common.{◌≡◌, ◌↔◌, ◌⊎◌, ◌<◌, ◌≤◌, ℕ, zero, suc, Bool, true, false, List, [], ◌∷◌, length, get_or, map, max, inl, inr, refl, sym, ap, ◌∙◌, subst, arith, ⊎_elim}
+use Rattle.std.proofs.Common.{◌≡◌, ◌⊎◌, ◌<◌, ◌≤◌, ℕ, zero, suc, Bool, true, false, List, [], ◌∷◌, length, get_or, map, max, inl, inr, refl, sym, ap, ◌∙◌, subst, arith, ⊎_elim}
 use Rattle.std.specs.List.{Contains}
 use Rattle.std.proofs.lemmas.Bool.{cases_lt}
-use Rattle.std.proofs.lemmas.List.{get_or_default}
-use Rattle.task_core.specs.ContextPlans.{Configuration, first_context}
+use Rattle.task_core.specs.ContextPlans.{Configuration}
 use Rattle.task_core.specs.Cubes.{SetOfVectors, matches}
 use Rattle.task_core.specs.Systems.{System, Exec, IsSystem, IsVector}
 use Rattle.task_core.specs.Vectors.{Vector}
@@ -11,7 +10,6 @@ use Rattle.task_core.specs.declared.classes.Class.{Class}
 use Rattle.plan_document.specs.Faithful.{IsInOrder, IsToldInFull, IsToldRule}
 use Rattle.plan_guide.specs.RunRules.{in_one_context, run_rules}
 use Rattle.plan_rules.specs.Denoted.{IsExecutable}
-use Rattle.plan_rules.specs.Plans.{IsAutomatonOf, IsContextOf, IsContextRuleOf, IsPlainPlanOf, IsRuleOf, most_contexts}
 use Rattle.plan_rules.specs.Rules.{ContextRule, PlainPlan, PlanNext, PlanRule, always, automaton, by_cases, table}
 use Rattle.plan_theory.specs.CyclicPlans.{cyclic_rules}
 use Rattle.plan_theory.specs.LayerPlans.{printed_rules}
@@ -21,7 +19,7 @@ use Rattle.plan_theory.specs.UntilChains.{UntilSets}
 use Rattle.plan_theory.specs.UntilPrinted.{until_rules}
 use Rattle.plan_theory.proofs.ClassLayers.{printed_executable}
 use Rattle.plan_theory.proofs.CyclicPrinted.{cyclic_executable}
-use Rattle.list_laws.proofs.Elements.{Contains-cons, Contains-head, Contains-map, Contains-map-witness}
+use Rattle.list_laws.proofs.Elements.{Contains-cons, Contains-head, Contains-map-witness}
 use Rattle.exec_graph.specs.Executions.{IsReachedBy}
 use Rattle.exec_graph.specs.Graphs.{IsGraphOf, PlainGraph}
 use Rattle.exec_graph.proofs.Reaching.{reached_state}
@@ -29,8 +27,7 @@ use Rattle.controller_rules.proofs.Marking.{all_marked}
 use Rattle.controller_rules.specs.AsRun.{IsFirstAt, NamesContext, NamesLastContext, counts_at}
 use Rattle.controller_rules.specs.Checks.{ServesIn}
 use Rattle.controller_rules.specs.Serving.{IsServingPart, MarkServing, greatest_named, marked, marked_part, next_named}
-use Rattle.apart_rules.proofs.ApartCubes.{Each}
-use Rattle.apart_rules.proofs.Marked.{HasMark, map-marked, marked-among, marked-at, marked-from, pairwise-marked}
+use Rattle.apart_rules.proofs.Marked.{map-marked, marked-among, marked-at, marked-from, pairwise-marked}
 use Rattle.apart_rules.proofs.Parts.{AreApart, CountsInState, CountsReached, IsPart, NeverBoth, counts_first}
 use Rattle.apart_rules.proofs.PrintedContexts.{patrol_apart, patrol_executable, patrol_in_state, patrol_told, until_apart, until_executable, until_in_state, until_told}
 use Rattle.apart_rules.proofs.PrintedTables.{all_of, cyclic_in_state, printed_apart, printed_in_order, printed_in_state}

@@ -1,12 +1,12 @@
 -- A goal in computation tree logic is true of a part as it is of the plan: it depends on what follows what
 -- where the plan may come.
-use Rattle.std.proofs.Common.{◌≡◌, ◌↔◌, ℕ, List, refl, sym, ◌∙◌, subst}
-use Rattle.std.specs.Prelude.{IsSome, Option}
-use Rattle.task_core.specs.ContextPlans.{Configuration, Follows, GoesOn, IsComplete}
+use Rattle.std.proofs.Common.{◌↔◌, ℕ, List, refl, sym, ◌∙◌, subst}
+use Rattle.std.specs.Prelude.{IsSome}
+use Rattle.task_core.specs.ContextPlans.{Configuration, Follows, IsComplete}
 use Rattle.task_core.specs.Systems.{System, IsSystem}
 use Rattle.ctl_syntax.specs.Goals.{CtlTree, CtlTrees, EachPlain, EachPlainOf, plain, negation, all, any, implication, ax, ex, af, ef, ag, eg, au, eu, aw, ew, no_goal, goal_then}
 use Rattle.ctl_syntax.specs.Truth.{Satisfies}
-use Rattle.ctl_syntax.proofs.Carried.{Lifted, carried}
+use Rattle.ctl_syntax.proofs.Carried.{carried}
 use Rattle.plan_rules.specs.Denoted.{denoted_contexts}
 use Rattle.plan_rules.specs.Rules.{ContextRule, automaton}
 use Rattle.exec_graph.specs.Executions.{GoesTo, IsReachedBy}

@@ -1,12 +1,12 @@
 -- The text of a part is no longer than that of the plan.
-use Rattle.std.proofs.Common.{◌≡◌, ◌+◌, ◌++◌, ◌<◌, ◌≤◌, ◌⊎◌, ℕ, zero, suc, Bool, true, false, List, [], ◌∷◌, Option, None, codes, length, max, inl, inr, refl, sym, ap, ◌∙◌, subst, arith, length-append}
+use Rattle.std.proofs.Common.{◌≡◌, ◌+◌, ◌++◌, ◌<◌, ◌≤◌, ◌⊎◌, ℕ, zero, suc, Bool, true, false, List, [], ◌∷◌, Option, None, codes, length, inl, inr, refl, sym, ap, ◌∙◌, subst, arith, length-append}
 use Rattle.std.specs.Prelude.{decimal, ◌^◌, ◌/◌, ◌%◌}
-use Rattle.std.specs.List.{All, Contains, flat_map}
+use Rattle.std.specs.List.{Contains, flat_map}
 use Rattle.std.proofs.lemmas.Bool.{cases_lt}
 use Rattle.std.proofs.lemmas.Fmt.{decimal_nonempty, decimal_step, length-decimal-le}
 use Rattle.std.proofs.lemmas.List.Elements.{All-contains}
 use Rattle.task_core.specs.Names.{Name}
-use Rattle.plan_rules.specs.Plans.{IsAutomatonOf, IsContextOf, IsContextRuleOf, IsNextOf, IsPlainPlanOf, most_contexts}
+use Rattle.plan_rules.specs.Plans.{IsContextRuleOf, IsNextOf, IsPlainPlanOf}
 use Rattle.plan_rules.specs.Rules.{ContextRule, PlainPlan, PlanNext, always, automaton, by_cases, table}
 use Rattle.plan_rules.specs.Texts.{class_word, context_rule_text, line_feed, rule_text, text_of}
 use Rattle.list_laws.proofs.Elements.{Contains-cons, Contains-head}

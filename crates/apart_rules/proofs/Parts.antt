@@ -1,16 +1,15 @@
 -- A plan of whose rules no two count in one configuration, and a part of it that has each rule that counts
 -- where the plan may come: the part may come to the same, and does the same there.
-use Rattle.std.proofs.Common.{◌≡◌, ◌↔◌, ℕ, zero, suc, ◌+◌, ◌<◌, ◌&&◌, ◌==◌, Bool, true, false, List, [], ◌∷◌, length, get_or, map, Option, Some, None, refl, sym, ap, ◌∙◌, subst, arith, ⊎_elim}
+use Rattle.std.proofs.Common.{◌≡◌, ◌↔◌, ℕ, zero, suc, ◌<◌, ◌&&◌, ◌==◌, Bool, true, false, List, [], ◌∷◌, length, get_or, map, Some, refl, sym, ap, ◌∙◌, subst, arith}
 use Rattle.std.specs.List.{Contains, find, list_any}
 use Rattle.std.specs.Option.{option_and_then, option_map}
-use Rattle.std.proofs.lemmas.Bool.{and_from, and_parts, eq-eqb, false≢true, true≢false}
+use Rattle.std.proofs.lemmas.Bool.{and_from, and_parts, eq-eqb}
 use Rattle.std.proofs.lemmas.List.{get_or_default}
-use Rattle.list_laws.proofs.Elements.{Contains-cons, Contains-head, Contains-map, Contains-map-witness, Contains-nil, find-None, find-Some, find-found, list_any-false, list_any-from, list_any-none, list_any-witness}
-use Rattle.task_core.specs.ContextPlans.{Configuration, Follows, IsInitial, first_context}
+use Rattle.list_laws.proofs.Elements.{Contains-map, Contains-map-witness, find-None, find-Some, find-found, list_any-false, list_any-from, list_any-none, list_any-witness}
+use Rattle.task_core.specs.ContextPlans.{Configuration, first_context}
 use Rattle.task_core.specs.Cubes.{matches}
 use Rattle.task_core.specs.Solutions.{IsReached, IsSolution}
-use Rattle.task_core.specs.Systems.{System, Exec, IsState, IsSystem}
-use Rattle.task_core.specs.Tables.{Leads}
+use Rattle.task_core.specs.Systems.{System, IsState, IsSystem}
 use Rattle.task_core.specs.Vectors.{Vector}
 use Rattle.task_core.specs.declared.classes.Class.{Class}
 use Rattle.plan_rules.specs.Denoted.{advises, denoted, denoted_contexts, next_context, rule_at}

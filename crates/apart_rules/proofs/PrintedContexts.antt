@@ -1,12 +1,12 @@
 -- The rules of the plans with contexts that are printed: no two of them count in one configuration, each
 -- counts in some state, and each names its fluents in order and goes on in one context.
-use Rattle.std.proofs.Common.{◌≡◌, ◌≢◌, ◌+◌, ◌-◌, ◌<◌, ◌≤◌, ◌&&◌, if◌then◌else◌, ◌==◌, ℕ, zero, suc, Bool, true, false, List, [], ◌∷◌, length, map, Option, Some, refl, sym, ap, ◌∙◌, subst, arith, ⊎_elim}
+use Rattle.std.proofs.Common.{◌≡◌, ◌≢◌, ◌-◌, ◌<◌, ◌≤◌, ◌&&◌, if◌then◌else◌, ◌==◌, ℕ, suc, Bool, true, false, List, [], ◌∷◌, length, Some, refl, sym, ap, ◌∙◌, subst, arith, ⊎_elim}
 use Rattle.std.specs.List.{Contains, list_any, range_with_len}
 use Rattle.std.proofs.lemmas.Bool.{and_from, and_parts, eq-eqb, eqb-true, true≢false}
 use Rattle.std.proofs.lemmas.Option.{same_Some}
 use Rattle.task_core.specs.ContextPlans.{Configuration}
 use Rattle.task_core.specs.Cubes.{Cube, SetOfVectors, cubes_of, matches}
-use Rattle.task_core.specs.Systems.{System, Exec, IsState, IsSystem, IsVector}
+use Rattle.task_core.specs.Systems.{System, Exec, IsSystem, IsVector}
 use Rattle.task_core.specs.Vectors.{Vector}
 use Rattle.plan_document.specs.Faithful.{IsToldRule}
 use Rattle.plan_rules.specs.Rules.{ContextRule}
@@ -17,7 +17,6 @@ use Rattle.plan_theory.specs.PatrolPrinted.{patrol_action, patrol_next, patrol_n
 use Rattle.plan_theory.specs.Patrols.{patrol_set}
 use Rattle.plan_theory.specs.UntilChains.{UntilSets, until_advance, until_contexts, until_win_at}
 use Rattle.plan_theory.specs.UntilPrinted.{until_action, until_nexts, until_rules, until_states}
-use Rattle.plan_theory.proofs.ContextRuleParts.{IsFrom, numbers_from}
 use Rattle.plan_theory.proofs.Cubes.{cubes_match}
 use Rattle.plan_theory.proofs.PatrolSets.{acts_in_patrol}
 use Rattle.plan_theory.proofs.Tests.{HasOutcome-Exec, is_action-Some}

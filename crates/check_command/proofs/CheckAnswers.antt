@@ -5,7 +5,6 @@ use Rattle.ctl_syntax.specs.Conditions.{condition_value}
 use Rattle.ctl_syntax.specs.Values.{ctl_value}
 use Rattle.ctl_syntax.specs.declared.goals.Ctl.{Ctl}
 use Rattle.exec_graph.specs.Executions.{ReachesMoreThan}
-use Rattle.exec_graph.specs.Initials.{HasTooManyInitial}
 use Rattle.pddl_ast.specs.Trees.{DomainTree, FormulaTree, ProblemTree, TemporalTree}
 use Rattle.pddl_system.specs.CtlGoals.{ctl_goal_of, goal_value, grounded_goal}
 use Rattle.pddl_system.specs.Fluents.{fluents}
@@ -40,9 +39,10 @@ use Rattle.command_base.specs.Words.{Bytes, CheckWords, PlanKind, of_class, with
 use Rattle.command_base.proofs.Initials.{initial_over}
 use Rattle.command_base.proofs.Later.{read_over}
 use Rattle.command_base.proofs.TaskNames.{same_actions, same_fluents}
-use Rattle.command_base.proofs.TooMany.{too_many as too_many_states, too_many_back as too_many_states_back}
+use Rattle.command_base.proofs.TooMany.{too_many, too_many_back}
 use Rattle.command_base.proofs.TaskGoals.{goal_behind, has_some, has_some_back}
 use Rattle.command_base.proofs.WhatFollows.{goal_map, ground_map, kind_map}
+use Rattle.task_core.specs.Initials.{HasTooManyInitial}
 
 -- what is said from a later state of the shelf holds from the command's start
 checked_over : (held held' : Bytes → Held) (failed failed' : Bytes → Type 0) (asked : CheckWords) (d : DomainTree) (p : ProblemTree) (a : Answer)
@@ -59,14 +59,6 @@ pub checked_later : (held held' : Bytes → Held) (failed failed' : Bytes → Ty
     → (a ≡ refused no_memory) ⊎ IsChecked held' failed' asked d p a → (a ≡ refused no_memory) ⊎ IsChecked held failed asked d p a
 checked_later held held' failed failed' asked d p a same over (inl memory) = inl memory
 checked_later held held' failed failed' asked d p a same over (inr is) = inr (checked_over held held' failed failed' asked d p a same over is)
-
-pub too_many : (d : DomainTree) (p : ProblemTree) (t : Task) → task_value t ≡ task_of d p → HasTooManyInitial t most_followed → HasTooManyStates d p
-too_many d p t is many = too_many_states d p t is many.entries many.first many.more
-
-pub too_many_back : (d : DomainTree) (p : ProblemTree) (t : Task) → task_value t ≡ task_of d p → HasTooManyStates d p → HasTooManyInitial t most_followed
-too_many_back d p t is many =
-    let back = too_many_states_back d p t is many in
-    record { entries = many.entries; first = back.0; more = back.1 }
 
 -- the verdict on a plan of a task is that for the domain and the problem
 context_verdict_for : GroundedGoalsAreTrue → (d : DomainTree) (p : ProblemTree) (sys : System) (formula : Ctl) (plan : ContextPlan) (v : Verdict) → sys ≡ system d p

@@ -26,7 +26,6 @@ ghost use Rattle.command_base.specs.Values.{
 ghost use Rattle.command_base.specs.Words.{with_contexts};
 ghost use Rattle.ctl_syntax.specs.Values.{NamesBelow, ctl_value};
 ghost use Rattle.exec_graph.specs.Graphs.{IsGraphOf};
-ghost use Rattle.exec_graph.specs.Initials.{HasTooManyInitial};
 ghost use Rattle.exec_graph.specs.Values.{plain_graph};
 ghost use Rattle.pddl_ast.specs.Fits.{FitsDomain, FitsProblem};
 ghost use Rattle.pddl_ast.specs.Values.{domain_value, problem_value};
@@ -38,6 +37,7 @@ ghost use Rattle.plan_check.specs.Verdicts.{IsVerdict};
 ghost use Rattle.plan_rules.specs.Rules.{ContextRule, PlainPlan, PlanRule, automaton, plain_of, table};
 ghost use Rattle.std.specs.Prelude.{◌≡◌, ◌⊎◌, [], ◌∷◌, IfOk, IfSome, IsSome, List, None, true, ℕ};
 ghost use Rattle.task_core.specs.Tasks.{action_count, fluent_count, initial_states, system_of};
+ghost use Rattle.task_core.specs.Initials.{HasTooManyInitial};
 
 use command_base::{
     CheckWords, Limit, PlanKind, Refusal, Shown, Text, check_goal, goal_in, ground_both,

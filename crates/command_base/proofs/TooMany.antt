@@ -6,7 +6,8 @@ use Rattle.pddl_system.specs.Settings.{setting}
 use Rattle.pddl_system.specs.Systems.{entry_over, facts_of}
 use Rattle.pddl_system.specs.Tasks.{TaskTree, task_of}
 use Rattle.pddl_system.specs.Values.{task_value}
-use Rattle.task_core.specs.Initial.{Entry, after_entries, entries_of}
+use Rattle.task_core.specs.Initial.{Entry, after_entries}
+use Rattle.task_core.specs.Initials.{HasTooManyInitial}
 use Rattle.task_core.specs.Tasks.{states_after_entries}
 use Rattle.task_core.specs.Vectors.{Vector}
 use Rattle.task_core.specs.declared.tasks.Task.{Task}
@@ -24,17 +25,16 @@ same_states d p t k is =
     ∙ (ap (λ (v : Vector). after_entries n v (take k (map (entry_over (fluents d p)) p.entries))) (ap (λ (x : TaskTree). x.facts) is)
     ∙ ap (λ m. after_entries m (facts_of (setting d p) (fluents d p)) (take k (map (entry_over (fluents d p)) p.entries))) (same_count d p t is))
 
-pub too_many : (d : DomainTree) (p : ProblemTree) (t : Task) → task_value t ≡ task_of d p → (k : ℕ) → k ≤ length (entries_of t.init)
-    → most_followed < length (states_after_entries t k) → HasTooManyStates d p
-too_many d p t is k first more = record {
-  entries = k;
-  first = subst (λ n. k ≤ n) (same_entries d p t is) first;
-  more = subst (λ (vs : List Vector). most_followed < length vs) (same_states d p t k is) more;
+pub too_many : (d : DomainTree) (p : ProblemTree) (t : Task) → task_value t ≡ task_of d p → HasTooManyInitial t most_followed → HasTooManyStates d p
+too_many d p t is many = record {
+  entries = many.entries;
+  first = subst (λ n. many.entries ≤ n) (same_entries d p t is) many.first;
+  more = subst (λ (vs : List Vector). most_followed < length vs) (same_states d p t many.entries is) many.more;
 }
 
-pub too_many_back : (d : DomainTree) (p : ProblemTree) (t : Task) → task_value t ≡ task_of d p → (many : HasTooManyStates d p)
-    → (many.entries ≤ length (entries_of t.init)) × (most_followed < length (states_after_entries t many.entries))
-too_many_back d p t is many = (
-  subst (λ n. many.entries ≤ n) (sym (same_entries d p t is)) many.first,
-  subst (λ (vs : List Vector). most_followed < length vs) (sym (same_states d p t many.entries is)) many.more,
-)
+pub too_many_back : (d : DomainTree) (p : ProblemTree) (t : Task) → task_value t ≡ task_of d p → HasTooManyStates d p → HasTooManyInitial t most_followed
+too_many_back d p t is many = record {
+  entries = many.entries;
+  first = subst (λ n. many.entries ≤ n) (sym (same_entries d p t is)) many.first;
+  more = subst (λ (vs : List Vector). most_followed < length vs) (sym (same_states d p t many.entries is)) many.more;
+}

@@ -15,7 +15,7 @@ use Rattle.command_base.specs.Grounded.{IsTaskOf}
 use Rattle.plan_command.specs.PlanCommand.{PlanThen}
 use Rattle.command_base.specs.Reading.{file_limit}
 use Rattle.command_base.specs.Words.{Bytes, with_contexts}
-use Rattle.check_command.proofs.CheckAnswers.{too_many}
+use Rattle.command_base.proofs.TooMany.{too_many}
 use Rattle.command_base.proofs.TaskNames.{same_actions, same_fluents}
 use Rattle.controller_plan.specs.Controllers.{IsTooMuchToList, ReachesTooMany}
 use Rattle.controller_plan.specs.Judged.{HasNoGraph, IsControlRefusal, IsTooLarge}

@@ -7,7 +7,6 @@ use Rattle.controller_rules.specs.Texts.{controller_text}
 use Rattle.ctl_syntax.specs.Values.{NamesBelow, ctl_value}
 use Rattle.ctl_syntax.specs.declared.goals.Ctl.{Ctl}
 use Rattle.exec_graph.specs.Executions.{ReachesMoreThan}
-use Rattle.exec_graph.specs.Initials.{HasTooManyInitial}
 use Rattle.first_match.specs.FirstMatch.{AreGoodAsRun}
 use Rattle.ground_task.specs.declared.grounding.Grounded.{Grounded}
 use Rattle.pddl_ast.specs.Trees.{DomainTree, ProblemTree}
@@ -40,6 +39,7 @@ use Rattle.controller_words.specs.Words.{ControlWords}
 use Rattle.controller_words.specs.declared.shapes.Form.{Form}
 use Rattle.controller_words.specs.declared.shapes.Form.TheVariants.{Code, Json, Text as AsText}
 use Rattle.controller_words.specs.declared.shapes.Shape.{Shape}
+use Rattle.task_core.specs.Initials.{HasTooManyInitial}
 
 -- the verdict on a plan of a task is yes
 pub record IsYesFor (kind : PlanKind) (task : Task) (goal : Option Ctl) (plan : PlainPlan)

@@ -1,7 +1,7 @@
 -- Marks that say which rules serve, and the rules that are marked.
-use Rattle.std.proofs.Common.{◌≡◌, ◌⊎◌, ◌+◌, ◌++◌, ◌<◌, ◌≤◌, ℕ, zero, suc, Bool, true, false, cond, List, [], ◌∷◌, length, drop, get_or, map, max, take, Option, Some, None, inl, inr, refl, sym, ap, ◌∙◌, subst, arith}
+use Rattle.std.proofs.Common.{◌≡◌, ◌⊎◌, ◌+◌, ◌++◌, ◌<◌, ◌≤◌, ℕ, zero, suc, Bool, true, false, cond, List, [], ◌∷◌, length, drop, get_or, map, max, take, Some, None, inl, inr, refl, sym, ap, ◌∙◌, subst, arith}
 use Rattle.std.proofs.lemmas.Bool.{cases_lt, false≢true}
-use Rattle.std.proofs.lemmas.List.{get_or_default}
+use Rattle.std.proofs.lemmas.List.{get_or_default, get_or-map, length-map, take-map}
 use Rattle.cube_index.specs.Places.{IsFirstTrue}
 use Rattle.exec_graph.specs.Graphs.{PlainGraph}
 use Rattle.plan_rules.specs.Rules.{ContextRule}
@@ -13,7 +13,7 @@ use Rattle.std.proofs.lemmas.List.Elements.{All-cons, All-contains, All-head, Al
 use Rattle.list_laws.proofs.Elements.{Contains-map}
 use Rattle.plan_document.specs.Faithful.{IsOneNext, IsToldRule}
 use Rattle.plan_guide.specs.RunRules.{run_rules}
-use Rattle.plan_rules.specs.Plans.{IsAutomatonOf, IsContextOf, IsContextRuleOf, IsNextOf, IsPlainPlanOf, IsRuleOf, most_contexts}
+use Rattle.plan_rules.specs.Plans.{IsContextOf, IsContextRuleOf, IsNextOf, IsPlainPlanOf, IsRuleOf}
 use Rattle.plan_rules.specs.Rules.{PlainPlan, always, automaton, context_rule_of, next_of, table}
 use Rattle.plan_rules.specs.declared.rules.AutoRule.{AutoRule}
 use Rattle.controller_rules.proofs.Graphs.{place_is}
@@ -95,26 +95,12 @@ marked_more {X} {Y} f marks xs n x is before after below here mark was now =
     subst (λ m. after ≡ marked (take m marks) (map f (take m xs))) (sym next)
     (now ∙ ap (λ (b : Bool). cond b (before ++ f x ∷ []) before) mark ∙ ap (λ (ys : List Y). cond (get_or marks n false) (ys ++ f x ∷ []) ys) was ∙ step)
   where
-    take-map : (m : ℕ) (zs : List X) → map f (take m zs) ≡ take m (map f zs)
-    take-map zero zs = refl
-    take-map (suc m) [] = refl
-    take-map (suc m) (z ∷ zs) = ap (λ ys. f z ∷ ys) (take-map m zs)
-
-    at-map : (m : ℕ) (zs : List X) (d : X) → get_or (map f zs) m (f d) ≡ f (get_or zs m d)
-    at-map m [] d = refl
-    at-map zero (z ∷ zs) d = refl
-    at-map (suc m) (z ∷ zs) d = at-map m zs d
-
-    long : (zs : List X) → length (map f zs) ≡ length zs
-    long [] = refl
-    long (z ∷ zs) = ap suc (long zs)
-
     step : cond (get_or marks n false) (marked (take n marks) (map f (take n xs)) ++ f x ∷ []) (marked (take n marks) (map f (take n xs))) ≡ marked (take (suc n) marks) (map f (take (suc n) xs))
     step =
-        ap (λ (ys : List Y). cond (get_or marks n false) (marked (take n marks) ys ++ f x ∷ []) (marked (take n marks) ys)) (take-map n xs)
-        ∙ ap (λ (y : Y). cond (get_or marks n false) (marked (take n marks) (take n (map f xs)) ++ y ∷ []) (marked (take n marks) (take n (map f xs)))) (ap f here ∙ sym (at-map n xs x))
-        ∙ sym (marked_suc marks (map f xs) n (f x) (subst (λ m. n < m) (sym (long xs)) below))
-        ∙ ap (marked (take (suc n) marks)) (sym (take-map (suc n) xs))
+        ap (λ (ys : List Y). cond (get_or marks n false) (marked (take n marks) ys ++ f x ∷ []) (marked (take n marks) ys)) (sym (take-map f n xs))
+        ∙ ap (λ (y : Y). cond (get_or marks n false) (marked (take n marks) (take n (map f xs)) ++ y ∷ []) (marked (take n marks) (take n (map f xs)))) (ap f here ∙ sym (get_or-map f xs n x (f x) below))
+        ∙ sym (marked_suc marks (map f xs) n (f x) (subst (λ m. n < m) (sym (length-map xs f)) below))
+        ∙ ap (marked (take (suc n) marks)) (take-map f (suc n) xs)
 
 -- the same of an element that is copied
 pub marked_more_at : {X Y : Type 0} (f : X → Y) (marks : List Bool) (xs : List X) (n : ℕ) (d : X) (is : Bool) (before after : List Y) → n < length xs → is ≡ get_or marks n false
@@ -132,16 +118,7 @@ marked_all (true ∷ marks) (x ∷ xs) (suc n) all = ap (λ ys. x ∷ ys) (marke
 marked_all (false ∷ marks) (x ∷ xs) (suc n) all = marked_all marks xs n (omega arith)
 
 pub marked_whole : {X Y : Type 0} (f : X → Y) (marks : List Bool) (xs : List X) (n : ℕ) (done : List Y) → length xs ≤ n → done ≡ marked (take n marks) (map f (take n xs)) → done ≡ marked marks (map f xs)
-marked_whole {X} {Y} f marks xs n done all is = is ∙ ap (marked (take n marks)) (take-map n xs) ∙ marked_all marks (map f xs) n (subst (λ m. m ≤ n) (sym (long xs)) all)
-  where
-    take-map : (m : ℕ) (zs : List X) → map f (take m zs) ≡ take m (map f zs)
-    take-map zero zs = refl
-    take-map (suc m) [] = refl
-    take-map (suc m) (z ∷ zs) = ap (λ ys. f z ∷ ys) (take-map m zs)
-
-    long : (zs : List X) → length (map f zs) ≡ length zs
-    long [] = refl
-    long (z ∷ zs) = ap suc (long zs)
+marked_whole {X} {Y} f marks xs n done all is = is ∙ ap (marked (take n marks)) (sym (take-map f n xs)) ∙ marked_all marks (map f xs) n (subst (λ m. m ≤ n) (sym (length-map xs f)) all)
 
 -- the greatest context that is named is no less than the first
 pub some_greatest : (rules : List ContextRule) → 1 ≤ greatest_named rules

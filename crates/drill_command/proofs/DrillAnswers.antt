@@ -2,7 +2,6 @@
 use Rattle.std.proofs.Common.{◌≡◌, ◌⊎◌, length, inl, inr, refl, sym, subst, ap, None, true}
 use Rattle.std.specs.Prelude.{IfOk, Result, Ok, Err}
 use Rattle.std.proofs.lemmas.List.{length-map}
-use Rattle.exec_graph.specs.Initials.{HasTooManyInitial}
 use Rattle.pddl_ast.specs.Trees.{DomainTree, ProblemTree}
 use Rattle.pddl_system.specs.Sizes.{first_passed}
 use Rattle.pddl_system.specs.Systems.{system}
@@ -23,8 +22,10 @@ use Rattle.plan_command.specs.Enough.{IsTightForClass}
 use Rattle.command_base.specs.Grounding.{has_goal_for}
 use Rattle.command_base.specs.PddlTexts.{IsFaultyDomain, IsFaultyProblem}
 use Rattle.command_base.specs.Words.{Bytes, DrillWords, default_nodes, of_class}
-use Rattle.check_command.proofs.CheckAnswers.{explored, too_many, too_many_back}
+use Rattle.check_command.proofs.CheckAnswers.{explored}
+use Rattle.command_base.proofs.TooMany.{too_many, too_many_back}
 use Rattle.plan_command.proofs.PlanAnswers.{tight_class}
+use Rattle.task_core.specs.Initials.{HasTooManyInitial}
 
 -- where two ways to say that there are too many initial states agree
 module _ (X Y : Type 0) (to : X → Y) (from : Y → X) (class : Class) (sys : System) where

@@ -25,7 +25,6 @@ ghost use Rattle.drill_command.specs.DrillCommand.{
 };
 ghost use Rattle.encode_task.specs.Made.{MadeOf};
 ghost use Rattle.exec_graph.specs.Graphs.{IsGraphOf};
-ghost use Rattle.exec_graph.specs.Initials.{HasTooManyInitial};
 ghost use Rattle.exec_graph.specs.Values.{plain_graph};
 ghost use Rattle.pddl_ast.specs.Fits.{FitsDomain, FitsProblem};
 ghost use Rattle.pddl_ast.specs.Values.{domain_value, problem_value};
@@ -49,6 +48,7 @@ ghost use Rattle.std.specs.Prelude.{
   ℕ,
 };
 ghost use Rattle.task_core.specs.Tasks.{fluent_count, system_of};
+ghost use Rattle.task_core.specs.Initials.{HasTooManyInitial};
 
 use check_command::show_verdict;
 use command_base::{

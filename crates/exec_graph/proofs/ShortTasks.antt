@@ -6,7 +6,7 @@ use Rattle.task_core.specs.Tasks.{fluent_count, states_after_entries}
 use Rattle.task_core.specs.Vectors.{Vector}
 use Rattle.task_core.specs.declared.states.State.{State}
 use Rattle.task_core.specs.declared.tasks.Task.{Task}
-use Rattle.exec_graph.specs.Initials.{HasTooManyInitial}
+use Rattle.task_core.specs.Initials.{HasTooManyInitial}
 
 pub too_many_too : (task other : Task) (limit : ℕ) → fluent_count task ≡ fluent_count other → task.init.facts ≡ other.init.facts → entries_of task.init ≡ entries_of other.init
     → HasTooManyInitial task limit → HasTooManyInitial other limit

@@ -16,7 +16,6 @@ use Rattle.task_core.specs.Initial.{after_entries, entries_of, facts_of}
 use Rattle.task_core.specs.Tasks.{fluent_count, in_space, initial_vectors, states_after_entries, system_of}
 use Rattle.task_core.specs.declared.tasks.Task.{Task}
 use Rattle.task_core.proofs.EntryStates.{after_entries_differ}
-use Rattle.exec_graph.specs.Initials.{HasTooManyInitial}
 use Rattle.std.proofs.lemmas.Bool.{cases_lt}
 use Rattle.exec_graph.specs.Counting.{add_configuration, moves_from}
 use Rattle.exec_graph.specs.Drafts.{HasTooMany, IsNumbered, IsSearched, IsVisit, beginnings, draft_value}
@@ -36,6 +35,7 @@ use Rattle.exec_graph.specs.declared.moves.Moves.{Moves}
 use Rattle.exec_graph.proofs.Listed.{AreDifferent, fold_different}
 use Rattle.exec_graph.proofs.Listing.{numbers_listed}
 use Rattle.exec_graph.proofs.Searching.{IsShownBy, followers_found, followers_once, no_more, searched_first, shown_graph}
+use Rattle.task_core.specs.Initials.{HasTooManyInitial}
 
 -- the place that is visited
 place_is : (n : ℕ) (before : Draft) (place : Place) → slice_get before.moves.places.keys (row_count before.next) ≡ Some place

@@ -1,6 +1,5 @@
 pub mod Executions
 pub mod Graphs
-pub mod Initials
 pub mod Values
 pub mod Counting
 pub mod Orders

@@ -37,11 +37,11 @@ ghost use Rattle.exec_graph.specs.Drafts.{
 ghost use Rattle.exec_graph.specs.Effects.{AreEffectsOf};
 ghost use Rattle.exec_graph.specs.Executions.{ReachesMoreThan};
 ghost use Rattle.exec_graph.specs.Graphs.{IsGraphOf};
-ghost use Rattle.exec_graph.specs.Initials.{HasTooManyInitial};
 ghost use Rattle.exec_graph.specs.Moves.{IsBeforeVisit, IsPlaceWithin, configuration_of, found_by};
 ghost use Rattle.exec_graph.specs.Numbers.{numbers_of};
 ghost use Rattle.exec_graph.specs.Rows.{AreRows, HasShortRows, row_count, rows_of};
 ghost use Rattle.exec_graph.specs.Values.{IsWithinFluents, plain_graph};
+ghost use Rattle.task_core.specs.Initials.{HasTooManyInitial};
 
 use crate::effects::effects_of;
 use crate::graphs::{Graph, Place};

@@ -3,7 +3,6 @@
 use Rattle.std.proofs.Common.{◌≡◌, ◌⊎◌, Bool, List, inl, inr, refl, subst, ap, None, Option, true}
 use Rattle.std.specs.Option.{option_map}
 use Rattle.ctl_syntax.specs.declared.goals.Ctl.{Ctl}
-use Rattle.exec_graph.specs.Initials.{HasTooManyInitial}
 use Rattle.fair_theory.proofs.NamesBelow.{FairGoalsAreTrue}
 use Rattle.pddl_ast.specs.Trees.{DomainTree, ProblemTree}
 use Rattle.pddl_system.specs.CtlGoals.{ctl_goal_of, goal_value}
@@ -29,12 +28,14 @@ use Rattle.command_base.proofs.Later.{read_over}
 use Rattle.command_base.proofs.TaskNames.{same_actions, same_fluents}
 use Rattle.command_base.proofs.WhatFollows.{goal_map, ground_map, kind_map}
 use Rattle.check_command.specs.CheckCommand.{ExploreThen}
-use Rattle.check_command.proofs.CheckAnswers.{explored, too_many, too_many_back}
+use Rattle.check_command.proofs.CheckAnswers.{explored}
+use Rattle.command_base.proofs.TooMany.{too_many, too_many_back}
 use Rattle.explain_plan.specs.Explained.{Explains, ExplainsIn, ExplainedThen, FollowedThen, IsExplained, PlanThen}
 use Rattle.explain_plan.specs.Fairly.{FairThen, GoalForThen, IsGoalFor, IsGoalRefusal}
 use Rattle.explain_plan.specs.Lined.{LinedPlan, SpellsLined}
 use Rattle.explain_plan.specs.Words.{ExplainWords}
 use Rattle.explain_plan.proofs.Fairness.{judged_as}
+use Rattle.task_core.specs.Initials.{HasTooManyInitial}
 
 -- what is said from a later state of the shelf holds from the command's start
 explained_over : (held held' : Bytes → Held) (failed failed' : Bytes → Type 0) (asked : ExplainWords) (d : DomainTree) (p : ProblemTree) (a : Answer)

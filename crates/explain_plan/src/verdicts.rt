@@ -10,7 +10,6 @@ ghost use Rattle.command_base.specs.Values.{answer_of, kind_of, shown_of};
 ghost use Rattle.command_base.specs.Words.{with_contexts};
 ghost use Rattle.ctl_syntax.specs.Values.{NamesBelow, ctl_value};
 ghost use Rattle.exec_graph.specs.Graphs.{IsGraphOf};
-ghost use Rattle.exec_graph.specs.Initials.{HasTooManyInitial};
 ghost use Rattle.exec_graph.specs.Values.{IsWithinFluents, graph_size};
 ghost use Rattle.explain_plan.specs.Explained.{ExplainsIn};
 ghost use Rattle.explain_plan.specs.Fairly.{GoalForThen};
@@ -28,6 +27,7 @@ ghost use Rattle.std.specs.Prelude.{
   true,
 };
 ghost use Rattle.task_core.specs.Tasks.{action_count, fluent_count, initial_states, system_of};
+ghost use Rattle.task_core.specs.Initials.{HasTooManyInitial};
 
 use crate::fairly::goal_for;
 use crate::findings::{Followed, Judge, finding_for};

@@ -1,6 +1,5 @@
 -- What follows once a file is read, or is refused.
 use Rattle.std.proofs.Common.{◌≡◌, ◌⊎◌, List, inl, inr, None}
-use Rattle.exec_graph.specs.Initials.{HasTooManyInitial}
 use Rattle.command_base.specs.Answers.{Answer, Refusal, no_memory, refused}
 use Rattle.command_base.specs.Following.{most_followed}
 use Rattle.command_base.specs.InitialStates.{empty_init}
@@ -21,6 +20,7 @@ use Rattle.task_core.specs.Names.{Name}
 use Rattle.task_core.specs.Tasks.{action_names, fluent_names, initial_states}
 use Rattle.task_core.specs.declared.tasks.Task.{Task}
 use Rattle.explain_record.specs.Told.{IsRunTold, IsTold, IsToldOf, RecordThen, TaskThen}
+use Rattle.task_core.specs.Initials.{HasTooManyInitial}
 
 -- what follows once a record of this name is read
 abbrev RunThen : Refusal → Bytes → Task → LinedPlan → RecordTree → Answer → Type 0

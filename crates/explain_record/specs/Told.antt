@@ -8,7 +8,6 @@ use Rattle.command_base.specs.PddlTexts.{ReadBoth}
 use Rattle.command_base.specs.PlanFiles.{IsFaultyPlan}
 use Rattle.command_base.specs.Reading.{ReadThen}
 use Rattle.command_base.specs.Words.{Bytes, ReplayWords}
-use Rattle.exec_graph.specs.Initials.{HasTooManyInitial}
 use Rattle.explain_plan.specs.Explained.{source_in}
 use Rattle.explain_plan.specs.Lined.{LinedPlan, SpellsLined}
 use Rattle.pddl_ast.specs.Trees.{DomainTree, ProblemTree}
@@ -23,6 +22,7 @@ use Rattle.run_replay.specs.Traces.{Capped, Ended, Ending, Stray, Terminal, Unex
 use Rattle.task_core.specs.Tasks.{action_names, fluent_names, initial_states}
 use Rattle.task_core.specs.Vectors.{Vector}
 use Rattle.task_core.specs.declared.tasks.Task.{Task}
+use Rattle.task_core.specs.Initials.{HasTooManyInitial}
 
 -- the text is shown whatever the end of the trace: as a yes where `replay` shows the run, and as a no where
 -- it refuses it

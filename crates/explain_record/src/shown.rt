@@ -4,7 +4,6 @@ ghost use Rattle.command_base.specs.Answers.{no_memory, refused};
 ghost use Rattle.command_base.specs.Following.{most_followed};
 ghost use Rattle.command_base.specs.InitialStates.{empty_init};
 ghost use Rattle.command_base.specs.Values.{answer_of, shown_of};
-ghost use Rattle.exec_graph.specs.Initials.{HasTooManyInitial};
 ghost use Rattle.explain_record.specs.Told.{IsRunTold};
 ghost use Rattle.explain_plan.specs.Values.{lined_of};
 ghost use Rattle.explain_record.specs.Values.{answer_at};
@@ -16,6 +15,7 @@ ghost use Rattle.run_replay.specs.Records.{record_value};
 ghost use Rattle.std.specs.Prelude.{◌≡◌, ◌⊎◌, IfOk};
 ghost use Rattle.task_core.specs.States.{IsWithin, vector};
 ghost use Rattle.task_core.specs.Tasks.{action_count, fluent_count, initial_states};
+ghost use Rattle.task_core.specs.Initials.{HasTooManyInitial};
 
 use crate::commands::RunRequest;
 use command_base::{Refusal, Shown, Text};

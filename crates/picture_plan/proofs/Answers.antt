@@ -1,7 +1,6 @@
 -- From what follows the reading of both files to the answer, and from the answer to a run.
 use Rattle.std.proofs.Common.{◌≡◌, ◌≢◌, ◌⊎◌, List, [], ◌∷◌, Contains, get_or, length, map, inl, inr, refl, sym, subst, ap, ◌∙◌, arith, None, drop}
 use Rattle.exec_graph.specs.Executions.{ReachesMoreThan}
-use Rattle.exec_graph.specs.Initials.{HasTooManyInitial}
 use Rattle.exec_graph.proofs.Reaching.{begins, reached_first}
 use Rattle.pddl_ast.specs.Trees.{DomainTree, ProblemTree}
 use Rattle.pddl_system.specs.Sizes.{first_passed}
@@ -23,7 +22,7 @@ use Rattle.command_base.specs.InitialStates.{empty_init}
 use Rattle.command_base.specs.PlanFiles.{IsFaultyPlan, PlacedPlan, SpellsPlaced}
 use Rattle.command_base.specs.Reading.{ReadThen}
 use Rattle.command_base.specs.Words.{Bytes}
-use Rattle.command_base.proofs.TooMany.{too_many as too_many_states, too_many_back as too_many_states_back}
+use Rattle.command_base.proofs.TooMany.{too_many, too_many_back}
 use Rattle.command_base.proofs.Initials.{initial_over}
 use Rattle.command_base.proofs.Later.{read_over}
 use Rattle.command_base.proofs.TaskNames.{same_actions, same_fluents}
@@ -85,14 +84,9 @@ shows_for form t d p plan run a is system_is shows =
     (subst (λ (ns : List Name). ShowsPicture form (fluent_names d p) ns (system_of t) plan run a) (same_actions d p t is)
     (subst (λ (ns : List Name). ShowsPicture form ns (names_of_actions t) (system_of t) plan run a) (same_fluents d p t is) shows))
 
-too_many_back : (d : DomainTree) (p : ProblemTree) (t : Task) → task_value t ≡ task_of d p → HasTooManyStates d p → HasTooManyInitial t most_followed
-too_many_back d p t is many =
-    let back = too_many_states_back d p t is many in
-    record { entries = many.entries; first = back.0; more = back.1 }
-
 drawn_for : (asked : PictureWords) (d : DomainTree) (p : ProblemTree) (t : Task) (placed : PlacedPlan) (run : Option PlainExplanation) (a : Answer) → task_value t ≡ task_of d p → system_of t ≡ system d p
     → DrawnOf asked p t placed.plan run a → DrawnThen asked d p placed run a
-drawn_for asked d p t placed run a is system_is (inl (many, refused_is)) = inl (too_many_states d p t is many.entries many.first many.more, refused_is)
+drawn_for asked d p t placed run a is system_is (inl (many, refused_is)) = inl (too_many d p t is many, refused_is)
 drawn_for asked d p t placed run a is system_is (inr (inl (few, more, refused_is))) =
     inr (inl (λ many. few (too_many_back d p t is many), subst (λ (s : System). ReachesMoreThan s placed.plan (most_for asked.form)) system_is more, refused_is))
 drawn_for asked d p t placed run a is system_is (inr (inr then)) =

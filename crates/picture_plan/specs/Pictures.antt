@@ -1,7 +1,6 @@
 -- Which answer is a picture, and the answer to the words.
 use Rattle.std.specs.Prelude.{◌≡◌, ◌<◌, ◌⊎◌, ℕ, List, [], MatchOption, Option, None, Some, codes, length}
 use Rattle.exec_graph.specs.Executions.{ReachesMoreThan}
-use Rattle.exec_graph.specs.Initials.{HasTooManyInitial}
 use Rattle.pddl_ast.specs.Trees.{DomainTree, ProblemTree}
 use Rattle.pddl_system.specs.Systems.{action_names, fluent_names, system}
 use Rattle.plan_io.specs.Held.{Held}
@@ -28,6 +27,7 @@ use Rattle.rule_picture.specs.Texts.{rules_text}
 use Rattle.picture_plan.specs.Words.{PictureForm, PictureWords, as_graph, as_graph_with, as_page, as_page_with, as_rules}
 use Rattle.sexpr_text.specs.declared.faults.FaultKind.TheVariants.{BadNumber}
 use Rattle.sexpr_text.specs.declared.faults.InputFault.{InputFault}
+use Rattle.task_core.specs.Initials.{HasTooManyInitial}
 
 -- how many configurations a picture may show as a text in the DOT language, and on a page
 abbrev pub most_shown : ℕ

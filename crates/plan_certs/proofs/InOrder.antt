@@ -1,22 +1,22 @@
 -- The flaws of a certificate stand in the order of the text.
 use Rattle.std.proofs.Common.{ℕ, ◌+◌, ◌-◌, ◌<◌, ◌≤◌, Bool, true, false, not, List, [], ◌∷◌, codes, arith}
-use Rattle.std.specs.Prelude.{Option, Some, None, IfSome, if◌then◌else◌}
+use Rattle.std.specs.Prelude.{if◌then◌else◌}
 use Rattle.std.specs.Option.{option_map_or}
 use Rattle.sexpr_text.specs.declared.forms.Span.{Span}
 use Rattle.sexpr_text.specs.declared.faults.FaultKind.{FaultKind}
 use Rattle.sexpr_text.specs.declared.faults.FaultKind.TheVariants.{BadForm, UnknownName}
 use Rattle.sexpr_text.specs.Flaws.{Flaw, flaw_at, IsInOrder}
-use Rattle.sexpr_text.specs.Forest.{Forest, nothing, word, group}
+use Rattle.sexpr_text.specs.Forest.{Forest}
 use Rattle.sexpr_text.specs.Formed.{IsRising}
 use Rattle.sexpr_text.specs.Ordered.{AreGroupFlaws}
-use Rattle.sexpr_text.specs.Parts.{begins_with, after_first, after_word, only_group, group_after, first_group_with, flaws_of_groups, are_words}
+use Rattle.sexpr_text.specs.Parts.{begins_with, after_first, after_word, group_after, flaws_of_groups, are_words}
 use Rattle.sexpr_text.proofs.FlawLaws.{in_order-from, in_order-up_to}
-use Rattle.sexpr_text.proofs.GroupLaws.{rising-bounds, groups-in_order}
+use Rattle.sexpr_text.proofs.GroupLaws.{groups-in_order}
 use Rattle.task_core.specs.Names.{Name}
 use Rattle.task_core.specs.declared.classes.Class.{Class}
-use Rattle.plan_rules.specs.Items.{Item, of_word, of_group, item_span, first_item}
+use Rattle.plan_rules.specs.Items.{Item, item_span, first_item}
 use Rattle.plan_rules.specs.Readings as plans
-use Rattle.plan_rules.proofs.InOrder.{IsFirstWithin, IsGroupWithin, IsItemWithin, by_option, only-if, rising-from, then_if, IsListAt, after_first-within, after_word-within, at_item, first_group-within, first_item-within, group_after-within, item-end, item-from, one_flaw}
+use Rattle.plan_rules.proofs.InOrder.{IsFirstWithin, IsGroupWithin, by_option, IsListAt, after_first-within, after_word-within, at_item, first_group-within, first_item-within, group_after-within, item-end, item-from, one_flaw}
 use Rattle.plan_certs.specs.Readings as read
 use Rattle.list_laws.proofs.Options.{if_any}
 

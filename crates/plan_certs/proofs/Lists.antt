@@ -1,14 +1,8 @@
 -- Lists of sets, and lists of different elements.
-use Rattle.std.proofs.Common.{◌≡◌, ℕ, zero, suc, ◌+◌, ◌<◌, ◌≤◌, Bool, true, false, ◌⊎◌, inl, inr, List, [], ◌∷◌, ◌++◌, take, length, refl, sym, ap, subst, ◌∙◌, arith, ⊎_elim}
-use Rattle.std.specs.List.{Contains, list_any}
+use Rattle.std.proofs.Common.{◌≡◌, ℕ, zero, suc, ◌<◌, true, false, ◌⊎◌, inl, inr, List, [], ◌∷◌, take, length, arith, ⊎_elim}
 use Rattle.std.proofs.lemmas.Bool.{false≢true, or_cases, or_left, or_right}
-use Rattle.std.proofs.lemmas.List.{length-append}
-use Rattle.task_core.specs.Vectors.{Vector, same_vector}
-use Rattle.task_core.specs.Tables.{Table, IsTerminal}
+use Rattle.task_core.specs.Vectors.{Vector}
 use Rattle.plan_certs.specs.Certificates.{CubeSet, holds_state, some_holds, set_at}
-use Rattle.plan_theory.proofs.Tests.{same_vector-itself, same_vector-true}
-use Rattle.list_laws.proofs.Elements.{Contains-cases, Contains-cons, Contains-head, Contains-nil, list_any-from, list_any-witness}
-use Rattle.list_laws.proofs.Distinct.{Around, around, elsewhere, Apart}
 
 -- a state that one of the first sets holds is held by an earlier one or by the last of them
 pub some_holds-last : (sets : List CubeSet) (i : ℕ) (v : Vector) → some_holds (take (suc i) sets) v ≡ true → (some_holds (take i sets) v ≡ true) ⊎ (holds_state (set_at sets i) v ≡ true)

@@ -2,7 +2,7 @@
 -- of the initial state. Strong: some path goes on in it, and so comes back to a state at last.
 -- Cyclic: by the number of the set; no reached state lies in an earlier one, so that from one in
 -- this set no path leaves it, and none ends.
-use Rattle.std.proofs.Common.{◌≡◌, ◌≢◌, ℕ, zero, suc, ◌+◌, ◌<◌, ◌≤◌, ◌^◌, Bool, true, false, List, [], ◌∷◌, ◌++◌, take, length, refl, sym, ap, subst, ◌∙◌, arith, ⊎_elim}
+use Rattle.std.proofs.Common.{◌≡◌, ℕ, zero, suc, ◌+◌, ◌<◌, ◌≤◌, ◌^◌, Bool, true, false, List, [], ◌∷◌, ◌++◌, take, length, refl, sym, ap, subst, ◌∙◌, arith, ⊎_elim}
 use Rattle.std.specs.List.{Contains, list_all, list_any}
 use Rattle.std.proofs.lemmas.Bool.{false≢true, true≢false, or_cases}
 use Rattle.std.proofs.lemmas.List.{take_all}

@@ -1,39 +1,38 @@
 -- The printed certificate of a class is accepted where no table is a solution of it. Weak and strong: an
 -- outcome in a layer would put its state into the next one. Cyclic: an outcome that a round leaves
 -- would let the round leave its state.
-use Rattle.std.proofs.Common.{◌≡◌, ◌≢◌, ℕ, zero, suc, ◌+◌, ◌-◌, ◌<◌, ◌≤◌, ◌^◌, Bool, true, false, not, ◌&&◌, ◌||◌, List, [], ◌∷◌, ◌++◌, map, take, length, refl, sym, ap, subst, ◌∙◌, ◌⊎◌, inl, inr, ⊎_elim, arith}
-use Rattle.std.specs.Prelude.{slice_index_or}
-use Rattle.std.specs.List.{Contains, list_all, list_any, range_with_len}
+use Rattle.std.proofs.Common.{◌≡◌, ℕ, zero, suc, ◌+◌, ◌-◌, ◌<◌, ◌≤◌, ◌^◌, Bool, true, false, not, ◌&&◌, ◌||◌, List, [], ◌∷◌, ◌++◌, take, length, refl, sym, ap, subst, ◌∙◌, ◌⊎◌, inl, inr, ⊎_elim, arith}
+use Rattle.std.specs.List.{Contains, list_all, list_any}
 use Rattle.std.proofs.lemmas.List.FromFn.{get_or-map-range_with_len, length-map-range_with_len, map-range_with_len_more, take-map-range_with_len}
 use Rattle.std.proofs.lemmas.List.Folds.{list_any-append}
 use Rattle.std.proofs.lemmas.Bool.{and_from, and_parts, cases_lt, false≢true, not-true, or_cases, or_left, or_right, true≢false}
-use Rattle.task_core.specs.Cubes.{SetOfVectors, cubes_of, is_empty_set, matches}
+use Rattle.task_core.specs.Cubes.{SetOfVectors, is_empty_set}
 use Rattle.task_core.specs.Solutions.{HasNoSolution}
-use Rattle.task_core.specs.Systems.{Exec, HasOutcome, IsState, IsSystem, IsVector, System, goal_states}
+use Rattle.task_core.specs.Systems.{Exec, IsState, IsSystem, IsVector, System, goal_states}
 use Rattle.task_core.specs.Vectors.{Vector, all_vectors}
 use Rattle.task_core.specs.declared.classes.Class.{Class}
 use Rattle.task_core.specs.declared.classes.Class.TheVariants.{Weak, Strong, Cyclic}
 use Rattle.task_core.proofs.Vectors.{all_vectors_has, all_vectors_length}
 use Rattle.plan_rules.specs.Denoted.{denoted}
-use Rattle.plan_theory.specs.Classes.{IsFoundByLayers, IsStable}
+use Rattle.plan_theory.specs.Classes.{IsFoundByLayers}
 use Rattle.plan_theory.specs.CyclicPlans.{cyclic_rules}
 use Rattle.plan_theory.specs.LargestSets.{goal_or_pair}
 use Rattle.plan_theory.specs.LargestSets.{covers as covers_pairs}
 use Rattle.plan_theory.specs.LayerPlans.{printed_rules}
 use Rattle.plan_theory.specs.Layers.{IsLastLayer, action_numbers, covers, layer, leads_by}
-use Rattle.plan_theory.specs.PairRounds.{IsLastRound, connected, kept, round}
+use Rattle.plan_theory.specs.PairRounds.{IsLastRound, kept, round}
 use Rattle.plan_theory.specs.Pairs.{is_goal, restricted}
-use Rattle.plan_theory.proofs.ClassLayers.{covers-misses, last_layer-suc, last_layer-zero, layer-grows, layer-stable, layer-zero, layer-zero_goal}
+use Rattle.plan_theory.proofs.ClassLayers.{last_layer-suc, last_layer-zero, layer-grows, layer-stable, layer-zero, layer-zero_goal}
 use Rattle.plan_theory.proofs.Cubes.{cubes_match}
 use Rattle.plan_theory.proofs.CyclicPrinted.{cyclic_solves}
 use Rattle.plan_theory.proofs.LeastBounds.{solves_by_class, stands_still}
 use Rattle.plan_theory.proofs.Restricted.{progress_connected, progress_step}
-use Rattle.plan_theory.proofs.RoundSteps.{connected_more, kept_from, later_rounds, round_shrinks, rounds_end, rounds_shrink_to}
+use Rattle.plan_theory.proofs.RoundSteps.{connected_more, kept_from, round_shrinks, rounds_end, rounds_shrink_to}
 use Rattle.plan_theory.proofs.Survives.{last_is_largest, left_state}
 use Rattle.plan_rules.proofs.DenotedPairs.{denoted-table}
 use Rattle.list_laws.proofs.Booleans.{or_false}
 use Rattle.list_laws.proofs.Elements.{Contains-range_with_len, list_all-at, list_all-from, list_any-false, list_any-from, list_any-none, some_element}
-use Rattle.plan_certs.specs.Certificates.{CanAct, CubeSet, HasNoWayOut, HoldsInitial, HoldsNoGoal, IsAccepted, PlainCertificate, holds_state, is_no_way_out, set_at, some_holds}
+use Rattle.plan_certs.specs.Certificates.{CanAct, CubeSet, IsAccepted, PlainCertificate, holds_state, is_no_way_out, set_at, some_holds}
 use Rattle.plan_certs.specs.Printed.{IsFirstWhole, IsPrinted, lost_set, lost_sets, outside_layers, set_cubes}
 
 -- the cubes of a set hold its vectors

@@ -1,5 +1,5 @@
 -- What is said of a whole text, from what is said of its forms.
-use Rattle.std.proofs.Common.{◌≡◌, ℕ, ◌+◌, Bool, true, false, List, [], ◌∷◌, ◌++◌, length, codes, refl, ap, sym, subst, ◌∙◌, inr, arith}
+use Rattle.std.proofs.Common.{◌≡◌, ℕ, ◌+◌, Bool, true, false, List, [], ◌∷◌, length, codes, refl, ap, sym, subst, ◌∙◌, inr, arith}
 use Rattle.std.specs.Prelude.{Option, Some, None, unwrap_or, if◌then◌else◌, Result, Ok, Err, IfOk, IfErr}
 use Rattle.std.specs.Option.{option_map, option_map_or}
 use Rattle.std.proofs.lemmas.List.{length-map}
@@ -24,7 +24,7 @@ use Rattle.task_core.specs.declared.tasks.Task.{Task}
 use Rattle.plan_rules.specs.Items.{Item, first_item, item_span}
 use Rattle.plan_rules.specs.Plans.{IsCubeOf}
 use Rattle.plan_rules.specs.Readings.{class_named, cube_tree}
-use Rattle.plan_certs.specs.Certificates.{CubeSet, PlainCertificate}
+use Rattle.plan_certs.specs.Certificates.{PlainCertificate}
 use Rattle.plan_certs.specs.Named.{IsCertificateOf, IsPlainCertificateOf, IsSetOf, MayHave, plain_certificate}
 use Rattle.plan_certs.specs.Readings.{HasCertificateFault, SpellsCertificateAt, certificate_flaws, certificate_list, certificate_read, certificate_tree, has_sets, no_certificate, no_list, set_flaws, set_item_flaws, set_tree, sets_flaws, text_flaws}
 use Rattle.plan_certs.specs.declared.certificates.CertificateRead.{CertificateRead}

@@ -1,9 +1,9 @@
 -- How many steps the labels of a goal take, from those of its parts: e for each operator.
-use Rattle.std.proofs.Common.{◌≡◌, ℕ, ◌+◌, ◌*◌, ◌<◌, ◌≤◌, List, ◌∷◌, [], length, drop, get_or, map, refl, sym, ap, ◌∙◌, subst, arith, add-mul, one-mul}
-use Rattle.std.proofs.lemmas.List.{drop_all, drop_more}
+use Rattle.std.proofs.Common.{◌≡◌, ℕ, ◌+◌, ◌*◌, ◌<◌, List, ◌∷◌, length, drop, get_or, map, sym, ap, ◌∙◌, add-mul, one-mul}
+use Rattle.std.proofs.lemmas.List.{drop_more}
 use Rattle.std.specs.Prelude.{Box, Vec}
 use Rattle.std.specs.declared.alloc.Global.{Global}
-use Rattle.ctl_syntax.specs.Goals.{CtlTree, goal_row}
+use Rattle.ctl_syntax.specs.Goals.{goal_row}
 use Rattle.ctl_syntax.specs.Values.{ctl_value}
 use Rattle.ctl_syntax.specs.declared.goals.Ctl.{Ctl}
 use Rattle.ctl_syntax.specs.declared.goals.Ctl.TheVariants as Shut

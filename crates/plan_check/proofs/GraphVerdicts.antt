@@ -1,8 +1,6 @@
 -- What is found on the graph of a table plan gives the verdict.
-use Rattle.std.proofs.Common.{◌≡◌, ◌↔◌, ℕ, zero, suc, ◌<◌, Bool, true, false, IsTrue, List, [], ◌∷◌, length, map, Some, None, Option, unwrap_or, refl, sym, ap, ◌∙◌, subst, arith}
-use Rattle.std.specs.Prelude.{slice_get}
+use Rattle.std.proofs.Common.{◌≡◌, ◌↔◌, ℕ, ◌<◌, Bool, true, false, IsTrue, List, [], map, Some, None, Option, refl, sym, ap, ◌∙◌, subst, arith}
 use Rattle.std.specs.List.{Contains}
-use Rattle.std.specs.Option.{option_map, option_map_or}
 use Rattle.std.proofs.lemmas.Bool.{false≢true}
 use Rattle.task_core.specs.Vectors.{Vector, value_of}
 use Rattle.task_core.specs.States.{truth, vector}
@@ -12,7 +10,7 @@ use Rattle.task_core.specs.declared.states.State.{State}
 use Rattle.task_core.proofs.Agreement.{holds_agree, ids_below_widen}
 use Rattle.task_core.specs.Systems.{System, goal_states}
 use Rattle.task_core.specs.Tables.{Reaches, IsTerminal}
-use Rattle.task_core.specs.Tasks.{fluent_count, states_where, system_of}
+use Rattle.task_core.specs.Tasks.{fluent_count, system_of}
 use Rattle.task_core.specs.Solutions.{EndsInGoal, IsWeakSolution, MayEnd, MayReachGoal}
 use Rattle.task_core.specs.ContextPlans.{IsInitial, first_context}
 use Rattle.task_core.specs.declared.classes.Class.{Class}
@@ -25,7 +23,6 @@ use Rattle.plan_rules.specs.Denoted.{denoted}
 use Rattle.exec_graph.proofs.Reaching.{reached_state}
 use Rattle.exec_graph.specs.Graphs.{IsGraphOf}
 use Rattle.exec_graph.specs.Values.{followers_at, graph_size, plain_graph, state_at}
-use Rattle.exec_graph.specs.declared.graphs.Place.{Place}
 use Rattle.exec_graph.specs.declared.graphs.Graph.{Graph}
 use Rattle.plan_check.specs.Plain.{HasAllMarked, HasEndOutside, HasEndsInside, HasFollowersInside, HasMarkedStarts, HasUnmarked, HasUnmarkedStart, IsGoalEnd, is_goal_at}
 use Rattle.plan_check.specs.Verdicts.{CanFollowRules, IsFreeOf, IsVerdict, MayAlwaysEnd, MayComeRound, MayEndOutside, MayMissGoal, MayNeverEnd, ReachesBadRule, turn_of}

@@ -1,5 +1,5 @@
 -- How often a search in depth looks at edges.
-use Rattle.std.proofs.Common.{◌≡◌, ◌≢◌, ℕ, ◌+◌, ◌*◌, ◌<◌, ◌≤◌, List, [], ◌∷◌, length, set, max, refl, sym, ap, ◌∙◌, subst, arith}
+use Rattle.std.proofs.Common.{◌≡◌, ℕ, ◌+◌, ◌*◌, ◌<◌, ◌≤◌, List, [], ◌∷◌, length, set, refl, sym, ap, subst, arith}
 use Rattle.std.specs.List.{Contains}
 use Rattle.exec_graph.specs.Values.{lengths_below, sum_below}
 use Rattle.plan_check.specs.Plain.{IsTurned}

@@ -1,4 +1,4 @@
 pub mod Mapped
 pub mod InOrder
 pub mod NoFloats
-mod NoFloatsInActions
+pub mod NoFloatsInActions

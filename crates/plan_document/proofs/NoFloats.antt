@@ -1,19 +1,18 @@
 -- No document has a float.
-use Rattle.std.proofs.Common.{◌≡◌, ◌∙◌, ℕ, List, [], ◌∷◌, map, false, Bool, refl, ap, subst, sym, Option, None, Some, slice_get, Ordering, Less, Equal, Greater}
+use Rattle.std.proofs.Common.{◌≡◌, ℕ, List, [], ◌∷◌, map, false, Bool, refl, Option, None, Some, slice_get, Ordering, Less, Equal, Greater}
 use Rattle.std.proofs.lemmas.Bool.{or_parts}
 use Rattle.std.specs.List.{fold}
 use Rattle.std.specs.Option.{option_map_or}
 use Rattle.std.specs.Cmp.Lexicographic.{slice_cmp}
 use Rattle.std.specs.Ordering.{nat_cmp, match_ordering}
-use Rattle.serde_json.specs.Data.{Data, Members, member, no_members, boolean, null, put}
+use Rattle.serde_json.specs.Data.{Members, member, no_members, boolean, null, put}
 use Rattle.serde_json.specs.View.{items_of}
 use Rattle.serde_json.specs.Written.{has_float, items_have_float, members_have_float}
 use Rattle.task_core.specs.Cubes.{Cube}
 use Rattle.task_core.specs.Names.{Name, name_of}
 use Rattle.plan_rules.specs.Rules.{ContextRule, PlainPlan, PlanNext, PlanRule, always, automaton, by_cases, table}
 use Rattle.task_core.specs.declared.actions.GroundAction.{GroundAction}
-use Rattle.plan_document.specs.Actions.{condition_data, outcomes_data}
-use Rattle.plan_document.specs.Documents.{context_rule_data, cube_data, document, name_data, next_data, rule_data, rule_object, table_rule_data, with_literal}
+use Rattle.plan_document.specs.Documents.{context_rule_data, cube_data, document, name_data, next_data, rule_object, table_rule_data, with_literal}
 use Rattle.plan_document.proofs.NoFloatsInActions.{condition_free, items_free, outcomes_free}
 
 by_order : (o : Ordering) (a b c : Members) → members_have_float a ≡ false → members_have_float b ≡ false → members_have_float c ≡ false → members_have_float (match_ordering o a b c) ≡ false

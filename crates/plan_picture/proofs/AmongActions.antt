@@ -1,8 +1,5 @@
 -- The steps by the actions of the rules that match a state.
-use Rattle.std.proofs.Common.{◌≡◌, ◌==◌, ◌+◌, ◌++◌, ℕ, suc, Bool, true, false, List, [], ◌∷◌, append-nil, arith, cond, refl, ap, sym, ◌∙◌}
-use Rattle.std.specs.Prelude.{◌&&◌, ◌||◌}
-use Rattle.std.specs.List.{list_any}
-use Rattle.task_core.specs.Cubes.{matches}
+use Rattle.std.proofs.Common.{◌≡◌, ◌+◌, ◌++◌, ℕ, suc, Bool, true, false, List, [], append-nil, arith, cond, ap, sym, ◌∙◌}
 use Rattle.task_core.specs.Vectors.{Vector}
 use Rattle.plan_rules.specs.Denoted.{advises}
 use Rattle.plan_rules.specs.Rules.{PlanRule}

@@ -1,6 +1,5 @@
 -- The text of what is shown is that of a picture.
-use Rattle.std.proofs.Common.{◌≡◌, ◌∙◌, ℕ, Bool, List, ◌++◌, codes, map, length, ap, sym, refl}
-use Rattle.std.specs.List.{flat_map}
+use Rattle.std.proofs.Common.{◌≡◌, ◌∙◌, ℕ, Bool, List, ◌++◌, codes, map, length, ap, sym}
 use Rattle.plan_rules.specs.Texts.{line_feed}
 use Rattle.plan_picture.specs.Labels.{bytes_of, is_marked, line_of_node, line_of_step, lines_from, text_of_shown}
 use Rattle.plan_picture.specs.Pictures.{PlainStep}

@@ -2,7 +2,6 @@
 
 ghost use Rattle.exec_graph.specs.Executions.{ReachesMoreThan};
 ghost use Rattle.exec_graph.specs.Graphs.{IsGraphOf};
-ghost use Rattle.exec_graph.specs.Initials.{HasTooManyInitial};
 ghost use Rattle.exec_graph.specs.Moves.{configuration_of};
 ghost use Rattle.exec_graph.specs.Values.{IsWithinFluents, graph_size, plain_graph};
 ghost use Rattle.plan_picture.specs.Pictures.{IsPictureOf};
@@ -21,6 +20,7 @@ ghost use Rattle.task_core.specs.Conditions.{holds_in, ids_below};
 ghost use Rattle.task_core.specs.States.{IsWithin, vector};
 ghost use Rattle.task_core.specs.Systems.{goal_states};
 ghost use Rattle.task_core.specs.Tasks.{action_count, fluent_count, in_space, system_of};
+ghost use Rattle.task_core.specs.Initials.{HasTooManyInitial};
 
 use crate::advised::steps_from;
 use crate::places::{place_at, places_of};

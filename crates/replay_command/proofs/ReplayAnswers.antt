@@ -1,6 +1,5 @@
 -- The run of a plan of a task is that for the domain and the problem that the task comes from.
 use Rattle.std.proofs.Common.{◌≡◌, ◌<◌, ◌⊎◌, List, arith, inl, inr, length, subst, ap, None, Some}
-use Rattle.exec_graph.specs.Initials.{HasTooManyInitial}
 use Rattle.pddl_ast.specs.Trees.{DomainTree, ProblemTree}
 use Rattle.pddl_system.specs.Sizes.{Limit, first_passed}
 use Rattle.pddl_system.specs.Systems.{action_names, fluent_names, system}
@@ -22,20 +21,12 @@ use Rattle.command_base.specs.PlanFiles.{IsFaultyPlan, PlacedPlan, SpellsPlaced}
 use Rattle.command_base.specs.Reading.{Holds, IsRefusedFile}
 use Rattle.replay_command.specs.ReplayCommand.{FirstThen, IsFaultyRecord, IsFirstState, IsReplay, IsReplayed, NumberThen, RecordThen, ReplayThen, Tallies, trace_under}
 use Rattle.command_base.specs.Words.{Bytes, ReplayWords}
-use Rattle.command_base.proofs.TooMany.{too_many as too_many_states, too_many_back as too_many_states_back}
+use Rattle.command_base.proofs.TooMany.{too_many, too_many_back}
 use Rattle.command_base.proofs.Initials.{initial_map}
 use Rattle.command_base.proofs.Later.{file_refused, next_answer, read_over}
 use Rattle.command_base.proofs.TaskNames.{same_actions, same_fluents}
 use Rattle.command_base.proofs.WhatFollows.{ground_map, then_map}
-
--- a task has too many initial states exactly where its domain and problem have
-too_many : (d : DomainTree) (p : ProblemTree) (t : Task) → task_value t ≡ task_of d p → HasTooManyInitial t most_followed → HasTooManyStates d p
-too_many d p t is many = too_many_states d p t is many.entries many.first many.more
-
-too_many_back : (d : DomainTree) (p : ProblemTree) (t : Task) → task_value t ≡ task_of d p → HasTooManyStates d p → HasTooManyInitial t most_followed
-too_many_back d p t is many =
-    let back = too_many_states_back d p t is many in
-    record { entries = many.entries; first = back.0; more = back.1 }
+use Rattle.task_core.specs.Initials.{HasTooManyInitial}
 
 -- what is said of the record's file from a later state of the shelf holds from an earlier one
 record_over : (held held' : Bytes → Held) (failed failed' : Bytes → Type 0) (tallies : Tallies) (name : Bytes) (actions : List Name) (TooMany : Type 0) (empty : Refusal) (sys : System) (plan : PlainPlan) (a : Answer)

@@ -7,7 +7,6 @@ ghost use Rattle.command_base.specs.Grounding.{GroundThen};
 ghost use Rattle.command_base.specs.InitialStates.{empty_init};
 ghost use Rattle.command_base.specs.Shelves.{KeepsShelf};
 ghost use Rattle.command_base.specs.Values.{answer_of, refusal_of, replay_words_of};
-ghost use Rattle.exec_graph.specs.Initials.{HasTooManyInitial};
 ghost use Rattle.pddl_ast.specs.Fits.{FitsDomain, FitsProblem};
 ghost use Rattle.pddl_ast.specs.Values.{domain_value, problem_value};
 ghost use Rattle.pddl_system.specs.Names.{NamesAreWords};
@@ -35,6 +34,7 @@ ghost use Rattle.run_replay.specs.TraceTexts.{tallies_of};
 ghost use Rattle.std.specs.Prelude.{◌≡◌, ◌⊎◌, [], ◌∷◌, All, IfErr, IfOk, None, OnOk, map};
 ghost use Rattle.task_core.specs.States.{IsWithin, vector};
 ghost use Rattle.task_core.specs.Tasks.{
+ghost use Rattle.task_core.specs.Initials.{HasTooManyInitial};
   action_count,
   action_names,
   fluent_count,

@@ -11,6 +11,7 @@ pub mod Conditions
 pub mod Actions
 pub mod Names
 pub mod Initial
+pub mod Initials
 pub mod Unchanged
 pub mod Parts
 pub mod Checks

@@ -1,4 +1,4 @@
-use Rattle.std.proofs.Common.{subst, sym}
+use Rattle.std.proofs.Common.{subst}
 use Rattle.plan_document.specs.Faithful.{IsOneNext}
 use Rattle.plan_rules.specs.Rules.{next_of}
 use Rattle.plan_rules.specs.declared.rules.Next.{Next}

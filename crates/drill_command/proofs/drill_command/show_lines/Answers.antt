@@ -1,6 +1,5 @@
 use Rattle.std.proofs.Common.{◌≡◌, ◌++◌, inr, ap}
 use Rattle.std.proofs.lemmas.Result.{err_from_is_err_and}
-use Rattle.exec_graph.specs.Initials.{HasTooManyInitial}
 use Rattle.task_core.specs.Tasks.{system_of}
 use Rattle.command_base.specs.Answers.{affirmed}
 use Rattle.command_base.specs.Following.{most_followed}
@@ -8,6 +7,7 @@ use Rattle.drill_command.specs.DrillCommand.{drill_head}
 use Rattle.command_base.specs.Values.{drill_words_of, refusal_of}
 use Rattle.drill_command.proofs.DrillAnswers.{cyclic_refused, strong_refused, weak_refused}
 use Rattle.drill_command.proofs.drill_command.show_lines.Goals as goal
+use Rattle.task_core.specs.Initials.{HasTooManyInitial}
 
 pub returns-in_err-weak : goal.returns-in_err-weak
 returns-in_err-weak c =

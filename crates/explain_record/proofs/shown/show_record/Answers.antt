@@ -1,5 +1,4 @@
 use Rattle.std.proofs.lemmas.Result.{err_from_is_err_and}
-use Rattle.exec_graph.specs.Initials.{HasTooManyInitial}
 use Rattle.pddl_ast.specs.Values.{problem_value}
 use Rattle.run_replay.specs.Records.{record_value}
 use Rattle.task_core.specs.States.{vector}
@@ -11,6 +10,7 @@ use Rattle.replay_command.proofs.ReplayAnswers.{first_answer, first_refused}
 use Rattle.explain_record.specs.Told.{IsRunTold}
 use Rattle.explain_plan.specs.Values.{lined_of}
 use Rattle.explain_record.proofs.shown.show_record.Goals as goal
+use Rattle.task_core.specs.Initials.{HasTooManyInitial}
 
 pub returns-in_err-first : goal.returns-in_err-first
 returns-in_err-first c =

@@ -61,8 +61,8 @@ returns-in-Au g c =
     let is = ap ctl_value c.in-Au.is ∙ value_Au c.in-Au.left c.in-Au.right ∙ ap (λ p. au (ctl_value p) (ctl_value c.in-Au.right.value)) (sym c.deref-in-Au.ensures) ∙ ap (λ p. au (ctl_value c.deref-in-Au.result.now) (ctl_value p)) (sym c.deref-in-Au-2.ensures) in
     subst (λ t. IfOk c.false_until.result (IsFailing c.args.scene.now t c.args.number)) (sym is) c.false_until.ensures
 
-pub false_until-in-Aw-requires-clause-fails : goal.false_until-in-Aw-requires-clause-fails
-false_until-in-Aw-requires-clause-fails g c =
+pub false_until-requires-in-Aw-clause-fails : goal.false_until-requires-in-Aw-clause-fails
+false_until-requires-in-Aw-clause-fails g c =
     let is = ap ctl_value c.in-Aw.is ∙ value_Aw c.in-Aw.left c.in-Aw.right ∙ ap (λ p. aw (ctl_value p) (ctl_value c.in-Aw.right.value)) (sym c.deref-in-Aw.ensures) ∙ ap (λ p. aw (ctl_value c.deref-in-Aw.result.now) (ctl_value p)) (sym c.deref-in-Aw-2.ensures) in
     subst (λ t. IsFalseAtNumber c.args.scene.now t c.args.number) is c.requires.fails
 

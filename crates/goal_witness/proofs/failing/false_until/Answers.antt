@@ -39,15 +39,15 @@ returns-in-Some g c =
     leads_until scene c.requires.scene c.args.parts.weak (ctl_value c.args.parts.left.now) (ctl_value c.args.parts.right.now) c.args.number c.deref.result.now c.deref-2.result.now (steps_value (fluent_count scene.task.now) c.in-Some.reached.steps.items) c.in-Some.reached.end c.requires.fails
     left_shows right_shows way
 
-pub returns-then-parts-in-None : goal.returns-then-parts-in-None
-returns-then-parts-in-None g c =
+pub returns-then-parts : goal.returns-then-parts
+returns-then-parts g c =
     let scene = c.args.scene.now in
     let l = ctl_value c.args.parts.left.now in
     let r = ctl_value c.args.parts.right.now in
     let none = none_of c.in_ok-reached.field-0 (NoneWithout (followers_at scene.graph.now) c.deref-2.result.now (Lacks c.deref.result.now) c.args.number) c.in-None.is c.in_ok-reached.ensures.none in
     let left_shows = shows_as scene l c.in_ok-left.left.items c.deref.result.now c.deref.ensures.value c.in_ok-left.ensures in
     let right_shows = shows_as scene r c.in_ok-right.right.items c.deref-2.result.now c.deref-2.ensures.value c.in_ok-right.ensures in
-    let fails = subst (λ b. IsFalseAtNumber scene (until_of b l r) c.args.number) c.if-parts-in-None.true c.requires.fails in
+    let fails = subst (λ b. IsFalseAtNumber scene (until_of b l r) c.args.number) c.if-parts.true c.requires.fails in
     absurd (not_sat scene c.requires.scene (aw l r) c.args.number fails (true_aw scene c.requires.scene l r c.args.number c.deref.result.now c.deref-2.result.now fails.below left_shows right_shows none))
 
 pub endless-requires-clause-left : goal.endless-requires-clause-left
@@ -70,7 +70,7 @@ endless-requires-clause-misses g c =
     let r = ctl_value c.args.parts.right.now in
     let left_shows = shows_as scene l c.in_ok-left.left.items c.deref.result.now c.deref.ensures.value c.in_ok-left.ensures in
     let right_shows = shows_as scene r c.in_ok-right.right.items c.deref-2.result.now c.deref-2.ensures.value c.in_ok-right.ensures in
-    misses_au scene c.requires.scene l r c.args.number c.deref.result.now c.deref-2.result.now (subst (λ b. IsFalseAtNumber scene (until_of b l r) c.args.number) c.if-parts-in-None.false c.requires.fails) left_shows right_shows
+    misses_au scene c.requires.scene l r c.args.number c.deref.result.now c.deref-2.result.now (subst (λ b. IsFalseAtNumber scene (until_of b l r) c.args.number) c.if-parts.false c.requires.fails) left_shows right_shows
 
 pub returns : goal.returns
 returns g c =
@@ -80,6 +80,6 @@ returns g c =
     let lasso = c.in_ok-lasso-in-None.lasso in
     let right_shows = shows_as scene r c.in_ok-right.right.items c.deref-2.result.now c.deref-2.ensures.value c.in_ok-right.ensures in
     let n = fluent_count scene.task.now in
-    subst (λ b. IsFailing scene (until_of b l r) c.args.number (Ends (Lasso lasso.stem lasso.back))) (sym c.if-parts-in-None.false)
+    subst (λ b. IsFailing scene (until_of b l r) c.args.number (Ends (Lasso lasso.stem lasso.back))) (sym c.if-parts.false)
     (ends_au scene c.requires.scene l r c.args.number c.deref-2.result.now (steps_value n lasso.stem.items) (steps_value n lasso.back.items)
-    (subst (λ b. IsFalseAtNumber scene (until_of b l r) c.args.number) c.if-parts-in-None.false c.requires.fails) right_shows c.in_ok-lasso-in-None.ensures)
+    (subst (λ b. IsFalseAtNumber scene (until_of b l r) c.args.number) c.if-parts.false c.requires.fails) right_shows c.in_ok-lasso-in-None.ensures)

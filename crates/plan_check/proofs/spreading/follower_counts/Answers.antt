@@ -1,4 +1,4 @@
-use Rattle.std.proofs.Common.{◌+◌, length, slice_index_or, ap, sym, ◌∙◌}
+use Rattle.std.proofs.Common.{◌+◌, length, slice_index_or, ap, ◌∙◌}
 use Rattle.std.proofs.lemmas.List.{length_push}
 use Rattle.exec_graph.specs.Values.{followers_at}
 use Rattle.plan_check.proofs.SpreadSteps.{count_push}

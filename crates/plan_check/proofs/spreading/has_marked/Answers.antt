@@ -1,5 +1,4 @@
-use Rattle.std.proofs.Common.{◌<◌, length, sym, ◌∙◌, subst, arith}
-use Rattle.std.proofs.lemmas.List.Elements.{Contains-get_or}
+use Rattle.std.proofs.Common.{length, sym, ◌∙◌, arith}
 use Rattle.exec_graph.specs.Values.{followers_at, graph_size}
 use Rattle.plan_check.specs.Labels.{mark_at}
 use Rattle.plan_check.proofs.LedSteps.{one_ended, one_found, one_passed, place_below}

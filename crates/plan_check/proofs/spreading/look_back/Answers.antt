@@ -1,4 +1,4 @@
-use Rattle.std.proofs.Common.{◌≡◌, ℕ, Bool, ◌+◌, ◌-◌, ◌<◌, ◌++◌, ◌∷◌, [], cond, true, length, get_or, set, sym, ap, ◌∙◌, subst, arith}
+use Rattle.std.proofs.Common.{◌≡◌, ℕ, Bool, ◌-◌, ◌<◌, ◌++◌, ◌∷◌, [], cond, true, length, get_or, set, sym, ap, subst, arith}
 use Rattle.std.proofs.lemmas.List.{get_or_read}
 use Rattle.exec_graph.specs.Values.{followers_at, graph_size, predecessors_at}
 use Rattle.plan_check.specs.Spreads.{is_due}

@@ -1,4 +1,4 @@
-use Rattle.std.proofs.Common.{refl, ◌+◌, ◌<◌, length, arith}
+use Rattle.std.proofs.Common.{refl, arith}
 use Rattle.plan_document.proofs.InOrder.{in_order}
 use Rattle.plan_document.proofs.told.is_in_order.Goals as goal
 

@@ -1,4 +1,4 @@
-use Rattle.std.proofs.Common.{◌≡◌, ◌<◌, ◌∙◌, ℕ, List, IfOk, ap, arith, inr, length, map, subst, sym}
+use Rattle.std.proofs.Common.{◌≡◌, ◌<◌, ◌∙◌, ℕ, List, IfOk, ap, arith, inr, length, map, subst}
 use Rattle.std.proofs.lemmas.List.{length-map}
 use Rattle.std.specs.Prelude.{Vec}
 use Rattle.std.specs.declared.alloc.Global.{Global}
@@ -8,8 +8,7 @@ use Rattle.plan_rules.specs.Rules.{PlainPlan, plain_of}
 use Rattle.plan_picture.specs.Labels.{bytes_of, is_marked, text_of_shown}
 use Rattle.plan_picture.specs.Pictures.{PlainStep}
 use Rattle.plan_picture.specs.Texts.{graph_text, has_contexts, is_on, most_in_text, name_label, picture_text}
-use Rattle.plan_picture.specs.Values.{edge_value, node_value, nodes_of}
-use Rattle.plan_picture.specs.declared.labels.Labels.{Labels}
+use Rattle.plan_picture.specs.Values.{edge_value, node_value}
 use Rattle.plan_picture.specs.declared.pictures.Node.{Node}
 use Rattle.plan_picture.specs.declared.runs.Edge.{Edge}
 use Rattle.plan_picture.specs.declared.text.Shown.{Shown}

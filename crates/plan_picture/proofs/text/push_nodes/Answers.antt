@@ -1,4 +1,4 @@
-use Rattle.std.proofs.Common.{arith, length, take}
+use Rattle.std.proofs.Common.{take}
 use Rattle.plan_picture.specs.Labels.{line_of_node}
 use Rattle.plan_picture.specs.Texts.{numbered}
 use Rattle.plan_picture.proofs.Numbered.{longer_whole, numbered_shorter, pushed_next}

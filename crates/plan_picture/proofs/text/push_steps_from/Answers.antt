@@ -1,4 +1,4 @@
-use Rattle.std.proofs.Common.{length, take}
+use Rattle.std.proofs.Common.{take}
 use Rattle.std.specs.List.{flat_map}
 use Rattle.plan_picture.specs.Labels.{line_of_step}
 use Rattle.plan_picture.proofs.Numbered.{flat_map_shorter, longer_whole}

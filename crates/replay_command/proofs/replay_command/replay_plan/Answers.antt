@@ -1,6 +1,5 @@
 use Rattle.std.proofs.Common.{map, refl}
 use Rattle.std.proofs.lemmas.Result.{err_from_is_err_and}
-use Rattle.exec_graph.specs.Initials.{HasTooManyInitial}
 use Rattle.pddl_ast.specs.Values.{problem_value}
 use Rattle.plan_io.specs.Fetches.{FailedLast}
 use Rattle.plan_rules.specs.Rules.{plain_of}
@@ -13,6 +12,7 @@ use Rattle.replay_command.specs.ReplayCommand.{Tallies}
 use Rattle.command_base.specs.Values.{answer_of, refusal_of}
 use Rattle.replay_command.proofs.ReplayAnswers.{record_answer, record_refused}
 use Rattle.replay_command.proofs.replay_command.replay_plan.Goals as goal
+use Rattle.task_core.specs.Initials.{HasTooManyInitial}
 
 pub returns-in_err-recorded-clause-answer : goal.returns-in_err-recorded-clause-answer
 returns-in_err-recorded-clause-answer g c =

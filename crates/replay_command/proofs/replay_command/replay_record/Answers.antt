@@ -1,5 +1,4 @@
 use Rattle.std.proofs.Common.{map}
-use Rattle.exec_graph.specs.Initials.{HasTooManyInitial}
 use Rattle.pddl_ast.specs.Values.{problem_value}
 use Rattle.plan_rules.specs.Rules.{plain_of}
 use Rattle.run_replay.specs.Records.{record_value}
@@ -14,6 +13,7 @@ use Rattle.replay_command.specs.ReplayCommand.{IsReplayed, trace_under}
 use Rattle.command_base.specs.Values.{answer_of}
 use Rattle.replay_command.proofs.ReplayAnswers.{first_answer}
 use Rattle.replay_command.proofs.replay_command.replay_record.Goals as goal
+use Rattle.task_core.specs.Initials.{HasTooManyInitial}
 
 pub returns : goal.returns
 returns g c =

@@ -1,6 +1,5 @@
 use Rattle.std.proofs.Common.{inl, inr, map, refl}
 use Rattle.std.proofs.lemmas.Result.{err_from_is_err_and}
-use Rattle.exec_graph.specs.Initials.{HasTooManyInitial}
 use Rattle.pddl_ast.specs.Values.{problem_value}
 use Rattle.plan_io.specs.Fetches.{FailedLast}
 use Rattle.plan_rules.specs.Rules.{plain_of}
@@ -14,6 +13,7 @@ use Rattle.command_base.proofs.Fetched.{plan_stops}
 use Rattle.command_base.proofs.Later.{failed_over}
 use Rattle.replay_command.proofs.ReplayAnswers.{plan_answer, plan_refused, record_later}
 use Rattle.replay_command.proofs.replay_command.replay_task.Goals as goal
+use Rattle.task_core.specs.Initials.{HasTooManyInitial}
 
 pub returns-in_err-read-clause-answer : goal.returns-in_err-read-clause-answer
 returns-in_err-read-clause-answer g c =
