@@ -20,5 +20,5 @@ pub use fault_texts::fault_help;
 pub use helped::{HelpSource, deliver_helped};
 pub use keeping::{KeepingShelf, KeptFile};
 pub use wrong_words::{
-    NO_KIND, NO_NODES, NO_OPTION, NO_VALUE, ONE_TOO_MANY, WrongWords, wrong_words,
+    NO_KIND, NO_NODES, NO_OPTION, NO_VALUE, ONE_TOO_MANY, WrongWords, too_few_words,
 };

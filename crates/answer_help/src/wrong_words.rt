@@ -29,7 +29,7 @@ pub enum WrongWords<'a> {
 }
 
 /// What is wrong with words of a program that says no more of them.
-pub fn wrong_words<'a>(words: &'a [String]) -> WrongWords<'a>
+pub fn too_few_words<'a>(words: &'a [String]) -> WrongWords<'a>
     ensures { wrong_of result ≡ wrong_in (map string_bytes words.now) }
 {
     WrongWords::TooFew

@@ -6,7 +6,7 @@ ghost use Rattle.mistakes_command.specs.Runs.{HasMistakes};
 ghost use Rattle.std.specs.Prelude.{◌≡◌, [], map, string_bytes};
 
 use crate::commands::answer;
-use answer_help::{HelpSource, KeepingShelf, deliver_helped, wrong_words};
+use answer_help::{HelpSource, KeepingShelf, deliver_helped, too_few_words};
 use plan_io::{Shelf, Sink};
 use std::alloc::Global;
 
@@ -39,7 +39,7 @@ pub fn mistakes<S: Shelf, O: Sink, E: Sink>(
     let found = answer(alloc, words, shelf);
     let source = HelpSource {
         shelf,
-        words: wrong_words(words),
+        words: too_few_words(words),
     };
     deliver_helped(alloc, &found, &source, out, err)
 }

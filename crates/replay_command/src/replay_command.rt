@@ -32,9 +32,9 @@ ghost use Rattle.replay_command.specs.RunFetches.{FetchRecord, FetchesToReplay};
 ghost use Rattle.run_replay.specs.Records.{record_value};
 ghost use Rattle.run_replay.specs.TraceTexts.{tallies_of};
 ghost use Rattle.std.specs.Prelude.{◌≡◌, ◌⊎◌, [], ◌∷◌, All, IfErr, IfOk, None, OnOk, map};
+ghost use Rattle.task_core.specs.Initials.{HasTooManyInitial};
 ghost use Rattle.task_core.specs.States.{IsWithin, vector};
 ghost use Rattle.task_core.specs.Tasks.{
-ghost use Rattle.task_core.specs.Initials.{HasTooManyInitial};
   action_count,
   action_names,
   fluent_count,

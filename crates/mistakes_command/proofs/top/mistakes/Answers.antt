@@ -18,4 +18,4 @@ returns g c =
     let found = c.answer-found.ensures in
     helped_run SaysMistakes (IsMistakesAnswer (held_by held before) failed) (FetchesForMistakes (held_by held before) fetched) wrong_words held g.S.Shelf.faults _
     (λ asked a did. did) (λ asked a. over_both held g.S.Shelf.fetched asked.names.domain asked.names.problem before after)
-    (answer_of c.answer-found.result) found.cause found.fetches found.no_fetch c.requires found.shelf c.wrong_words.result c.wrong_words.ensures c.deliver_helped.ensures
+    (answer_of c.answer-found.result) found.cause found.fetches found.no_fetch c.requires found.shelf c.too_few_words.result c.too_few_words.ensures c.deliver_helped.ensures
