@@ -3,7 +3,7 @@
 ghost use Rattle.command_base.specs.Shelves.{KeepsShelf};
 ghost use Rattle.controller_plan.specs.Controllers.{IsControlAnswer, IsControlled};
 ghost use Rattle.controller_plan.specs.Runs.{HasControlCause};
-ghost use Rattle.controller_plan.specs.Sought.{IsAnswerFor, IsAnswerIn, IsReady};
+ghost use Rattle.controller_plan.specs.Sought.{FollowsFor, IsAnswerFor, IsAnswerIn, IsReady};
 ghost use Rattle.controller_words.specs.Values.{control_words_of};
 ghost use Rattle.controller_words.specs.FairWords.{
   AskNothing,
@@ -14,13 +14,13 @@ ghost use Rattle.controller_words.specs.FairWords.{
 };
 ghost use Rattle.command_base.specs.Answers.{no_memory, refused};
 ghost use Rattle.command_base.specs.Fetching.{FetchesBoth};
-ghost use Rattle.command_base.specs.Values.{answer_of};
+ghost use Rattle.command_base.specs.Values.{answer_of, refusal_of};
 ghost use Rattle.command_base.specs.Words.{IsNodeLimit};
 ghost use Rattle.pddl_ast.specs.Fits.{FitsDomain, FitsProblem};
 ghost use Rattle.pddl_ast.specs.Values.{domain_value, problem_value};
 ghost use Rattle.pddl_system.specs.Names.{NamesAreWords};
 ghost use Rattle.plan_io.specs.Fetches.{FailedLast, FetchesNothing};
-ghost use Rattle.std.specs.Prelude.{◌≡◌, ◌⊎◌, map, string_bytes};
+ghost use Rattle.std.specs.Prelude.{◌≡◌, ◌⊎◌, IfErr, IfOk, IfSome, map, string_bytes};
 
 use crate::fair::fair_files;
 use crate::plan_controllers::without_controller;
@@ -104,19 +104,21 @@ fn control_grounded(alloc: Global, sought: &Sought<'_>) -> Result<Shown, Refusal
     requires { IsReady sought.now }
     ensures { IsAnswerFor sought.now (answer_of result) }
 {
-    match shown_sought(alloc, sought, Effort::Little)? {
-        Some(shown) => Ok(shown),
-        None => after_little(alloc, sought),
-    }
-}
-
-/// The same, where little work found nothing.
-fn after_little(alloc: Global, sought: &Sought<'_>) -> Result<Shown, Refusal>
-    requires { IsReady sought.now }
-    ensures { IsAnswerFor sought.now (answer_of result) }
-{
-    match shown_sought(alloc, sought, Effort::Thorough)? {
+    match shown_early(alloc, sought)? {
         Some(shown) => Ok(shown),
         None => without_controller(alloc, sought),
     }
+}
+
+/// What is shown of what little work finds, or where that finds nothing, thorough work.
+fn shown_early(alloc: Global, sought: &Sought<'_>) -> Result<Option<Shown>, Refusal>
+    requires { IsReady sought.now }
+    ensures shown { IfOk result (λ found. IfSome found (FollowsFor sought.now)) }
+    ensures refused { IfErr result (λ refusal. refusal_of refusal ≡ no_memory) }
+{
+    let little = shown_sought(alloc, sought, Effort::Little)?;
+    if little.is_some() {
+        return Ok(little);
+    }
+    shown_sought(alloc, sought, Effort::Thorough)
 }

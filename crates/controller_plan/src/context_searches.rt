@@ -14,7 +14,8 @@ ghost use Rattle.std.specs.Prelude.{◌≡◌, ◌≤◌, IfSome, IsTrue, OnOk};
 ghost use Rattle.task_core.specs.Tasks.{action_count, fluent_count};
 ghost use Rattle.ctl_syntax.specs.GoalSizes.{HasSomeVisit, count_of, most_of};
 
-use crate::followed::{Followed, TakerSets};
+use crate::followed::Followed;
+use crate::movers::{ContextTakers, TakerSets};
 use crate::searches::{Stop, begun, follow_plan};
 use crate::set_outcomes::{SetOutcome, followed_in_tries, outcome_of_try};
 use ctl_syntax::{ContextGoal, Ctl, UntilChain, as_context_goal};
@@ -204,7 +205,7 @@ fn follow_board(
     }
     // The contexts were gone through one after another, and so not in the order of the steps.
     let mut again = begun(alloc, task)?;
-    again.visit_again(task, &followed)?;
+    again.visit(task, &followed)?;
     Ok(again)
 }
 
@@ -261,7 +262,14 @@ fn follow_turn(
         slots: &board.slots,
         first: rule_place(actions, turn.from.stages, ActionId(0)),
     };
-    followed.visit(task, &sets, turn.from.number, turn.next)
+    followed.visit(
+        task,
+        &ContextTakers {
+            sets,
+            context: turn.from.number,
+            next: turn.next,
+        },
+    )
 }
 
 /// Puts the sets in which the plan with contexts takes the actions at their places, for a context

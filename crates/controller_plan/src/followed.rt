@@ -1,18 +1,14 @@
 //! What a plan reaches, and what it does there.
 
-ghost use Rattle.controller_plan.specs.Followed.{AreReachedWithin, AreSlotsLive};
-ghost use Rattle.plan_guide.specs.Guides.{IsGuideOf};
-ghost use Rattle.std.specs.Prelude.{◌≡◌, ◌<◌, ℕ, All, IfOk, IfSome, OnOk, length};
+ghost use Rattle.controller_plan.specs.Followed.{AreReachedWithin};
+ghost use Rattle.std.specs.Prelude.{◌≡◌, ◌<◌, ℕ, All, IfOk, IfSome, OnOk};
 ghost use Rattle.task_core.specs.States.{IsWithin};
-ghost use Rattle.task_core.specs.Tasks.{action_count, fluent_count, outcomes_at};
+ghost use Rattle.task_core.specs.Tasks.{action_count, fluent_count};
+ghost use Rattle.task_core.specs.declared.tasks.Task.{Task as TaskOf};
 
 use crate::searches::Stop;
-use crate::state_plans::StatePlan;
-use dd_sets::SetId;
-use encode_task::Enc;
 use exec_graph::MAX_CONFIGURATIONS;
 use indexmap::IndexSet;
-use plan_guide::{Guide, GuideNext};
 use std::alloc::Global;
 use task_core::{ActionId, State, Task, in_space, outcome_count, step};
 
@@ -40,13 +36,14 @@ pub(crate) struct Followed {
     seen: IndexSet<Place>,
 }
 
-/// The sets of states in which a plan takes the actions: in the slots from the first place on, in the order
-/// of the actions' numbers.
-#[derive(Clone, Copy)]
-pub(crate) struct TakerSets<'a> {
-    pub(crate) enc: &'a Enc,
-    pub(crate) slots: &'a [SetId],
-    pub(crate) first: usize,
+/// What does something in configurations. `fits` says what it asks of itself for a task.
+pub(crate) trait Mover {
+    ghost fits: { Self → TaskOf → Type 0 };
+
+    /// What it does in a configuration, if it does anything.
+    fn move_in(&self, task: &Task, place: &Place) -> Option<Move>
+        requires { fits self.now task.now }
+        ensures { IfSome result (λ taken. taken.action.0 < action_count task.now) };
 }
 
 impl Followed {
@@ -92,16 +89,10 @@ impl Followed {
         Ok(())
     }
 
-    /// Finds what the plan does in the configurations of a context in which it goes on in a next
-    /// one, and adds what follows them.
-    pub(crate) fn visit(
-        &mut self,
-        task: &Task,
-        sets: &TakerSets<'_>,
-        context: u32,
-        next: u32,
-    ) -> Result<(), Stop>
-        requires live { AreSlotsLive sets.now.enc.now.sets sets.now.slots.now }
+    /// Notes what is done in the configurations in which nothing is known to be done, and adds what follows
+    /// them.
+    pub(crate) fn visit<M: Mover>(&mut self, task: &Task, mover: &M) -> Result<(), Stop>
+        requires fits { M.fits mover.now task.now }
         requires within { AreReachedWithin (fluent_count task.now) self.old.places.items }
         ensures within { OnOk result
             (AreReachedWithin (fluent_count task.now) self.new.places.items) }
@@ -110,8 +101,11 @@ impl Followed {
             if number >= self.places.len() {
                 return Ok(());
             }
-            if self.places[number].context == context && self.is_idle(number) {
-                self.visit_place(task, sets, number, next)?;
+            if self.is_idle(number) {
+                let place = self.places[number];
+                if let Some(taken) = mover.move_in(task, &place) {
+                    self.take(task, number, &place.state, taken)?;
+                }
             }
         }
         Ok(())
@@ -122,91 +116,6 @@ impl Followed {
         match self.moves.get(number) {
             Some(None) => true,
             _ => false,
-        }
-    }
-
-    /// Finds what the plan does in the configuration of a number, and adds what follows it.
-    fn visit_place(
-        &mut self,
-        task: &Task,
-        sets: &TakerSets<'_>,
-        number: usize,
-        next: u32,
-    ) -> Result<(), Stop>
-        requires live { AreSlotsLive sets.now.enc.now.sets sets.now.slots.now }
-        requires number { number < length self.old.places.items }
-        requires within { AreReachedWithin (fluent_count task.now) self.old.places.items }
-        ensures within { OnOk result
-            (AreReachedWithin (fluent_count task.now) self.new.places.items) }
-    {
-        let state = self.places[number].state;
-        match action_in(task, sets, &state) {
-            Some(action) => self.take(task, number, &state, Move { action, next }),
-            None => Ok(()),
-        }
-    }
-
-    /// Finds what a plan for states that can be reached does in the configurations, all of one
-    /// context, and adds what follows them.
-    pub(crate) fn visit_reached(&mut self, task: &Task, plan: &StatePlan) -> Result<(), Stop>
-        requires within { AreReachedWithin (fluent_count task.now) self.old.places.items }
-    {
-        for number in 0..MAX_CONFIGURATIONS {
-            if number >= self.places.len() {
-                return Ok(());
-            }
-            let place = self.places[number];
-            if let Some(action) = action_of(task, plan, &place.state) {
-                self.take(task, number, &place.state, Move { action, next: 0 })?;
-            }
-        }
-        Ok(())
-    }
-
-    /// Finds what a plan with contexts does in the configurations, and adds what follows them.
-    pub(crate) fn visit_guided(&mut self, task: &Task, guide: &Guide<'_>) -> Result<(), Stop>
-        requires guide { IsGuideOf (fluent_count task.now) (action_count task.now) guide.now }
-        requires within { AreReachedWithin (fluent_count task.now) self.old.places.items }
-    {
-        for number in 0..MAX_CONFIGURATIONS {
-            if number >= self.places.len() {
-                return Ok(());
-            }
-            let place = self.places[number];
-            if let Some(taken) = move_in(task, guide, &place) {
-                self.take(task, number, &place.state, taken)?;
-            }
-        }
-        Ok(())
-    }
-
-    /// Finds the same configurations once more, in the order of the steps after which they are found,
-    /// with what the plan does in them as it was found in another order.
-    pub(crate) fn visit_again(&mut self, task: &Task, known: &Followed) -> Result<(), Stop>
-        requires within { AreReachedWithin (fluent_count task.now) self.old.places.items }
-    {
-        for number in 0..MAX_CONFIGURATIONS {
-            if number >= self.places.len() {
-                return Ok(());
-            }
-            let place = self.places[number];
-            if let Some(taken) = known.move_of(task, &place) {
-                self.take(task, number, &place.state, taken)?;
-            }
-        }
-        Ok(())
-    }
-
-    /// What the plan does in a configuration, if it is an action of the task.
-    fn move_of(&self, task: &Task, place: &Place) -> Option<Move>
-        ensures { IfSome result (λ taken. taken.action.0 < action_count task.now) }
-    {
-        let number = self.seen.get_index_of(place)?;
-        let taken = self.moves.get(number).copied()??;
-        if (taken.action.0 as usize) < task.actions.len() {
-            Some(taken)
-        } else {
-            None
         }
     }
 
@@ -272,58 +181,19 @@ impl Followed {
     }
 }
 
-/// The action that a plan for states that can be reached takes in a state, if it is one of the task.
-fn action_of(task: &Task, plan: &StatePlan, state: &State) -> Option<ActionId>
-    ensures { IfSome result (λ action. action.0 < action_count task.now) }
-{
-    let action = plan.action_in(state)?;
-    if (action.0 as usize) < task.actions.len() {
-        Some(action)
-    } else {
-        None
-    }
-}
+/// What is known to be done in these configurations, where it is an action of the task.
+impl Mover for Followed {
+    ghost use Rattle.std.specs.Prelude.{⊤};
 
-/// What a plan with contexts does in a configuration. The guide counts contexts from 1.
-fn move_in(task: &Task, guide: &Guide<'_>, place: &Place) -> Option<Move>
-    requires { IsGuideOf (fluent_count task.now) (action_count task.now) guide.now }
-    ensures { IfSome result (λ taken. taken.action.0 < action_count task.now) }
-{
-    let context = place.context.saturating_add(1);
-    let rule = guide.rule_in(task, &place.state, context)?;
-    match rule.onward {
-        GuideNext::Always(next) => Some(Move {
-            action: rule.action,
-            next: next.saturating_sub(1),
-        }),
-        GuideNext::ByCases(_) => None,
-    }
-}
+    ghost fits = { λ self task. ⊤ };
 
-/// The least-numbered action in whose set the state is.
-fn action_in(task: &Task, sets: &TakerSets<'_>, state: &State) -> Option<ActionId>
-    requires live { AreSlotsLive sets.now.enc.now.sets sets.now.slots.now }
-    ensures { IfSome result (λ action. action.0 < action_count task.now) }
-{
-    for number in 0..task.actions.len() {
-        if is_taken_in(sets, number, state) {
-            return Some(ActionId(number as u32));
+    fn move_in(&self, task: &Task, place: &Place) -> Option<Move> {
+        let number = self.seen.get_index_of(place)?;
+        let taken = self.moves.get(number).copied()??;
+        if (taken.action.0 as usize) < task.actions.len() {
+            Some(taken)
+        } else {
+            None
         }
-    }
-    None
-}
-
-/// Whether the state is in the set of the slot that stands so many places after the first one.
-fn is_taken_in(sets: &TakerSets<'_>, after: usize, state: &State) -> bool
-    requires live { AreSlotsLive sets.now.enc.now.sets sets.now.slots.now }
-{
-    match sets.first.checked_add(after) {
-        Some(place) => {
-            if place >= sets.slots.len() {
-                return false;
-            }
-            sets.enc.sets().holds(sets.slots[place], state)
-        }
-        None => false,
     }
 }

@@ -28,6 +28,7 @@ mod guarded;
 mod judged;
 mod laws;
 mod made;
+mod movers;
 mod own_states;
 mod plan_controllers;
 mod plans;

@@ -1,6 +1,5 @@
 //! That there is no plan, by a certificate that a search hands on and that is judged here.
 
-ghost use Rattle.command_base.specs.Values.{bytes_of};
 ghost use Rattle.command_base.specs.Words.{IsNodeLimit};
 ghost use Rattle.encode_task.specs.Made.{MadeOf};
 ghost use Rattle.plan_certs.specs.Certificates.{IsAccepted};
@@ -14,17 +13,15 @@ ghost use Rattle.plan_certs.specs.Named.{
   plain_certificate,
   set_of,
 };
-ghost use Rattle.plan_certs.specs.Readings.{SpellsPlain as SpellsCertificate};
-ghost use Rattle.plan_certs.specs.Texts.{certificate_text};
-ghost use Rattle.plan_command.specs.PlanCommand.{no_plan_text};
 ghost use Rattle.plan_rules.specs.Plans.{IsCubeOf};
-ghost use Rattle.std.specs.Prelude.{◌≡◌, ◌++◌, All, IfOk, IsSome, IsTrue, map, true};
+ghost use Rattle.std.specs.Prelude.{◌≡◌, IfOk, IsSome, IsTrue, map, true};
 ghost use Rattle.task_core.specs.Tasks.{fluent_count, fluent_names, system_of};
 
 use command_base::Text;
 use dd_sets::SetErr;
 use encode_task::Enc;
-use plan_certs::{Certificate, StateSet, write_cert};
+use plan_certs::{Certificate, StateSet};
+use plan_command::certified_text;
 use refute_cert::{Judged, refute};
 use std::alloc::{AllocError, Global};
 use task_core::{Class, Lit, Task};
@@ -147,31 +144,20 @@ pub(crate) fn text_of_no_plan(
     if !certified {
         return Ok(Text::Fixed("no plan\n"));
     }
-    certified_text(alloc, certificate, task)
+    told_certificate(alloc, certificate, task)
 }
 
 /// The same with the certificate.
-fn certified_text(alloc: Global, certificate: &Certificate, task: &Task) -> Result<Text, AllocError>
+fn told_certificate(
+    alloc: Global,
+    certificate: &Certificate,
+    task: &Task,
+) -> Result<Text, AllocError>
     requires { IsCertificateOf (fluent_count task.now) certificate.now }
     ensures { IfOk result (IsNoPlanTold true (fluent_names task.now)
         (plain_certificate certificate.now)) }
 {
-    joined_text(alloc, certificate, task)
-}
-
-/// That there is no plan, and then the text of a certificate.
-fn joined_text(alloc: Global, certificate: &Certificate, task: &Task) -> Result<Text, AllocError>
-    requires { IsCertificateOf (fluent_count task.now) certificate.now }
-    ensures text { IfOk result (λ text. bytes_of text ≡ no_plan_text
-        ++ certificate_text (fluent_names task.now) (plain_certificate certificate.now)) }
-    ensures spells { IfOk result (λ text. SpellsCertificate (fluent_names task.now)
-        (certificate_text (fluent_names task.now) (plain_certificate certificate.now))
-        (plain_certificate certificate.now)) }
-{
-    let written = write_cert(alloc, certificate, task)?;
-    let mut text = Vec::from_slice(alloc, b"no plan\n")?;
-    text.extend_from_slice(&written)?;
-    Ok(Text::Made(text))
+    certified_text(alloc, certificate, task)
 }
 
 /// Whether a certificate is over so many fluents, and has as many sets as its class may have.

@@ -11,7 +11,8 @@ ghost use Rattle.task_core.specs.Tasks.{action_count, fluent_count};
 
 use crate::allowances::allowance_for;
 use crate::context_searches::follow_contexts;
-use crate::followed::{Followed, TakerSets};
+use crate::followed::Followed;
+use crate::movers::{ContextTakers, TakerSets};
 use crate::set_outcomes::{SetOutcome, followed_in_tries, outcome_of_try};
 use crate::staged::{follow_forward, follow_nearest};
 use crate::state_plans::StatePlan;
@@ -260,7 +261,7 @@ fn seek_guided(
 /// What a plan for the states that it reaches does.
 fn follow_states(alloc: Global, task: &Task, plan: &StatePlan) -> Result<Option<Followed>, Stop> {
     let mut followed = begun(alloc, task)?;
-    followed.visit_reached(task, plan)?;
+    followed.visit(task, plan)?;
     Ok(Some(followed))
 }
 
@@ -372,7 +373,14 @@ fn follow_table(alloc: Global, task: &Task, sets: &TakerSets<'_>) -> Result<Opti
     requires live { AreSlotsLive sets.now.enc.now.sets sets.now.slots.now }
 {
     let mut followed = begun(alloc, task)?;
-    followed.visit(task, sets, 0, 0)?;
+    followed.visit(
+        task,
+        &ContextTakers {
+            sets: *sets,
+            context: 0,
+            next: 0,
+        },
+    )?;
     Ok(Some(followed))
 }
 
@@ -406,6 +414,6 @@ pub(crate) fn follow_plan(alloc: Global, task: &Task, plan: &Plan) -> Result<Fol
 {
     let guide = Guide::new(alloc, task, plan)?;
     let mut followed = begun(alloc, task)?;
-    followed.visit_guided(task, &guide)?;
+    followed.visit(task, &guide)?;
     Ok(followed)
 }
