@@ -1,4 +1,4 @@
-//! A planner over the twin of the diagrams, which bench/twin builds: the searches of `reach_plan`, `cyclic_plan` and `patrol_plan`,
+//! A planner over the twin of the diagrams, which bench/twin builds: the searches of `reach_plan`, `cyclic_plan` and `context_plan`,
 //! without text.
 //!
 //!     twin FILE weak|strong|cyclic [NODES]

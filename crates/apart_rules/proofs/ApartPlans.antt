@@ -8,7 +8,7 @@ use Rattle.task_core.specs.Systems.{System, Exec, IsSystem, IsVector}
 use Rattle.task_core.specs.Vectors.{Vector}
 use Rattle.task_core.specs.declared.classes.Class.{Class}
 use Rattle.plan_document.specs.Faithful.{IsInOrder, IsToldInFull, IsToldRule}
-use Rattle.plan_guide.specs.RunRules.{in_one_context, run_rules}
+use Rattle.rule_lookup.specs.RunRules.{in_one_context, run_rules}
 use Rattle.plan_rules.specs.Denoted.{IsExecutable}
 use Rattle.plan_rules.specs.Rules.{ContextRule, PlainPlan, PlanNext, PlanRule, always, automaton, by_cases, table}
 use Rattle.plan_theory.specs.CyclicPlans.{cyclic_rules}
@@ -74,8 +74,8 @@ until_plan contexts sys chain ok = record {
   counts = until_in_state sys chain ok;
 }
 
-pub patrol_plan : (contexts : ℕ) (sys : System) (visits : List SetOfVectors) → IsSystem sys → IsApartPlan sys (automaton contexts (patrol_rules sys visits))
-patrol_plan contexts sys visits ok = record {
+pub context_plan : (contexts : ℕ) (sys : System) (visits : List SetOfVectors) → IsSystem sys → IsApartPlan sys (automaton contexts (patrol_rules sys visits))
+context_plan contexts sys visits ok = record {
   apart = patrol_apart sys visits;
   told = all_of IsToldRule (patrol_rules sys visits) (patrol_told sys visits);
   executes = patrol_executable sys visits ok;

@@ -15,7 +15,7 @@ use Rattle.task_core.specs.declared.classes.Class.{Class}
 use Rattle.plan_rules.specs.Denoted.{advises, denoted, denoted_contexts, next_context, rule_at}
 use Rattle.plan_rules.specs.Rules.{ContextRule, PlainPlan, PlanRule, automaton, table}
 use Rattle.plan_rules.proofs.DenotedPairs.{denoted-from, denoted-pair}
-use Rattle.plan_guide.specs.RunRules.{in_one_context, run_rules}
+use Rattle.rule_lookup.specs.RunRules.{in_one_context, run_rules}
 use Rattle.first_match.proofs.SameRuns.{solution_to}
 use Rattle.exec_graph.specs.Executions.{GoesTo, IsReachedBy}
 use Rattle.exec_graph.proofs.Reaching.{reached_first, reached_keeps, reached_next, reached_state}

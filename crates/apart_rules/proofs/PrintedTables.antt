@@ -13,7 +13,7 @@ use Rattle.task_core.specs.Vectors.{Vector}
 use Rattle.task_core.specs.declared.classes.Class.{Class}
 use Rattle.task_core.specs.declared.classes.Class.TheVariants.{Weak}
 use Rattle.plan_document.specs.Faithful.{IsInOrder}
-use Rattle.plan_guide.specs.RunRules.{in_one_context}
+use Rattle.rule_lookup.specs.RunRules.{in_one_context}
 use Rattle.plan_rules.specs.Rules.{ContextRule, PlanRule}
 use Rattle.plan_theory.specs.CyclicPlans.{cyclic_rules}
 use Rattle.plan_theory.specs.LayerPlans.{chosen_action, printed_rules, rules_of_action, takers}

@@ -4,7 +4,7 @@ use Rattle.std.proofs.lemmas.Bool.{cases_lt}
 use Rattle.std.proofs.Math.ListN.{get_or-append}
 use Rattle.std.proofs.Math.Seq.{get_or-append_seam}
 use Rattle.task_core.specs.Vectors.{Vector}
-use Rattle.plan_guide.specs.RunRules.{in_one_context}
+use Rattle.rule_lookup.specs.RunRules.{in_one_context}
 use Rattle.plan_rules.specs.Rules.{ContextRule, PlanRule, table}
 use Rattle.task_core.specs.declared.classes.Class.{Class}
 use Rattle.controller_code.specs.FirstMoves.{DecidesAs, DecidesFirst, first_move, plan_move}

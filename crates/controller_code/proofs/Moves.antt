@@ -9,7 +9,7 @@ use Rattle.list_laws.proofs.Booleans.{and_true}
 use Rattle.task_core.specs.Cubes.{Cube, matches}
 use Rattle.task_core.specs.Vectors.{Vector, same_value, value_of}
 use Rattle.task_core.specs.declared.literals.Lit.{Lit}
-use Rattle.plan_guide.specs.RunRules.{in_one_context}
+use Rattle.rule_lookup.specs.RunRules.{in_one_context}
 use Rattle.plan_rules.specs.Rules.{ContextRule, context_rule_of, rule_of}
 use Rattle.plan_rules.specs.declared.rules.AutoRule.{AutoRule}
 use Rattle.plan_rules.specs.declared.rules.Rule.{Rule}

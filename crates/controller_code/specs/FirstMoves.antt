@@ -2,7 +2,7 @@
 use Rattle.std.specs.Prelude.{◌≡◌, ◌≤◌, ℕ, List, None, Option, Some, find, ⊤}
 use Rattle.std.specs.List.{All}
 use Rattle.std.specs.Option.{option_map}
-use Rattle.plan_guide.specs.RunRules.{run_rules}
+use Rattle.rule_lookup.specs.RunRules.{run_rules}
 use Rattle.plan_rules.specs.Denoted.{rule_at}
 use Rattle.plan_rules.specs.Rules.{ContextRule, PlainPlan, PlanNext, always, automaton, by_cases, table}
 use Rattle.task_core.specs.Cubes.{matches}

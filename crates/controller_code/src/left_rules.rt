@@ -6,7 +6,7 @@ ghost use Rattle.controller_code.specs.FirstMoves.{
   next_number,
   plan_move,
 };
-ghost use Rattle.plan_guide.specs.RunRules.{in_one_context};
+ghost use Rattle.rule_lookup.specs.RunRules.{in_one_context};
 ghost use Rattle.plan_rules.specs.Rules.{context_rule_of, next_of, rule_of};
 ghost use Rattle.std.specs.Prelude.{◌≡◌, IfOk, IsTrue, false, map};
 ghost use Rattle.task_core.specs.Cubes.{matches};

@@ -37,7 +37,7 @@ use Rattle.plan_theory.specs.PrintedRules.{ArePrintedRules}
 use Rattle.plan_command.specs.PlanCommand.{IsPlanFound, IsResultFrom, IsResultOf, IsTextPrinted, IsWrittenFor, PlanThen}
 use Rattle.plan_command.proofs.GoalParts.{HasVisit, has_visit}
 use Rattle.plan_meets.specs.Meets.{PlanMeets}
-use Rattle.apart_rules.proofs.ApartPlans.{IsApartPlan, cyclic_plan, patrol_plan, printed_plan, until_plan}
+use Rattle.apart_rules.proofs.ApartPlans.{IsApartPlan, cyclic_plan, context_plan, printed_plan, until_plan}
 use Rattle.std.specs.Prelude.{◌^◌}
 
 -- what is known of the plan that `plan` finds
@@ -91,7 +91,7 @@ module _ (d : DomainTree) (p : ProblemTree) where
       let there : 1 ≤ length visits = some in
       let short : length visits ≤ 8 = few in (
         record { number = record { first = omega (arith, long, there); last = omega (arith, long, short) }; each = patrol_rules_within sys (map (one_holds d p) visits) },
-        patrol_plan (length (map (one_holds d p) visits)) sys (map (one_holds d p) visits) (they_have_a_system d p),
+        context_plan (length (map (one_holds d p) visits)) sys (map (one_holds d p) visits) (they_have_a_system d p),
       )
 
   module _ (task : Task) (of : IsTaskOf d p task) where

@@ -19,7 +19,7 @@ use Rattle.task_core.specs.declared.tasks.Task.{Task}
 use Rattle.exec_graph.specs.Graphs.{IsGraphOf, PlainGraph}
 use Rattle.exec_graph.proofs.Reaching.{reached_first, reached_state}
 use Rattle.plan_document.specs.Faithful.{IsToldInFull}
-use Rattle.plan_guide.specs.RunRules.{in_one_context, run_rules}
+use Rattle.rule_lookup.specs.RunRules.{in_one_context, run_rules}
 use Rattle.plan_meets.specs.Meets.{Meaning, Meets, PlanMeets, contextual}
 use Rattle.plan_meets.proofs.Meetings.{contexts_meet, table_meets, table_solves}
 use Rattle.plan_rules.specs.Denoted.{denoted_contexts}

@@ -1,9 +1,9 @@
 -- The sets of a plan with contexts stay on the board while those of its rules are put there.
 use Rattle.std.proofs.Common.{◌≡◌, ◌+◌, ◌^◌, ◌≤◌, ℕ, List, Option, Some, refl, subst, sym}
 use Rattle.std.specs.Prelude.{IfSome, OnOk, Result, Ok, Err}
-use Rattle.patrol_plan.specs.Scenes.{Left, Start}
-use Rattle.patrol_plan.specs.Sizes.{EverySetIsSmall}
-use Rattle.patrol_plan.specs.Tables.{HasRuleStates, HasTable, start_of}
+use Rattle.context_plan.specs.Scenes.{Left, Start}
+use Rattle.context_plan.specs.Sizes.{EverySetIsSmall}
+use Rattle.context_plan.specs.Tables.{HasRuleStates, HasTable, start_of}
 use Rattle.cyclic_plan.specs.Takers as rounds
 use Rattle.dd_sets.proofs.SizeLemmas.{every_small}
 use Rattle.dd_sets.specs.declared.errors.SetErr.{SetErr}

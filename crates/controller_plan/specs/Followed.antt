@@ -1,9 +1,9 @@
 -- Private: what the search for a controller rests on: that the slots which it asks hold sets, and
 -- that it steps from states of the task alone.
 use Rattle.std.specs.Prelude.{◌≡◌, ℕ, ◌<◌, List, All, length}
-use Rattle.patrol_plan.specs.Scenes.{Start}
-use Rattle.patrol_plan.specs.Sizes.{EverySetIsSmall}
-use Rattle.patrol_plan.specs.Tables.{HasTable}
+use Rattle.context_plan.specs.Scenes.{Start}
+use Rattle.context_plan.specs.Sizes.{EverySetIsSmall}
+use Rattle.context_plan.specs.Tables.{HasTable}
 use Rattle.dd_sets.specs.LiveSets.{IsLive, LiveSets}
 use Rattle.dd_sets.specs.declared.slots.SetId.{SetId}
 use Rattle.encode_task.specs.Slots.{Encoded}

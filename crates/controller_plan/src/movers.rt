@@ -9,7 +9,7 @@ use crate::followed::{Move, Mover, Place};
 use crate::state_plans::StatePlan;
 use dd_sets::SetId;
 use encode_task::Enc;
-use plan_guide::{Guide, GuideNext};
+use rule_lookup::{Guide, GuideNext};
 use task_core::{ActionId, State, Task};
 
 /// A plan for states that can be reached, all in one context.
@@ -30,7 +30,7 @@ impl Mover for StatePlan {
 
 /// A plan with contexts. The guide counts contexts from 1.
 impl Mover for Guide<'_> {
-    ghost use Rattle.plan_guide.specs.Guides.{IsGuideOf};
+    ghost use Rattle.rule_lookup.specs.Guides.{IsGuideOf};
     ghost use Rattle.task_core.specs.Tasks.{action_count, fluent_count};
 
     ghost fits = { λ self task. IsGuideOf (fluent_count task) (action_count task) self };

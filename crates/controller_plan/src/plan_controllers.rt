@@ -31,7 +31,7 @@ use crate::sought::{Found, Sought};
 use command_base::{Limit, PlanKind, Refusal, Shown};
 use controller_rules::{serving_part, write_controller};
 use exec_graph::{Graph, GraphErr, explore};
-use guided_plan::shorter_rules;
+use heuristic_search::shorter_rules;
 use plan_command::{Planned, find_grounded};
 use plan_rules::Plan;
 use sexpr_text::MAX_BYTES;

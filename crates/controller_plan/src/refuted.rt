@@ -22,7 +22,7 @@ use dd_sets::SetErr;
 use encode_task::Enc;
 use plan_certs::{Certificate, StateSet};
 use plan_command::certified_text;
-use refute_cert::{Judged, refute};
+use cert_check::{Judged, refute};
 use std::alloc::{AllocError, Global};
 use task_core::{Class, Lit, Task};
 use task_sets::{SetSearch, search_in_tries};

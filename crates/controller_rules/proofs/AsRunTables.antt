@@ -6,7 +6,7 @@ use Rattle.std.specs.Option.{option_map_or}
 use Rattle.std.proofs.lemmas.Bool.{false≢true, and_parts, eq-eqb, eqb-true}
 use Rattle.plan_rules.proofs.DenotedPairs.{denoted-pair}
 use Rattle.list_laws.proofs.Elements.{Contains-map, find-found, list_any-from, list_any-witness}
-use Rattle.plan_guide.specs.RunRules.{in_one_context}
+use Rattle.rule_lookup.specs.RunRules.{in_one_context}
 use Rattle.plan_rules.specs.Denoted.{advises, denoted}
 use Rattle.plan_rules.specs.Rules.{PlanRule, table}
 use Rattle.task_core.specs.ContextPlans.{Configuration, first_context}

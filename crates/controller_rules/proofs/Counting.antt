@@ -6,7 +6,7 @@ use Rattle.std.proofs.lemmas.List.{get_or-map, length-map, get_or_default}
 use Rattle.cube_index.specs.Index.{answers, values_of}
 use Rattle.cube_index.specs.Places.{HasNone, IsFirstTrue}
 use Rattle.list_laws.proofs.Elements.{Contains-map-witness}
-use Rattle.plan_guide.proofs.Finding.{answer_is}
+use Rattle.rule_lookup.proofs.Finding.{answer_is}
 use Rattle.plan_rules.specs.Rules.{ContextRule}
 use Rattle.task_core.specs.ContextPlans.{Configuration}
 use Rattle.task_core.specs.Cubes.{matches}

@@ -4,7 +4,7 @@ use Rattle.std.proofs.lemmas.Bool.{cases_lt}
 use Rattle.std.proofs.Math.Seq.{take-append_seam}
 use Rattle.std.proofs.lemmas.List.{length-map}
 use Rattle.exec_graph.specs.Graphs.{IsGraphOf, PlainGraph}
-use Rattle.plan_guide.specs.RunRules.{run_rules}
+use Rattle.rule_lookup.specs.RunRules.{run_rules}
 use Rattle.plan_rules.specs.Rules.{ContextRule, PlainPlan}
 use Rattle.task_core.specs.ContextPlans.{Configuration}
 use Rattle.task_core.specs.States.{vector}

@@ -12,7 +12,7 @@ use Rattle.std.specs.List.{All}
 use Rattle.std.proofs.lemmas.List.Elements.{All-cons, All-contains, All-head, All-nil, All-tail}
 use Rattle.list_laws.proofs.Elements.{Contains-map}
 use Rattle.plan_document.specs.Faithful.{IsOneNext, IsToldRule}
-use Rattle.plan_guide.specs.RunRules.{run_rules}
+use Rattle.rule_lookup.specs.RunRules.{run_rules}
 use Rattle.plan_rules.specs.Plans.{IsContextOf, IsContextRuleOf, IsNextOf, IsPlainPlanOf, IsRuleOf}
 use Rattle.plan_rules.specs.Rules.{PlainPlan, always, automaton, context_rule_of, next_of, table}
 use Rattle.plan_rules.specs.declared.rules.AutoRule.{AutoRule}

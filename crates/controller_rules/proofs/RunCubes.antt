@@ -2,9 +2,9 @@
 use Rattle.std.proofs.Common.{◌≡◌, ◌≤◌, ℕ, List, map, get_or, subst, sym}
 use Rattle.std.specs.List.{All}
 use Rattle.cube_index.specs.Index.{AreLits}
-use Rattle.plan_guide.proofs.InTask.{lits_of_cube}
+use Rattle.rule_lookup.proofs.InTask.{lits_of_cube}
 use Rattle.list_laws.proofs.Elements.{All-unmap}
-use Rattle.plan_guide.specs.RunRules.{IsRunRuleOf}
+use Rattle.rule_lookup.specs.RunRules.{IsRunRuleOf}
 use Rattle.plan_rules.specs.Plans.{IsCubeOf}
 use Rattle.plan_rules.specs.Rules.{ContextRule}
 use Rattle.controller_rules.specs.Checks.{run_cube, run_value}

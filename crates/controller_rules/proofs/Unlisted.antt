@@ -4,7 +4,7 @@ use Rattle.std.specs.List.{Contains}
 use Rattle.std.proofs.lemmas.Bool.{and_from, and_parts, and_right, eq-eqb, eqb-true, false≢true}
 use Rattle.std.proofs.lemmas.List.{length-map}
 use Rattle.list_laws.proofs.Elements.{Contains-map, Contains-map-witness, find-found}
-use Rattle.plan_guide.specs.RunRules.{in_one_context}
+use Rattle.rule_lookup.specs.RunRules.{in_one_context}
 use Rattle.plan_rules.specs.Denoted.{denoted}
 use Rattle.plan_rules.specs.Rules.{ContextRule, PlanRule, table}
 use Rattle.task_core.specs.ContextPlans.{Configuration, first_context}

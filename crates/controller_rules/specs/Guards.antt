@@ -2,7 +2,7 @@
 use Rattle.std.specs.Prelude.{◌≡◌, ℕ, Bool, true, false, slice_get}
 use Rattle.std.specs.List.{All}
 use Rattle.std.specs.Option.{option_map_or}
-use Rattle.plan_guide.specs.RunRules.{run_rules}
+use Rattle.rule_lookup.specs.RunRules.{run_rules}
 use Rattle.plan_rules.specs.Rules.{ContextRule, PlainPlan}
 use Rattle.task_core.specs.Conditions.{holds}
 use Rattle.task_core.specs.Cubes.{Cube, matches}

@@ -3,7 +3,7 @@
 use Rattle.std.specs.Prelude.{◌≡◌, ◌↔◌, ℕ, Bool, true, false, List, [], ◌∷◌, if◌then◌else◌, length, max}
 use Rattle.std.specs.Prelude.{slice_index_or}
 use Rattle.exec_graph.specs.Graphs.{PlainGraph}
-use Rattle.plan_guide.specs.RunRules.{run_rules}
+use Rattle.rule_lookup.specs.RunRules.{run_rules}
 use Rattle.plan_rules.specs.Rules.{ContextRule, PlainPlan, PlanNext, always, automaton, by_cases}
 use Rattle.plan_rules.specs.Rules.{table}
 use Rattle.task_core.specs.ContextPlans.{first_context}

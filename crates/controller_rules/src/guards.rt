@@ -6,7 +6,7 @@ ghost use Rattle.controller_rules.specs.Guards.{
   IsGuardedRule,
   precondition_in,
 };
-ghost use Rattle.plan_guide.specs.RunRules.{in_one_context};
+ghost use Rattle.rule_lookup.specs.RunRules.{in_one_context};
 ghost use Rattle.plan_rules.specs.Rules.{context_rule_of, plain_of, rule_of};
 ghost use Rattle.std.specs.Prelude.{◌≡◌, All, IfSome, IsTrue, map, true};
 ghost use Rattle.task_core.specs.Cubes.{matches};

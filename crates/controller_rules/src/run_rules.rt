@@ -10,7 +10,7 @@ ghost use Rattle.controller_rules.specs.Checks.{
 };
 ghost use Rattle.cube_index.specs.Places.{IsFirstTrue};
 ghost use Rattle.plan_document.specs.Faithful.{IsToldInFull, IsToldRule};
-ghost use Rattle.plan_guide.specs.RunRules.{in_one_context, run_rules};
+ghost use Rattle.rule_lookup.specs.RunRules.{in_one_context, run_rules};
 ghost use Rattle.plan_rules.specs.Plans.{IsPlanOf};
 ghost use Rattle.plan_rules.specs.Rules.{context_rule_of, plain_of, rule_of};
 ghost use Rattle.std.specs.Prelude.{

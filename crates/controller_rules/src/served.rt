@@ -4,7 +4,7 @@ ghost use Rattle.controller_rules.specs.AsRun.{HasNoDeadRule, HasOneMove};
 ghost use Rattle.controller_rules.specs.Checks.{AgreeBelow, AreIndexed, ServesIn, plain_rules};
 ghost use Rattle.exec_graph.specs.Graphs.{IsGraphOf};
 ghost use Rattle.exec_graph.specs.Values.{graph_size, plain_graph};
-ghost use Rattle.plan_guide.specs.RunRules.{run_rules};
+ghost use Rattle.rule_lookup.specs.RunRules.{run_rules};
 ghost use Rattle.plan_rules.specs.Plans.{IsPlanOf};
 ghost use Rattle.plan_rules.specs.Rules.{PlainPlan, plain_of};
 ghost use Rattle.std.specs.Prelude.{◌≡◌, ◌<◌, ℕ, IfOk, IsTrue, length, slice_index_or, false, true};

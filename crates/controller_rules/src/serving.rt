@@ -17,7 +17,7 @@ ghost use Rattle.controller_rules.specs.Serving.{
 };
 ghost use Rattle.exec_graph.specs.Values.{plain_graph};
 ghost use Rattle.plan_document.specs.Faithful.{IsToldInFull};
-ghost use Rattle.plan_guide.specs.RunRules.{run_rules};
+ghost use Rattle.rule_lookup.specs.RunRules.{run_rules};
 ghost use Rattle.plan_rules.specs.Plans.{IsPlanOf};
 ghost use Rattle.plan_rules.specs.Rules.{
   context_rule_of,

@@ -19,15 +19,15 @@ use Rattle.plan_check.specs.declared.verdicts.Reason.TheVariants.{Cycle, Formula
 use Rattle.plan_check.specs.declared.verdicts.Verdict.{Verdict}
 use Rattle.plan_check.specs.declared.verdicts.Verdict.TheVariants.{No, Yes}
 use Rattle.list_laws.proofs.Elements.{some_element}
-use Rattle.plan_finding.specs.Aims.{class_aim, context_aim}
-use Rattle.plan_finding.specs.Findings.{PlainFound}
-use Rattle.plan_finding.specs.ForVerdicts.{IsFinding, PlainFinding, with_run}
-use Rattle.plan_finding.specs.Longest.{IsClassVerdict, IsLongestFinding}
-use Rattle.plan_finding.specs.Misses.{IsMiss}
-use Rattle.plan_finding.specs.Shown.{ContextFailuresAreShown, ContextPlansNeverEnd, FailuresAreShown}
-use Rattle.plan_finding.specs.Values.{finding_value, found_value, run_found_value}
-use Rattle.plan_finding.specs.declared.findings.Found.{Found}
-use Rattle.plan_finding.specs.declared.verdicts.Finding.{Finding}
+use Rattle.counterexamples.specs.Aims.{class_aim, context_aim}
+use Rattle.counterexamples.specs.Findings.{PlainFound}
+use Rattle.counterexamples.specs.ForVerdicts.{IsFinding, PlainFinding, with_run}
+use Rattle.counterexamples.specs.Longest.{IsClassVerdict, IsLongestFinding}
+use Rattle.counterexamples.specs.Misses.{IsMiss}
+use Rattle.counterexamples.specs.Shown.{ContextFailuresAreShown, ContextPlansNeverEnd, FailuresAreShown}
+use Rattle.counterexamples.specs.Values.{finding_value, found_value, run_found_value}
+use Rattle.counterexamples.specs.declared.findings.Found.{Found}
+use Rattle.counterexamples.specs.declared.verdicts.Finding.{Finding}
 use Rattle.plan_rules.specs.Denoted.{denoted_contexts}
 use Rattle.plan_rules.specs.Rules.{ContextRule, PlainPlan, automaton, table}
 use Rattle.task_core.specs.Tasks.{fluent_count, system_of}

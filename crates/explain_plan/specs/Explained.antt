@@ -20,8 +20,8 @@ use Rattle.pddl_system.specs.Tasks.{task_of}
 use Rattle.pddl_system.specs.Values.{task_value}
 use Rattle.plan_check.specs.declared.verdicts.Verdict.{Verdict}
 use Rattle.plan_check.specs.declared.verdicts.Verdict.TheVariants.{No, Yes}
-use Rattle.plan_finding.specs.ForVerdicts.{PlainFinding}
-use Rattle.plan_finding.specs.Texts.{Source, finding_text}
+use Rattle.counterexamples.specs.ForVerdicts.{PlainFinding}
+use Rattle.counterexamples.specs.Texts.{Source, finding_text}
 use Rattle.plan_io.specs.Held.{Held}
 use Rattle.plan_rules.specs.Rules.{PlainPlan}
 use Rattle.task_core.specs.Tasks.{action_names as actions_in, fluent_names as fluents_in, system_of}

@@ -8,9 +8,9 @@ use Rattle.plan_check.specs.declared.verdicts.Reason.TheVariants.{Cycle, Formula
 use Rattle.plan_check.specs.declared.verdicts.Reason.TheVariants.{Unexecutable, Unreachable}
 use Rattle.plan_check.specs.declared.verdicts.Verdict.{Verdict}
 use Rattle.plan_check.specs.declared.verdicts.Verdict.TheVariants.{No, Yes}
-use Rattle.plan_finding.specs.Findings.{PlainFound}
-use Rattle.plan_finding.specs.ForVerdicts.{IsClassFinding, IsContextFinding, PlainFinding, with_run}
-use Rattle.plan_finding.specs.Misses.{IsMiss}
+use Rattle.counterexamples.specs.Findings.{PlainFound}
+use Rattle.counterexamples.specs.ForVerdicts.{IsClassFinding, IsContextFinding, PlainFinding, with_run}
+use Rattle.counterexamples.specs.Misses.{IsMiss}
 use Rattle.plan_rules.specs.Rules.{PlainPlan}
 use Rattle.task_core.specs.Tasks.{system_of}
 use Rattle.task_core.specs.declared.classes.Class.TheVariants.{Cyclic, Strong, Weak}

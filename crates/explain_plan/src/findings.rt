@@ -11,7 +11,7 @@ ghost use Rattle.explain_plan.specs.Findings.{
   IsTold,
   misses_goal as is_missed,
 };
-ghost use Rattle.plan_finding.specs.Values.{finding_value};
+ghost use Rattle.counterexamples.specs.Values.{finding_value};
 ghost use Rattle.plan_rules.specs.Plans.{IsPlanOf};
 ghost use Rattle.plan_rules.specs.Rules.{plain_of};
 ghost use Rattle.plan_witness.specs.Marked.{IsGraphIn};
@@ -22,7 +22,7 @@ use command_base::{PlanKind, goal_in};
 use exec_graph::Graph;
 use ground_task::Grounded;
 use plan_check::{Reason, Verdict};
-use plan_finding::{Finding, JudgedBy, find_for_class, find_for_contexts, find_miss, with_run};
+use counterexamples::{Finding, JudgedBy, find_for_class, find_for_contexts, find_miss, with_run};
 use plan_rules::Plan;
 use plan_witness::Scene;
 use std::alloc::{AllocError, Global};

@@ -8,7 +8,7 @@ ghost use Rattle.explain_plan.specs.Explained.{
   with_more,
   with_text,
 };
-ghost use Rattle.plan_finding.specs.Values.{finding_value, source_value};
+ghost use Rattle.counterexamples.specs.Values.{finding_value, source_value};
 ghost use Rattle.plan_rules.specs.Plans.{IsPlanOf};
 ghost use Rattle.std.specs.Prelude.{◌≡◌, ◌++◌, IfOk, OnOk, codes, decimal, string_bytes, false, true};
 ghost use Rattle.task_core.specs.Tasks.{action_count, fluent_count};
@@ -17,7 +17,7 @@ use check_command::show_verdict;
 use command_base::{Shown, Text};
 use finding_document::finding_document;
 use plan_check::{Reason, Verdict};
-use plan_finding::{Finding, Source, finding_text};
+use counterexamples::{Finding, Source, finding_text};
 use plan_rules::push_number;
 use std::alloc::{AllocError, Global};
 

@@ -39,7 +39,7 @@ use command_base::{Limit, PlanKind, Refusal, Shown, no_initial};
 use exec_graph::{Graph, GraphErr, explore};
 use ground_task::Grounded;
 use pddl_ast::Problem;
-use plan_finding::{Source, context_plans_never_end, failures_are_shown};
+use counterexamples::{Source, context_plans_never_end, failures_are_shown};
 use plan_rules::Plan;
 use sexpr_text::{FaultKind, InputFault};
 use std::alloc::{AllocError, Global};

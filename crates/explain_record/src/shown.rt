@@ -19,7 +19,7 @@ ghost use Rattle.task_core.specs.Initials.{HasTooManyInitial};
 
 use crate::commands::RunRequest;
 use command_base::{Refusal, Shown, Text};
-use plan_finding::Source;
+use counterexamples::Source;
 use recorded_run::{Stop, recorded_run, recorded_text};
 use replay_command::{ReplayRequest, first_state};
 use run_replay::Recorded;

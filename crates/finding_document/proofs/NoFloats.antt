@@ -8,10 +8,10 @@ use Rattle.task_core.specs.Names.{Name}
 use Rattle.task_core.specs.Vectors.{Vector}
 use Rattle.plan_document.proofs.NoFloatsInActions.{items_free}
 use Rattle.plan_document.specs.Data.{count_data}
-use Rattle.plan_finding.specs.Findings.{PlainFound, cycle_from, lines_in}
-use Rattle.plan_finding.specs.ForVerdicts.{PlainFinding}
-use Rattle.plan_finding.specs.Stays.{PlainStays}
-use Rattle.plan_finding.specs.Texts.{Source}
+use Rattle.counterexamples.specs.Findings.{PlainFound, cycle_from, lines_in}
+use Rattle.counterexamples.specs.ForVerdicts.{PlainFinding}
+use Rattle.counterexamples.specs.Stays.{PlainStays}
+use Rattle.counterexamples.specs.Texts.{Source}
 use Rattle.plan_witness.specs.Runs.{PlainStep}
 use Rattle.finding_document.specs.Documents.{besides_of, changed_below, document, fluent_data, line_data, longest_data, outcome_data, rule_data, stays_data, step_data, steps_data, told_object, told_of}
 

@@ -10,10 +10,10 @@ use Rattle.plan_document.specs.Data.{count_data, list_data}
 use Rattle.plan_document.specs.Names.{name_data}
 use Rattle.goal_witness.specs.Lines.{PlainLine}
 use Rattle.goal_witness.specs.Texts.{goal_text}
-use Rattle.plan_finding.specs.Findings.{PlainFound, cycle_from as cycle_of, lines_in}
-use Rattle.plan_finding.specs.ForVerdicts.{PlainFinding}
-use Rattle.plan_finding.specs.Stays.{PlainStays}
-use Rattle.plan_finding.specs.Texts.{Source, line_of, sentence as sentence_of}
+use Rattle.counterexamples.specs.Findings.{PlainFound, cycle_from as cycle_of, lines_in}
+use Rattle.counterexamples.specs.ForVerdicts.{PlainFinding}
+use Rattle.counterexamples.specs.Stays.{PlainStays}
+use Rattle.counterexamples.specs.Texts.{Source, line_of, sentence as sentence_of}
 use Rattle.plan_rules.specs.Texts.{line_feed, name_at}
 use Rattle.plan_witness.specs.Runs.{PlainStep}
 use Rattle.task_core.specs.Names.{Name}

@@ -7,7 +7,7 @@ ghost use Rattle.finding_document.specs.Documents.{
 };
 ghost use Rattle.finding_document.specs.Values.{besides_value};
 ghost use Rattle.plan_document.specs.Data.{count_data, list_data};
-ghost use Rattle.plan_finding.specs.Values.{
+ghost use Rattle.counterexamples.specs.Values.{
   finding_value,
   found_value,
   run_found_value,
@@ -22,7 +22,7 @@ ghost use Rattle.task_core.specs.Tasks.{fluent_count};
 
 use crate::steps::{number_value, outcome_values, rule_values, step_values};
 use plan_document::count_value;
-use plan_finding::{Finding, Found, Source, Stays};
+use counterexamples::{Finding, Found, Source, Stays};
 use serde_json::{Map, Value, put};
 use std::alloc::{AllocError, Global};
 

@@ -8,8 +8,8 @@ ghost use Rattle.finding_document.specs.Documents.{
 };
 ghost use Rattle.finding_document.specs.Values.{besides_value, told_value};
 ghost use Rattle.plan_document.specs.Data.{count_data};
-ghost use Rattle.plan_finding.specs.Texts.{Source as PlainSource};
-ghost use Rattle.plan_finding.specs.Values.{
+ghost use Rattle.counterexamples.specs.Texts.{Source as PlainSource};
+ghost use Rattle.counterexamples.specs.Values.{
   finding_value,
   found_value,
   run_found_value,
@@ -25,7 +25,7 @@ use crate::besides::{Besides, besides_of};
 use crate::parts::part_values;
 use crate::steps::{number_value, outcome_values, rule_values, step_values};
 use plan_document::value_text;
-use plan_finding::{Finding, Found, Source, cycle_from, ending_sentence};
+use counterexamples::{Finding, Found, Source, cycle_from, ending_sentence};
 use serde_json::{Map, Value, put};
 use std::alloc::{AllocError, Global};
 

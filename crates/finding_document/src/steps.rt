@@ -11,7 +11,7 @@ ghost use Rattle.finding_document.specs.Documents.{
 };
 ghost use Rattle.plan_document.specs.Data.{count_data, list_data};
 ghost use Rattle.plan_document.specs.Names.{name_data};
-ghost use Rattle.plan_finding.specs.Values.{source_value};
+ghost use Rattle.counterexamples.specs.Values.{source_value};
 ghost use Rattle.plan_rules.specs.Texts.{name_at};
 ghost use Rattle.plan_witness.specs.Values.{step_value as plain_step, steps_value};
 ghost use Rattle.serde_json.specs.Data.{array};
@@ -33,7 +33,7 @@ ghost use Rattle.task_core.specs.States.{truth, vector};
 ghost use Rattle.task_core.specs.Tasks.{action_names, fluent_count, fluent_names};
 
 use plan_document::{count_value, name_value};
-use plan_finding::{Source, line_at};
+use counterexamples::{Source, line_at};
 use plan_witness::{Run, RunStep};
 use serde_json::{Map, Value, put};
 use state_text::push_action;

@@ -5,7 +5,7 @@ use Rattle.std.specs.List.{remove}
 use Rattle.std.proofs.lemmas.List.Elements.{All-append, All-drop, All-get_or, All-push, All-same, All-take}
 use Rattle.group_shapes.specs.Found.{AreFound}
 use Rattle.group_shapes.specs.declared.shapes.OneOf.{OneOf}
-use Rattle.one_of_groups.specs.Groups.{AreInductive}
+use Rattle.mutex_groups.specs.Groups.{AreInductive}
 use Rattle.task_core.specs.declared.tasks.Task.{Task}
 
 pub left_found : (task : Task) (shapes left : List OneOf) (place : ℕ) → left ≡ remove shapes place → AreFound task shapes → AreFound task left

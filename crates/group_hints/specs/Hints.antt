@@ -8,7 +8,7 @@ use Rattle.group_hints.specs.Sentences.{shape_text}
 use Rattle.group_shapes.specs.Texts.{Names, invariant_text}
 use Rattle.group_shapes.specs.declared.shapes.OneOf.{OneOf}
 use Rattle.likely_mistakes.specs.Rows.{sections_of}
-use Rattle.one_of_groups.specs.Follows.{ExcludesNothing}
+use Rattle.mutex_groups.specs.Follows.{ExcludesNothing}
 use Rattle.pddl_ast.specs.Trees.{DomainTree, ProblemTree}
 use Rattle.pddl_ast.specs.declared.trees.Named.{Named}
 use Rattle.pddl_ast.specs.declared.trees.Predicate.{Predicate}

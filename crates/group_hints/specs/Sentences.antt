@@ -2,7 +2,7 @@
 use Rattle.std.specs.Prelude.{ℕ, zero, suc, ◌-◌, Bool, true, false, List, [], ◌∷◌, ◌++◌, codes, decimal, if◌then◌else◌, length, nat_le, nat_lt, take}
 use Rattle.std.specs.List.{flat_map}
 use Rattle.group_shapes.specs.declared.shapes.OneOf.{OneOf}
-use Rattle.one_of_groups.specs.Groups.{Group}
+use Rattle.mutex_groups.specs.Groups.{Group}
 use Rattle.plan_rules.specs.Texts.{atom_text, name_at}
 use Rattle.task_core.specs.Names.{Name}
 use Rattle.task_core.specs.States.{truth}

@@ -17,7 +17,7 @@ use crate::sentences::sentences;
 use crate::tasks::task_of_texts;
 use group_shapes::{OneOf, find_groups, push_invariant};
 use likely_mistakes::forms_of;
-use one_of_groups::excludes_nothing;
+use mutex_groups::excludes_nothing;
 use pddl_ast::{Domain, Formula, Problem};
 use sexpr_text::{MAX_BYTES, Place, Span};
 use std::alloc::{AllocError, Global};

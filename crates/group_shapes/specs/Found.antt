@@ -1,7 +1,7 @@
 -- The groups that are found.
 use Rattle.std.specs.Prelude.{List}
 use Rattle.std.specs.List.{All}
-use Rattle.one_of_groups.specs.Groups.{AreInductive}
+use Rattle.mutex_groups.specs.Groups.{AreInductive}
 use Rattle.task_core.specs.declared.tasks.Task.{Task}
 use Rattle.group_shapes.specs.declared.shapes.OneOf.{OneOf}
 

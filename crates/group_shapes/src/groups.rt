@@ -1,7 +1,7 @@
 //! The groups of a task.
 
 ghost use Rattle.std.specs.Prelude.{◌≡◌, IfOk, IfSome, OnOk};
-ghost use Rattle.one_of_groups.specs.Groups.{AreInductive, IsInductive};
+ghost use Rattle.mutex_groups.specs.Groups.{AreInductive, IsInductive};
 ghost use Rattle.task_core.specs.States.{IsWithin, truth};
 ghost use Rattle.task_core.specs.Tasks.{fluent_count};
 ghost use Rattle.group_shapes.specs.Found.{AreFound};
@@ -14,7 +14,7 @@ use crate::signatures::{Signature, signatures};
 use crate::singles::single;
 use crate::told::is_told;
 use crate::world::{World, constant_atoms, fluent_atoms};
-use one_of_groups::is_one_of;
+use mutex_groups::is_one_of;
 use pddl_ast::{Domain, ObjectId, Problem};
 use std::alloc::{AllocError, Global};
 use task_core::{State, Task};

@@ -1,7 +1,7 @@
 //! Which groups of fluents the predicates of a domain make, so that exactly one fluent of each is true
 //! in every reachable state, and the `:invariant` that says so.
 //!
-//! The groups are guessed from the effects of the domain, and judged on the task by `one_of_groups`.
+//! The groups are guessed from the effects of the domain, and judged on the task by `mutex_groups`.
 #![tactic(auto)]
 
 mod bindings;

@@ -8,10 +8,10 @@ use Rattle.pddl_system.proofs.States.{they_have_a_system}
 use Rattle.plan_certs.specs.Certificates.{IsAccepted, PlainCertificate}
 use Rattle.plan_certs.specs.Readings.{SpellsPlain}
 use Rattle.plan_io.specs.Held.{Held, Untold}
-use Rattle.refute_cert.specs.Judgements.{IsVerdict}
-use Rattle.refute_cert.specs.declared.verdict.Flaw.{Flaw}
-use Rattle.refute_cert.specs.declared.verdict.Judged.{Judged}
-use Rattle.refute_cert.specs.declared.verdict.Judged.TheVariants.{Accepted, Rejected}
+use Rattle.cert_check.specs.Judgements.{IsVerdict}
+use Rattle.cert_check.specs.declared.verdict.Flaw.{Flaw}
+use Rattle.cert_check.specs.declared.verdict.Judged.{Judged}
+use Rattle.cert_check.specs.declared.verdict.Judged.TheVariants.{Accepted, Rejected}
 use Rattle.task_core.specs.Solutions.{HasNoSolution}
 use Rattle.task_core.specs.Systems.{System}
 use Rattle.command_base.specs.Answers.{Answer, full, is_shown, no_memory, refused, status_of, status_of_refusal, text_of}

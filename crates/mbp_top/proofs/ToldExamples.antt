@@ -3,8 +3,8 @@ use Rattle.std.proofs.Common.{◌≡◌, List, [], ◌∷◌, ◌++◌, arith, c
 use Rattle.std.specs.Fmt.{digits}
 use Rattle.plan_io.specs.Held.{Held, Missing}
 use Rattle.plan_rules.specs.Texts.{line_feed}
-use Rattle.refute_cert.specs.declared.verdict.Flaw.TheVariants.{Goal}
-use Rattle.refute_cert.specs.declared.verdict.Judged.TheVariants.{Accepted, Rejected}
+use Rattle.cert_check.specs.declared.verdict.Flaw.TheVariants.{Goal}
+use Rattle.cert_check.specs.declared.verdict.Judged.TheVariants.{Accepted, Rejected}
 use Rattle.task_core.specs.declared.classes.Class.TheVariants.{Weak, Strong}
 use Rattle.command_base.specs.Answers.{full, no_command, over_limit, read_fault, refused, status_of, text_of}
 use Rattle.refute_command.specs.RefuteCommand.{judged_answer}

@@ -21,8 +21,8 @@ use Rattle.plan_command.specs.PlanCommand.{IsPlanResult, IsPlanned, IsResultOf}
 use Rattle.command_base.specs.PlanFiles.{IsFaultyPlan}
 use Rattle.command_base.specs.Reading.{IsFile, IsRefusedFile}
 use Rattle.refute_command.specs.RefuteCommand.{IsFaultyCertificate, IsRefuted, judged_answer}
-use Rattle.refute_cert.specs.declared.verdict.Judged.{Judged}
-use Rattle.refute_cert.specs.declared.verdict.Judged.TheVariants.{Accepted, Rejected}
+use Rattle.cert_check.specs.declared.verdict.Judged.{Judged}
+use Rattle.cert_check.specs.declared.verdict.Judged.TheVariants.{Accepted, Rejected}
 use Rattle.replay_command.specs.ReplayCommand.{IsFaultyRecord, IsReplay, Tallies, ended_answer, trace_under}
 use Rattle.mbp_top.specs.Runs.{HasRun, Run}
 use Rattle.command_base.specs.Frame.{FailedIn}

@@ -15,9 +15,9 @@ use Rattle.plan_check.specs.declared.verdicts.Verdict.TheVariants.{Yes, No}
 use Rattle.plan_io.specs.Fetches.{Fetches}
 use Rattle.plan_io.specs.Held.{Held, Missing}
 use Rattle.plan_rules.specs.Rules.{PlainPlan, PlanRule, table}
-use Rattle.refute_cert.specs.Judgements.{IsVerdict}
-use Rattle.refute_cert.specs.declared.verdict.Flaw.{Flaw}
-use Rattle.refute_cert.specs.declared.verdict.Judged.TheVariants.{Accepted, Rejected}
+use Rattle.cert_check.specs.Judgements.{IsVerdict}
+use Rattle.cert_check.specs.declared.verdict.Flaw.{Flaw}
+use Rattle.cert_check.specs.declared.verdict.Judged.TheVariants.{Accepted, Rejected}
 use Rattle.run_replay.specs.Records.{RecordTree}
 use Rattle.run_replay.specs.declared.worlds.Step.{Step}
 use Rattle.task_core.specs.Solutions.{HasNoSolution}

@@ -13,11 +13,11 @@ use Rattle.dd_sets.specs.LiveSets.{LiveSets}
 use Rattle.dd_sets.specs.Rooms.{NoRoom}
 use Rattle.dd_sets.specs.declared.errors.SetErr.{SetErr}
 use Rattle.dd_sets.specs.declared.errors.SetErr.TheVariants.{Full}
-use Rattle.patrol_plan.specs.Chains.{until_sets, visit_sets}
-use Rattle.patrol_plan.specs.Found.{IfNoPlan, IfPlan}
-use Rattle.patrol_plan.specs.PatrolWorkingSets.{BoundsPatrolSets}
-use Rattle.patrol_plan.specs.declared.found.FoundAuto.{FoundAuto}
-use Rattle.patrol_plan.specs.declared.found.FoundAuto.TheVariants.{NoPlan, Plan}
+use Rattle.context_plan.specs.Chains.{until_sets, visit_sets}
+use Rattle.context_plan.specs.Found.{IfNoPlan, IfPlan}
+use Rattle.context_plan.specs.PatrolWorkingSets.{BoundsPatrolSets}
+use Rattle.context_plan.specs.declared.found.FoundAuto.{FoundAuto}
+use Rattle.context_plan.specs.declared.found.FoundAuto.TheVariants.{NoPlan, Plan}
 use Rattle.plan_rules.specs.Denoted.{denoted_contexts}
 use Rattle.plan_rules.specs.Plans.{IsAutomatonOf}
 use Rattle.plan_rules.specs.Rules.{context_rules_of}

@@ -17,8 +17,8 @@ use Rattle.encode_task.specs.Laws.{KeptSetsBoundNodes}
 use Rattle.encode_task.specs.Made.{MadeOf}
 use Rattle.encode_task.specs.Slots.{Encoded}
 use Rattle.encode_task.specs.WorkingSets.{AreSmall, IsMadeByEncode}
-use Rattle.patrol_plan.specs.PatrolWorkingSets.IsWorkingSet.{of_task as of_patrol}
-use Rattle.patrol_plan.specs.WorkingSets.IsWorkingSet.{of_task as of_until}
+use Rattle.context_plan.specs.PatrolWorkingSets.IsWorkingSet.{of_task as of_patrol}
+use Rattle.context_plan.specs.WorkingSets.IsWorkingSet.{of_task as of_until}
 use Rattle.reach_plan.specs.WorkingSets.IsWorkingSet.{by_task as of_reach}
 use Rattle.task_core.specs.Systems.{most_outcomes}
 use Rattle.task_core.specs.Tasks.{action_count, fluent_count, system_of}

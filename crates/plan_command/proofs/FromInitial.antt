@@ -2,7 +2,7 @@
 use Rattle.std.proofs.Common.{◌≡◌, ◌≢◌, Bool, [], Option, Some, None, Result, Ok, Err}
 use Rattle.std.specs.Prelude.{IfNone, IfOk, IfSome}
 use Rattle.dd_sets.specs.declared.errors.SetErr.{SetErr}
-use Rattle.patrol_plan.specs.declared.found.FoundAuto.{FoundAuto}
+use Rattle.context_plan.specs.declared.found.FoundAuto.{FoundAuto}
 use Rattle.task_core.specs.Tasks.{initial_states}
 use Rattle.task_core.specs.declared.classes.Class.{Class}
 use Rattle.task_core.specs.declared.tasks.Task.{Task}

@@ -10,8 +10,8 @@ use Rattle.dd_sets.specs.Rooms.{NoRoom}
 use Rattle.encode_task.specs.KeptSets.{kept_nodes}
 use Rattle.encode_task.specs.Made.{MadeOf}
 use Rattle.encode_task.specs.Slots.{Encoded}
-use Rattle.patrol_plan.specs.PatrolWorkingSets.{BoundsPatrolSets}
-use Rattle.patrol_plan.specs.WorkingSets.{BoundsUntilSets}
+use Rattle.context_plan.specs.PatrolWorkingSets.{BoundsPatrolSets}
+use Rattle.context_plan.specs.WorkingSets.{BoundsUntilSets}
 use Rattle.pddl_ast.specs.Trees.{DomainTree, ProblemTree}
 use Rattle.reach_plan.specs.WorkingSets.{BoundsReachSets}
 use Rattle.task_core.specs.Tasks.{action_count, system_of}

@@ -4,8 +4,8 @@ use Rattle.std.specs.Prelude.{Err}
 use Rattle.ctl_syntax.specs.ContextGoals.{PlainGoal}
 use Rattle.ctl_syntax.specs.declared.context_goals.ContextGoal.{ContextGoal}
 use Rattle.dd_sets.specs.declared.errors.SetErr.{SetErr}
-use Rattle.patrol_plan.specs.declared.found.FoundAuto.{FoundAuto}
-use Rattle.patrol_plan.specs.declared.found.FoundAuto.TheVariants.{NoPlan, Plan}
+use Rattle.context_plan.specs.declared.found.FoundAuto.{FoundAuto}
+use Rattle.context_plan.specs.declared.found.FoundAuto.TheVariants.{NoPlan, Plan}
 use Rattle.pddl_ast.specs.Trees.{DomainTree, FormulaTree, ProblemTree, TemporalTree}
 use Rattle.pddl_system.specs.Systems.{system}
 use Rattle.plan_rules.specs.Denoted.{denoted_contexts}

@@ -8,7 +8,7 @@ use Rattle.ctl_syntax.specs.GoalValues.{GoalTree, UntilTree, tree_of_goal, patro
 use Rattle.ctl_syntax.specs.UntilChains.{GuardedStage, PlainStage, PlainUntil}
 use Rattle.ctl_syntax.specs.declared.context_goals.ContextGoal.{ContextGoal}
 use Rattle.ctl_syntax.specs.declared.context_goals.ContextGoal.TheVariants.{Patrol, Until}
-use Rattle.patrol_plan.specs.Chains.{IsPatrolOver, IsUntilOver, until_sets, visit_sets}
+use Rattle.context_plan.specs.Chains.{IsPatrolOver, IsUntilOver, until_sets, visit_sets}
 use Rattle.pddl_ast.specs.Trees.{DomainTree, FormulaTree, ProblemTree}
 use Rattle.pddl_system.specs.Fluents.{fluents}
 use Rattle.pddl_system.specs.Settings.{setting}

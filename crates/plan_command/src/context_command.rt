@@ -38,7 +38,7 @@ use command_base::{Refusal, Text, goal_in, no_initial};
 use ctl_syntax::{ContextGoal, Ctl, as_context_goal};
 use dd_sets::SetErr;
 use ground_task::Grounded;
-use patrol_plan::FoundAuto;
+use context_plan::FoundAuto;
 use pddl_system::grounded_goals_are_true;
 use plan_rules::Plan;
 use sexpr_text::{FaultKind, InputFault};

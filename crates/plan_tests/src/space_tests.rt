@@ -3,7 +3,7 @@
 
 ghost use Rattle.std.specs.Prelude.{◌≡◌, ◌<◌, IfOk, IsSome, true};
 ghost use Rattle.encode_task.specs.Made.{MadeOf};
-ghost use Rattle.patrol_plan.specs.Chains.{IsUntilOver};
+ghost use Rattle.context_plan.specs.Chains.{IsUntilOver};
 ghost use Rattle.task_core.specs.Conditions.{IsConditionOver, ids_below};
 ghost use Rattle.task_core.specs.Tasks.{action_count, fluent_count};
 
@@ -13,7 +13,7 @@ use ctl_syntax::{UntilChain, UntilStage};
 use cyclic_plan::plan_cyclic;
 use dd_sets::SetErr;
 use encode_task::{Enc, encode};
-use patrol_plan::{FoundAuto, plan_until};
+use context_plan::{FoundAuto, plan_until};
 use plan_rules::{Plan, write_plan};
 use plan_theory::Found;
 use preimage::{strong_pre, weak_pre};

@@ -69,12 +69,12 @@ on_and_off = has_p ∷ (λ v. not (has_p v)) ∷ []
 patrol_covered : covers_patrol switch on_and_off ≡ true
 patrol_covered = refl
 
-patrol_plan : patrol_rules switch on_and_off
+context_plan : patrol_rules switch on_and_off
     ≡ record { context = 1; cube = literal 0 false ∷ []; action = 0; next = always 1 }
     ∷ record { context = 1; cube = literal 0 true ∷ []; action = 0; next = always 2 }
     ∷ record { context = 2; cube = literal 0 false ∷ []; action = 0; next = always 1 }
     ∷ record { context = 2; cube = literal 0 true ∷ []; action = 1; next = always 2 } ∷ []
-patrol_plan = refl
+context_plan = refl
 
 -- with one visit, the states of the visit and the others go on in one context
 one_visit : patrol_rules switch (has_p ∷ []) ≡ record { context = 1; cube = []; action = 0; next = always 1 } ∷ []

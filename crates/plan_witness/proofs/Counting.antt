@@ -10,7 +10,7 @@ use Rattle.task_core.specs.ContextPlans.{Configuration, Follows}
 use Rattle.task_core.specs.Systems.{Exec, HasOutcome, System}
 use Rattle.task_core.specs.Vectors.{Vector}
 use Rattle.plan_rules.specs.Denoted.{denoted_contexts, next_context, rule_at}
-use Rattle.plan_guide.specs.RunRules.{IsRunRuleOf}
+use Rattle.rule_lookup.specs.RunRules.{IsRunRuleOf}
 use Rattle.plan_rules.specs.Advices.{AreCasesOf}
 use Rattle.plan_rules.specs.Plans.{IsCaseOf, IsContextRuleOf, IsCubeOf, IsNextOf, IsPlanOf, IsRuleOf}
 use Rattle.plan_rules.specs.Rules.{ContextRule, PlanCase, PlanNext, always, automaton, by_cases, context_rule_of, rule_of}

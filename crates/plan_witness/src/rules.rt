@@ -3,7 +3,7 @@
 ghost use Rattle.std.specs.Prelude.{◌≡◌, ◌<◌, All, IfNone, IfSome, None, length, map};
 ghost use Rattle.task_core.specs.States.{vector};
 ghost use Rattle.task_core.specs.Tasks.{action_count, fluent_count};
-ghost use Rattle.plan_guide.specs.RunRules.{IsRunRuleOf};
+ghost use Rattle.rule_lookup.specs.RunRules.{IsRunRuleOf};
 ghost use Rattle.plan_rules.specs.Denoted.{rule_at};
 ghost use Rattle.plan_rules.specs.Rules.{ContextRule, context_rule_of};
 ghost use Rattle.plan_witness.specs.Runs.{IsCounting, is_for};

@@ -21,7 +21,7 @@ ghost use Rattle.task_core.specs.Systems.{Exec, HasOutcome};
 ghost use Rattle.task_core.specs.Tables.{Leads};
 ghost use Rattle.task_core.specs.Tasks.{action_count, fluent_count, system_of};
 ghost use Rattle.plan_rules.specs.Denoted.{denoted, denoted_contexts, rule_at};
-ghost use Rattle.plan_guide.specs.RunRules.{IsRunRuleOf};
+ghost use Rattle.rule_lookup.specs.RunRules.{IsRunRuleOf};
 ghost use Rattle.plan_rules.specs.Plans.{IsPlanOf, IsRuleOf};
 ghost use Rattle.plan_rules.specs.Rules.{ContextRule, context_rule_of, plain_of, rule_of};
 ghost use Rattle.exec_graph.specs.Executions.{GoesTo};

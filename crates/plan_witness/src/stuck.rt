@@ -20,7 +20,7 @@ ghost use Rattle.task_core.specs.States.{IsWithin, vector};
 ghost use Rattle.task_core.specs.Systems.{Exec};
 ghost use Rattle.task_core.specs.Tasks.{action_count, fluent_count, system_of};
 ghost use Rattle.plan_check.specs.Walks.{IsMarked};
-ghost use Rattle.plan_guide.specs.RunRules.{IsRunRuleOf};
+ghost use Rattle.rule_lookup.specs.RunRules.{IsRunRuleOf};
 ghost use Rattle.plan_rules.specs.Denoted.{next_context};
 ghost use Rattle.plan_rules.specs.Plans.{IsPlanOf};
 ghost use Rattle.plan_rules.specs.Rules.{automaton, context_rule_of, next_of, plain_of};

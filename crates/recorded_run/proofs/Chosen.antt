@@ -11,9 +11,9 @@ use Rattle.task_core.specs.States.{vector}
 use Rattle.task_core.specs.declared.states.State.{State}
 use Rattle.cube_index.specs.Index.{answers, values_of}
 use Rattle.cube_index.specs.Places.{HasNone, IsFirstTrue}
-use Rattle.plan_guide.specs.RunRules.{IsRunRuleOf, run_rules}
-use Rattle.plan_guide.proofs.Finding.{answer_is}
-use Rattle.plan_guide.proofs.InTask.{run_rules_in_task}
+use Rattle.rule_lookup.specs.RunRules.{IsRunRuleOf, run_rules}
+use Rattle.rule_lookup.proofs.Finding.{answer_is}
+use Rattle.rule_lookup.proofs.InTask.{run_rules_in_task}
 use Rattle.plan_rules.specs.Denoted.{rule_at}
 use Rattle.plan_rules.specs.Plans.{IsCubeOf, IsPlanOf}
 use Rattle.plan_rules.specs.Rules.{ContextRule, plain_of}

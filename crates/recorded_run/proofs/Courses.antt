@@ -11,7 +11,7 @@ use Rattle.task_core.specs.declared.states.State.{State}
 use Rattle.task_core.specs.declared.tasks.Task.{Task}
 use Rattle.plan_rules.specs.Denoted.{denoted_contexts}
 use Rattle.plan_rules.specs.Rules.{ContextRule, PlainPlan}
-use Rattle.plan_guide.specs.RunRules.{run_rules}
+use Rattle.rule_lookup.specs.RunRules.{run_rules}
 use Rattle.run_replay.specs.Running.{HasRun, next_turn_of}
 use Rattle.run_replay.specs.Runs.{IsStepOf, step_value, steps_value}
 use Rattle.run_replay.specs.Traces.{Goes, Trace, TraceStep}

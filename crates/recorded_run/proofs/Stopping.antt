@@ -5,7 +5,7 @@ use Rattle.std.specs.declared.alloc.Global.{Global}
 use Rattle.task_core.specs.Vectors.{Vector}
 use Rattle.task_core.specs.declared.conditions.Cond.{Cond}
 use Rattle.task_core.specs.declared.tasks.Task.{Task}
-use Rattle.plan_finding.specs.Findings.{HasFalseGoal, HasFalsePrecondition}
+use Rattle.counterexamples.specs.Findings.{HasFalseGoal, HasFalsePrecondition}
 use Rattle.plan_rules.specs.Rules.{ContextRule}
 use Rattle.recorded_run.specs.RecordedRuns.{IsStop}
 use Rattle.recorded_run.specs.Turns.{IsRuledHalt, halt_ending}

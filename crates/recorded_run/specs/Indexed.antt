@@ -2,7 +2,7 @@
 use Rattle.std.specs.Prelude.{ℕ, List, map}
 use Rattle.std.specs.List.{All}
 use Rattle.cube_index.specs.Index.{IsIndexOf}
-use Rattle.plan_guide.specs.RunRules.{IsRunRuleOf}
+use Rattle.rule_lookup.specs.RunRules.{IsRunRuleOf}
 use Rattle.plan_rules.specs.Advices.{onward_value}
 use Rattle.plan_rules.specs.Rules.{ContextRule}
 use Rattle.recorded_run.specs.declared.rules.IndexedRules.{IndexedRules}

@@ -9,8 +9,8 @@ use Rattle.task_core.specs.declared.conditions.Cond.{Cond}
 use Rattle.task_core.specs.declared.tasks.Task.{Task}
 use Rattle.plan_rules.specs.Denoted.{next_context}
 use Rattle.plan_rules.specs.Rules.{ContextRule, PlainPlan}
-use Rattle.plan_guide.specs.RunRules.{run_rules}
-use Rattle.plan_finding.specs.Findings.{HasFalseGoal, HasFalsePrecondition}
+use Rattle.rule_lookup.specs.RunRules.{run_rules}
+use Rattle.counterexamples.specs.Findings.{HasFalseGoal, HasFalsePrecondition}
 use Rattle.run_replay.specs.Traces.{Capped, Ended, Ending, Stray, Terminal, TraceStep, Unexecutable}
 use Rattle.run_replay.specs.Traces.{run_plan, trace_of}
 use Rattle.recorded_run.specs.Rules.{CountsThere}

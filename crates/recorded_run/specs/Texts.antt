@@ -7,8 +7,8 @@ use Rattle.task_core.specs.Vectors.{Vector}
 use Rattle.task_core.specs.declared.conditions.Cond.{Cond}
 use Rattle.plan_rules.specs.Rules.{PlainPlan, automaton, table}
 use Rattle.plan_rules.specs.Texts.{atom_text, line_feed, name_at}
-use Rattle.plan_finding.specs.Texts.{Source, initial_line}
-use Rattle.plan_finding.specs.Texts.{refusal_note, rule_text}
+use Rattle.counterexamples.specs.Texts.{Source, initial_line}
+use Rattle.counterexamples.specs.Texts.{refusal_note, rule_text}
 use Rattle.state_text.specs.Texts.{changes_text, conditions_text, number_text}
 use Rattle.recorded_run.specs.RecordedRuns.{PlainRecorded, RuledStep, Stop}
 use Rattle.recorded_run.specs.RecordedRuns.{most_made, no_outcome, not_executable, plan_ends, record_ends}

@@ -3,7 +3,7 @@
 ghost use Rattle.std.specs.Prelude.{◌≡◌, ◌<◌, IfNone, IfOk, IfSome, None, map};
 ghost use Rattle.task_core.specs.States.{vector};
 ghost use Rattle.task_core.specs.Tasks.{action_count, fluent_count};
-ghost use Rattle.plan_guide.specs.RunRules.{IsRunRuleOf, in_one_context, run_rules};
+ghost use Rattle.rule_lookup.specs.RunRules.{IsRunRuleOf, in_one_context, run_rules};
 ghost use Rattle.plan_rules.specs.Denoted.{rule_at};
 ghost use Rattle.plan_rules.specs.Plans.{IsPlanOf};
 ghost use Rattle.plan_rules.specs.Rules.{context_rule_of, plain_of, rule_of};

@@ -14,7 +14,7 @@ ghost use Rattle.std.specs.Prelude.{
   length,
   slice_get,
 };
-ghost use Rattle.plan_guide.specs.RunRules.{run_rules};
+ghost use Rattle.rule_lookup.specs.RunRules.{run_rules};
 ghost use Rattle.plan_rules.specs.Denoted.{denoted_contexts};
 ghost use Rattle.plan_rules.specs.Plans.{IsPlanOf};
 ghost use Rattle.plan_rules.specs.Rules.{PlainPlan, plain_of};

@@ -1,7 +1,7 @@
 //! Why a run stops.
 
 ghost use Rattle.std.specs.Prelude.{◌≡◌, ℕ, IfOk, List, MatchOption, None, Option, map};
-ghost use Rattle.plan_finding.specs.Findings.{HasFalseGoal};
+ghost use Rattle.counterexamples.specs.Findings.{HasFalseGoal};
 ghost use Rattle.plan_rules.specs.Rules.{ContextRule};
 ghost use Rattle.task_core.specs.States.{vector};
 ghost use Rattle.task_core.specs.Tasks.{action_count, fluent_count};
@@ -11,7 +11,7 @@ ghost use Rattle.recorded_run.specs.Values.{stop_value};
 
 use crate::rules::Counting;
 use crate::turns::Halt;
-use plan_finding::{false_goal, false_precondition};
+use counterexamples::{false_goal, false_precondition};
 use std::alloc::{AllocError, Global};
 use task_core::{Cond, State, Task};
 

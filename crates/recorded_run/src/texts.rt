@@ -1,7 +1,7 @@
 //! The text of a run.
 
 ghost use Rattle.std.specs.Prelude.{◌≡◌, ◌++◌, ℕ, IfOk, OnOk, map, string_bytes};
-ghost use Rattle.plan_finding.specs.Values.{source_value};
+ghost use Rattle.counterexamples.specs.Values.{source_value};
 ghost use Rattle.plan_rules.specs.Rules.{plain_of};
 ghost use Rattle.task_core.specs.States.{vector};
 ghost use Rattle.task_core.specs.Tasks.{action_names, fluent_count, fluent_names};
@@ -32,7 +32,7 @@ ghost use Rattle.recorded_run.specs.declared.stops.Stop.TheVariants.{
 use crate::rules::Counting;
 use crate::runs::{MadeStep, RecordedRun};
 use crate::stops::Stop;
-use plan_finding::{Source, push_initial, push_refusal, push_rule};
+use counterexamples::{Source, push_initial, push_refusal, push_rule};
 use plan_rules::{Plan, push_number};
 use state_text::{push_action, push_changes, push_parts, push_step_number};
 use std::alloc::{AllocError, Global};

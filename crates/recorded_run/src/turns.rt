@@ -1,7 +1,7 @@
 //! One turn of a run.
 
 ghost use Rattle.std.specs.Prelude.{◌≡◌, ◌<◌, ◌∷◌, ℕ, List, Some};
-ghost use Rattle.plan_guide.specs.RunRules.{IsRunRuleOf};
+ghost use Rattle.rule_lookup.specs.RunRules.{IsRunRuleOf};
 ghost use Rattle.plan_rules.specs.Advices.{advised_by};
 ghost use Rattle.plan_rules.specs.Denoted.{denoted_contexts};
 ghost use Rattle.plan_rules.specs.Rules.{ContextRule};

@@ -3,8 +3,8 @@ use Rattle.std.proofs.Common.{◌≡◌, ◌≢◌, [], Option, Some, None, Resu
 use Rattle.std.specs.Prelude.{IfNone, IfOk, IfSome}
 use Rattle.dd_sets.specs.declared.errors.SetErr.{SetErr}
 use Rattle.plan_certs.specs.Certificates.{PlainCertificate}
-use Rattle.refute_cert.specs.Judgements.{IsVerdict}
-use Rattle.refute_cert.specs.declared.verdict.Judged.{Judged}
+use Rattle.cert_check.specs.Judgements.{IsVerdict}
+use Rattle.cert_check.specs.declared.verdict.Judged.{Judged}
 use Rattle.task_core.specs.Tasks.{initial_states, system_of}
 use Rattle.task_core.specs.declared.tasks.Task.{Task}
 use Rattle.refute_command.specs.FoundVerdicts.{IsJudgedFrom}

@@ -6,10 +6,10 @@ use Rattle.pddl_system.specs.Systems.{fluent_names, system}
 use Rattle.plan_certs.specs.Certificates.{HoldsGoal, HoldsInitial, HoldsNoGoal, HoldsNoInitial, IsAccepted, PlainCertificate}
 use Rattle.plan_certs.specs.Readings.{SpellsPlain}
 use Rattle.plan_io.specs.Held.{Held, Untold}
-use Rattle.refute_cert.specs.Judgements.{IsVerdict}
-use Rattle.refute_cert.specs.declared.verdict.Flaw.TheVariants.{Initial, Goal, Action}
-use Rattle.refute_cert.specs.declared.verdict.Judged.{Judged}
-use Rattle.refute_cert.specs.declared.verdict.Judged.TheVariants.{Accepted, Rejected}
+use Rattle.cert_check.specs.Judgements.{IsVerdict}
+use Rattle.cert_check.specs.declared.verdict.Flaw.TheVariants.{Initial, Goal, Action}
+use Rattle.cert_check.specs.declared.verdict.Judged.{Judged}
+use Rattle.cert_check.specs.declared.verdict.Judged.TheVariants.{Accepted, Rejected}
 use Rattle.task_core.specs.Names.{Name}
 use Rattle.task_core.specs.Systems.{System}
 use Rattle.task_core.specs.Vectors.{Vector}

@@ -5,8 +5,8 @@ use Rattle.dd_sets.specs.declared.errors.SetErr.{SetErr}
 use Rattle.pddl_ast.specs.Trees.{DomainTree, ProblemTree}
 use Rattle.plan_certs.specs.Certificates.{PlainCertificate}
 use Rattle.plan_io.specs.Held.{Held}
-use Rattle.refute_cert.specs.Judgements.{IsVerdict}
-use Rattle.refute_cert.specs.declared.verdict.Judged.{Judged}
+use Rattle.cert_check.specs.Judgements.{IsVerdict}
+use Rattle.cert_check.specs.declared.verdict.Judged.{Judged}
 use Rattle.task_core.specs.Tasks.{initial_states, system_of}
 use Rattle.task_core.specs.declared.tasks.Task.{Task}
 use Rattle.command_base.specs.Answers.{Answer, full, no_memory, refused}

@@ -16,12 +16,12 @@ use Rattle.plan_certs.specs.Named.{AreSetsOf}
 use Rattle.plan_certs.specs.Readings.{HasCertificateFault, SpellsPlain}
 use Rattle.plan_io.specs.Held.{Held}
 use Rattle.plan_rules.specs.Texts.{line_feed}
-use Rattle.refute_cert.specs.Judgements.{IsVerdict}
-use Rattle.refute_cert.specs.Sizes.{BoundsJudgedSets}
-use Rattle.refute_cert.specs.declared.verdict.Flaw.{Flaw}
-use Rattle.refute_cert.specs.declared.verdict.Flaw.TheVariants.{Initial, Goal, Action}
-use Rattle.refute_cert.specs.declared.verdict.Judged.{Judged}
-use Rattle.refute_cert.specs.declared.verdict.Judged.TheVariants.{Accepted, Rejected}
+use Rattle.cert_check.specs.Judgements.{IsVerdict}
+use Rattle.cert_check.specs.Sizes.{BoundsJudgedSets}
+use Rattle.cert_check.specs.declared.verdict.Flaw.{Flaw}
+use Rattle.cert_check.specs.declared.verdict.Flaw.TheVariants.{Initial, Goal, Action}
+use Rattle.cert_check.specs.declared.verdict.Judged.{Judged}
+use Rattle.cert_check.specs.declared.verdict.Judged.TheVariants.{Accepted, Rejected}
 use Rattle.sexpr_text.specs.declared.faults.InputFault.{InputFault}
 use Rattle.task_core.specs.Names.{Name}
 use Rattle.task_core.specs.Systems.{System}

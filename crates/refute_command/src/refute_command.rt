@@ -36,7 +36,7 @@ use pddl_ast::{Domain, Problem};
 use plan_certs::Certificate;
 use plan_io::Shelf;
 use plan_rules::Class;
-use refute_cert::{Flaw, Judged, refute};
+use cert_check::{Flaw, Judged, refute};
 use std::alloc::Global;
 use task_core::Task;
 use task_sets::{SetSearch, search_in_tries};
@@ -145,7 +145,7 @@ struct Judging<'a> {
 
 impl SetSearch for Judging<'_> {
     ghost use Rattle.plan_certs.specs.Named.{plain_certificate};
-    ghost use Rattle.refute_cert.specs.Judgements.{IsVerdict};
+    ghost use Rattle.cert_check.specs.Judgements.{IsVerdict};
     ghost use Rattle.refute_command.specs.RefuteCommand.{IsToBeJudged, LacksJudgingRoom};
     ghost use Rattle.task_core.specs.Tasks.{system_of};
 

@@ -14,8 +14,8 @@ use Rattle.task_core.specs.Tasks.{system_of}
 use Rattle.task_core.specs.Vectors.{Vector}
 use Rattle.task_core.specs.declared.classes.Class.{Class}
 use Rattle.task_core.specs.declared.tasks.Task.{Task}
-use Rattle.plan_finding.specs.Texts.{first_match, is_recorded, takes_first}
-use Rattle.plan_guide.specs.RunRules.{in_one_context}
+use Rattle.counterexamples.specs.Texts.{first_match, is_recorded, takes_first}
+use Rattle.rule_lookup.specs.RunRules.{in_one_context}
 use Rattle.plan_rules.specs.Denoted.{can_execute, next_context, rule_at}
 use Rattle.plan_rules.specs.Rules.{ContextRule, PlainPlan, PlanRule, automaton, table}
 use Rattle.plan_witness.specs.Runs.{IsByOutcome, IsContextStep, IsRunOf, IsTableStep, PlainRun, PlainStep}

@@ -5,7 +5,7 @@ use Rattle.task_core.specs.Systems.{System}
 use Rattle.task_core.specs.Tasks.{system_of}
 use Rattle.task_core.specs.Vectors.{Vector}
 use Rattle.task_core.specs.declared.tasks.Task.{Task}
-use Rattle.plan_finding.specs.Texts.{is_recorded}
+use Rattle.counterexamples.specs.Texts.{is_recorded}
 use Rattle.plan_rules.specs.Rules.{PlainPlan}
 use Rattle.plan_witness.specs.Runs.{IsRunOf, PlainRun, PlainStep}
 use Rattle.run_replay.specs.Traces.{TraceStep, most_steps, run_plan, trace_of}

@@ -8,7 +8,7 @@ use Rattle.task_core.specs.Systems.{System}
 use Rattle.task_core.specs.ContextPlans.{ContextPlan, first_context}
 use Rattle.plan_rules.specs.Denoted.{can_execute, denoted_contexts}
 use Rattle.plan_rules.specs.Rules.{PlainPlan}
-use Rattle.plan_guide.specs.RunRules.{run_rules}
+use Rattle.rule_lookup.specs.RunRules.{run_rules}
 
 -- a step: its number, counted from 1, the action, the number of its outcome, counted from 0, and
 -- the states before and after

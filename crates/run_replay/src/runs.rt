@@ -2,7 +2,7 @@
 
 ghost use Rattle.plan_rules.specs.Plans.{IsPlanOf};
 ghost use Rattle.plan_rules.specs.Denoted.{denoted_contexts};
-ghost use Rattle.plan_guide.specs.Guides.{IsGuideOf, rules_of};
+ghost use Rattle.rule_lookup.specs.Guides.{IsGuideOf, rules_of};
 ghost use Rattle.run_replay.specs.declared.worlds.Step.{Step};
 ghost use Rattle.run_replay.specs.Running.{next_turn_of};
 ghost use Rattle.run_replay.specs.Runs.{IsRefused, IsStepOf, trace_by, trace_in, trace_value};
@@ -31,7 +31,7 @@ use crate::traces::{RunErr, Trace};
 use crate::turns::{Standing, Turn, take_turn};
 use crate::watch::tell;
 use crate::worlds::{Step, World};
-use plan_guide::Guide;
+use rule_lookup::Guide;
 use plan_rules::{FIRST_CONTEXT, Plan};
 use std::alloc::{AllocFailed, Global};
 use task_core::{State, Task};

@@ -1,7 +1,7 @@
 //! One turn of a run.
 
-ghost use Rattle.plan_guide.specs.GuideRules.{rule_value};
-ghost use Rattle.plan_guide.specs.Guides.{IsGuideOf, IsReady, rules_of};
+ghost use Rattle.rule_lookup.specs.GuideRules.{rule_value};
+ghost use Rattle.rule_lookup.specs.Guides.{IsGuideOf, IsReady, rules_of};
 ghost use Rattle.run_replay.specs.Traces.{outcome_state, turn as turn_of};
 ghost use Rattle.run_replay.specs.Turns.{IsTurn, MakesStepOf, taking, turn_by};
 ghost use Rattle.std.specs.Prelude.{◌≡◌, ◌<◌, ◌↔◌, ◌∷◌, ℕ, IfSome, IsTrue, List, Some};
@@ -14,7 +14,7 @@ ghost use Rattle.task_core.specs.Tasks.{action_count, fluent_count, system_of};
 
 use crate::traces::{End, RunErr};
 use crate::worlds::{Step, World};
-use plan_guide::{Guide, GuideRule};
+use rule_lookup::{Guide, GuideRule};
 use task_core::{ActionId, State, Task, in_space, is_exec, outcome_count, step};
 
 /// What a turn does.

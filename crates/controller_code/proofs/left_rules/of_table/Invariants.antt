@@ -1,6 +1,6 @@
 -- The rules so far.
 use Rattle.std.specs.Prelude.{◌≡◌, map, take}
-use Rattle.plan_guide.specs.RunRules.{in_one_context}
+use Rattle.rule_lookup.specs.RunRules.{in_one_context}
 use Rattle.plan_rules.specs.Rules.{rule_of}
 use Rattle.task_core.specs.Vectors.{Vector}
 use Rattle.controller_code.specs.FirstMoves.{first_move, plan_move}

@@ -1,6 +1,6 @@
 -- The one context is decided.
 use Rattle.std.proofs.Common.{◌∙◌, ◌++◌, ◌∷◌, [], ap, map, List, ℕ}
-use Rattle.plan_guide.specs.RunRules.{in_one_context}
+use Rattle.rule_lookup.specs.RunRules.{in_one_context}
 use Rattle.plan_rules.specs.Rules.{rule_of, rules_of}
 use Rattle.plan_rules.specs.declared.rules.Rule.{Rule}
 use Rattle.controller_code.specs.FirstMoves.{plan_move}

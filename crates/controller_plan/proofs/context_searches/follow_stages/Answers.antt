@@ -1,6 +1,6 @@
 use Rattle.std.proofs.Common.{arith, length}
-use Rattle.patrol_plan.proofs.FitSteps.{widest}
-use Rattle.patrol_plan.specs.Chains.{until_sets}
+use Rattle.context_plan.proofs.FitSteps.{widest}
+use Rattle.context_plan.specs.Chains.{until_sets}
 use Rattle.controller_plan.proofs.Tables.{table_found, width_for}
 use Rattle.controller_plan.proofs.context_searches.follow_stages.Goals as goal
 

@@ -1,6 +1,6 @@
 use Rattle.std.proofs.Common.{map, take}
 use Rattle.std.specs.Prelude.{All}
-use Rattle.plan_guide.specs.RunRules.{in_one_context}
+use Rattle.rule_lookup.specs.RunRules.{in_one_context}
 use Rattle.plan_rules.specs.Rules.{rule_of}
 use Rattle.controller_rules.specs.Guards.{IsGuardedRule}
 use Rattle.controller_rules.proofs.guards.are_rules_guarded.Given as goal

@@ -1,5 +1,5 @@
 use Rattle.std.proofs.Common.{◌≡◌, map, take}
-use Rattle.plan_guide.specs.RunRules.{in_one_context}
+use Rattle.rule_lookup.specs.RunRules.{in_one_context}
 use Rattle.plan_rules.specs.Rules.{rule_of}
 use Rattle.controller_rules.specs.Checks.{run_value}
 use Rattle.controller_rules.proofs.run_rules.table_rules.Given as goal

@@ -3,7 +3,7 @@ use Rattle.std.proofs.lemmas.Result.{IfOk-weaker}
 use Rattle.std.specs.Bool.{IsTrue}
 use Rattle.exec_graph.specs.Graphs.{IsGraphOf}
 use Rattle.exec_graph.specs.Values.{plain_graph}
-use Rattle.plan_guide.specs.RunRules.{run_rules}
+use Rattle.rule_lookup.specs.RunRules.{run_rules}
 use Rattle.plan_rules.specs.Rules.{PlainPlan, plain_of}
 use Rattle.task_core.specs.Tasks.{fluent_count, system_of}
 use Rattle.controller_rules.specs.AsRun.{HasNoDeadRule, HasOneMove}

@@ -1,5 +1,5 @@
 use Rattle.std.proofs.Common.{◌≡◌, rules, map, subst, sym}
-use Rattle.plan_guide.specs.RunRules.{run_rules}
+use Rattle.rule_lookup.specs.RunRules.{run_rules}
 use Rattle.plan_rules.specs.Plans.{IsPlainPlanOf}
 use Rattle.plan_rules.specs.Rules.{plain_of}
 use Rattle.task_core.specs.Tasks.{action_count, fluent_count}

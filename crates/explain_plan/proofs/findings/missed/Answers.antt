@@ -1,4 +1,4 @@
-use Rattle.plan_finding.specs.Values.{finding_value}
+use Rattle.counterexamples.specs.Values.{finding_value}
 use Rattle.plan_rules.specs.Rules.{plain_of}
 use Rattle.task_core.specs.Tasks.{fluent_count}
 use Rattle.explain_plan.proofs.Finding.{missing_of}

@@ -2,7 +2,7 @@ use Rattle.std.proofs.Common.{◌≡◌, ℕ, IfOk, List, subst}
 use Rattle.command_base.specs.Values.{shown_of}
 use Rattle.task_core.specs.Tasks.{fluent_count}
 use Rattle.exec_graph.specs.Values.{plain_graph}
-use Rattle.plan_finding.specs.Values.{finding_value}
+use Rattle.counterexamples.specs.Values.{finding_value}
 use Rattle.plan_rules.specs.Rules.{plain_of}
 use Rattle.explain_plan.specs.Explained.{shown_answer, source_in}
 use Rattle.explain_plan.specs.Values.{explain_words_of, lined_of}

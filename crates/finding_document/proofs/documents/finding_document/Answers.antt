@@ -1,6 +1,6 @@
 use Rattle.std.proofs.Common.{◌≡◌, ◌++◌, subst}
 use Rattle.std.specs.Prelude.{IfOk}
-use Rattle.plan_finding.specs.Values.{finding_value, source_value}
+use Rattle.counterexamples.specs.Values.{finding_value, source_value}
 use Rattle.plan_rules.specs.Texts.{line_feed}
 use Rattle.serde_json.specs.Data.{Data}
 use Rattle.serde_json.specs.Written.{compact_text}

@@ -1,6 +1,6 @@
 -- The values so far, and those of the steps that are left, are together all.
 use Rattle.std.proofs.Common.{◌≡◌, ◌++◌, drop, map}
-use Rattle.plan_finding.specs.Values.{source_value}
+use Rattle.counterexamples.specs.Values.{source_value}
 use Rattle.plan_witness.specs.Values.{steps_value}
 use Rattle.serde_json.specs.View.{view}
 use Rattle.task_core.specs.States.{vector}

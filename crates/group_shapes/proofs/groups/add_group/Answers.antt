@@ -1,6 +1,6 @@
 use Rattle.std.proofs.lemmas.List.Elements.{All-push, All-same}
 use Rattle.std.proofs.Common.{[], ◌∷◌, ◌++◌}
-use Rattle.one_of_groups.specs.Groups.{IsInductive}
+use Rattle.mutex_groups.specs.Groups.{IsInductive}
 use Rattle.task_core.specs.States.{truth}
 use Rattle.task_core.specs.declared.states.State.{State}
 use Rattle.group_shapes.proofs.groups.add_group.Goals as goal

@@ -2,7 +2,7 @@ use Rattle.std.proofs.lemmas.List.Elements.{All-push, All-same}
 use Rattle.std.proofs.Common.{[], ◌∷◌, ◌++◌, subst, sym}
 use Rattle.std.specs.Prelude.{Vec}
 use Rattle.std.specs.declared.alloc.Global.{Global}
-use Rattle.one_of_groups.specs.Groups.{AreInductive}
+use Rattle.mutex_groups.specs.Groups.{AreInductive}
 use Rattle.group_shapes.specs.Found.{AreFound}
 use Rattle.group_shapes.specs.declared.shapes.OneOf.{OneOf}
 use Rattle.group_shapes.proofs.groups.add_shape.Goals as goal

@@ -1,6 +1,6 @@
 -- The groups so far.
 use Rattle.std.proofs.Common.{◌≡◌}
-use Rattle.one_of_groups.specs.Groups.{AreInductive}
+use Rattle.mutex_groups.specs.Groups.{AreInductive}
 use Rattle.group_shapes.proofs.groups.groups_of.Given as goal
 
 abbrev pub invariant-loop-binding : goal.invariant-loop-binding

@@ -1,6 +1,6 @@
 use Rattle.std.proofs.Common.{List, subst, sym}
 use Rattle.ctl_syntax.specs.declared.context_goals.ContextGoal.{ContextGoal}
-use Rattle.patrol_plan.specs.Chains.{visit_sets}
+use Rattle.context_plan.specs.Chains.{visit_sets}
 use Rattle.task_core.specs.declared.conditions.Cond.{Cond}
 use Rattle.plan_command.specs.FoundGoals.{IsGoalSearched}
 use Rattle.plan_command.specs.GoalConditions.{sets_of_goal}

@@ -4,7 +4,7 @@ use Rattle.task_core.specs.ContextPlans.{Configuration, Follows, first_context}
 use Rattle.task_core.specs.States.{vector}
 use Rattle.task_core.specs.Tables.{Leads}
 use Rattle.task_core.specs.Tasks.{action_count, fluent_count, system_of}
-use Rattle.plan_guide.specs.RunRules.{IsRunRuleOf}
+use Rattle.rule_lookup.specs.RunRules.{IsRunRuleOf}
 use Rattle.plan_rules.specs.Denoted.{denoted, denoted_contexts}
 use Rattle.plan_rules.specs.Plans.{IsRuleOf}
 use Rattle.plan_rules.specs.Rules.{context_rule_of, plain_of, rule_of}

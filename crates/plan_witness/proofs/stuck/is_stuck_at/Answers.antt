@@ -4,7 +4,7 @@ use Rattle.std.proofs.lemmas.Bool.{false≢true}
 use Rattle.task_core.specs.ContextPlans.{Configuration}
 use Rattle.task_core.specs.States.{vector}
 use Rattle.task_core.specs.Tasks.{action_count, fluent_count, system_of}
-use Rattle.plan_guide.specs.RunRules.{IsRunRuleOf}
+use Rattle.rule_lookup.specs.RunRules.{IsRunRuleOf}
 use Rattle.plan_rules.specs.Rules.{automaton, context_rule_of, plain_of}
 use Rattle.plan_rules.specs.declared.rules.AutoRule.{AutoRule}
 use Rattle.exec_graph.specs.Executions.{IsStuckAt}

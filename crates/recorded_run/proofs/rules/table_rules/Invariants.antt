@@ -1,6 +1,6 @@
 use Rattle.std.specs.Prelude.{◌≡◌, map, take}
 use Rattle.plan_rules.specs.Rules.{rule_of}
-use Rattle.plan_guide.specs.RunRules.{in_one_context}
+use Rattle.rule_lookup.specs.RunRules.{in_one_context}
 use Rattle.recorded_run.specs.Indexed.{run_rule_value}
 use Rattle.recorded_run.proofs.rules.table_rules.Given as goal
 

@@ -3,7 +3,7 @@ use Rattle.list_laws.proofs.Elements.{pushed_four, pushed_two}
 use Rattle.list_laws.proofs.Options.{on_ok}
 use Rattle.task_core.specs.States.{vector}
 use Rattle.task_core.specs.Tasks.{fluent_count, fluent_names}
-use Rattle.plan_finding.specs.Values.{source_value}
+use Rattle.counterexamples.specs.Values.{source_value}
 use Rattle.plan_rules.specs.Texts.{line_feed}
 use Rattle.state_text.specs.Texts.{changes_text, number_text}
 use Rattle.recorded_run.specs.Texts.{made_lines, move_text, next_note}

@@ -1,7 +1,7 @@
 use Rattle.std.proofs.Common.{◌++◌, ◌∙◌, ap, string_bytes, sym, take}
 use Rattle.std.specs.List.{flat_map}
 use Rattle.list_laws.proofs.Elements.{pushed_two}
-use Rattle.plan_finding.specs.Values.{source_value}
+use Rattle.counterexamples.specs.Values.{source_value}
 use Rattle.task_core.specs.Tasks.{fluent_count}
 use Rattle.recorded_run.specs.Texts.{made_lines}
 use Rattle.recorded_run.specs.Values.{made_value, mades_value}

@@ -1,7 +1,7 @@
 -- The lines of the steps so far.
 use Rattle.std.proofs.Common.{◌≡◌, ◌++◌, string_bytes, take}
 use Rattle.std.specs.List.{flat_map}
-use Rattle.plan_finding.specs.Values.{source_value}
+use Rattle.counterexamples.specs.Values.{source_value}
 use Rattle.task_core.specs.Tasks.{fluent_count}
 use Rattle.recorded_run.specs.Texts.{made_lines}
 use Rattle.recorded_run.specs.Values.{mades_value}

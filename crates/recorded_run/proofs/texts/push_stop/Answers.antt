@@ -1,5 +1,5 @@
 use Rattle.std.proofs.Common.{◌≡◌, ◌++◌, OnOk, map, string_bytes, subst, sym}
-use Rattle.plan_finding.specs.Values.{source_value}
+use Rattle.counterexamples.specs.Values.{source_value}
 use Rattle.recorded_run.specs.RecordedRuns.{not_executable}
 use Rattle.recorded_run.specs.Texts.{stop_text}
 use Rattle.recorded_run.specs.Values.{stop_value}

@@ -1,6 +1,6 @@
 use Rattle.std.specs.Prelude.{◌-◌, length, map}
 use Rattle.plan_rules.specs.Denoted.{denoted_contexts}
-use Rattle.plan_guide.specs.Guides.{rules_of}
+use Rattle.rule_lookup.specs.Guides.{rules_of}
 use Rattle.run_replay.specs.Running.{HasRun}
 use Rattle.run_replay.specs.Traces.{most_steps}
 use Rattle.task_core.specs.States.{vector}

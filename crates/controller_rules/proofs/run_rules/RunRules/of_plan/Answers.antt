@@ -1,9 +1,9 @@
 use Rattle.std.proofs.Common.{rules, ◌≡◌, ◌∙◌, Bor, List, map, ap, subst, sym}
 use Rattle.std.specs.List.{All}
 use Rattle.cube_index.specs.Index.{AreLits, IsIndexOf}
-use Rattle.plan_guide.proofs.InTask.{lits_mapped, run_rules_in_task}
+use Rattle.rule_lookup.proofs.InTask.{lits_mapped, run_rules_in_task}
 use Rattle.list_laws.proofs.Elements.{All-unmap}
-use Rattle.plan_guide.specs.RunRules.{run_rules}
+use Rattle.rule_lookup.specs.RunRules.{run_rules}
 use Rattle.plan_rules.specs.Rules.{plain_of}
 use Rattle.task_core.specs.Tasks.{action_count, fluent_count}
 use Rattle.task_core.specs.declared.literals.Lit.{Lit}

@@ -4,8 +4,8 @@ use Rattle.list_laws.proofs.Elements.{All-unmap}
 use Rattle.task_core.specs.Tasks.{action_count, fluent_count}
 use Rattle.task_core.specs.declared.literals.Lit.{Lit}
 use Rattle.cube_index.specs.Index.{AreLits}
-use Rattle.plan_guide.specs.RunRules.{IsRunRuleOf}
-use Rattle.plan_guide.proofs.InTask.{lits_mapped, lits_of_cube}
+use Rattle.rule_lookup.specs.RunRules.{IsRunRuleOf}
+use Rattle.rule_lookup.proofs.InTask.{lits_mapped, lits_of_cube}
 use Rattle.recorded_run.specs.Indexed.{run_rule_value}
 use Rattle.recorded_run.specs.declared.rules.RunRule.{RunRule}
 use Rattle.recorded_run.proofs.Chosen.{rules_in_task}

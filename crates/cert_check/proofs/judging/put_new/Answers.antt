@@ -1,0 +1,27 @@
+use Rattle.std.proofs.Common.{◌≡◌, ◌∙◌, ap, arith, length}
+use Rattle.dd_ops.specs.Operations.{minus_of}
+use Rattle.slot_board.specs.Board.{set_at}
+use Rattle.slot_board.proofs.BoardSlots.{left_with}
+use Rattle.cert_check.proofs.ShownLemmas.{new_fits, new_put}
+use Rattle.cert_check.proofs.judging.put_new.Goals as goal
+
+pub combine-requires-clause-working : goal.combine-requires-clause-working
+combine-requires-clause-working c = let r = c.requires in (r.0, r.3.by_union.at)
+
+pub combine-requires-clause-place : goal.combine-requires-clause-place
+combine-requires-clause-place c = let r = c.requires in let long : length c.args.board.now.slots.items ≡ r.0.places = r.3.by_union.at.long in let five : r.0.places ≡ 5 = r.4.five in omega arith
+
+pub combine-requires-clause-a : goal.combine-requires-clause-a
+combine-requires-clause-a c = let r = c.requires in let long : length c.args.board.now.slots.items ≡ r.0.places = r.3.by_union.at.long in let five : r.0.places ≡ 5 = r.4.five in omega arith
+
+pub combine-requires-clause-b : goal.combine-requires-clause-b
+combine-requires-clause-b c = let r = c.requires in let long : length c.args.board.now.slots.items ≡ r.0.places = r.3.by_union.at.long in let five : r.0.places ≡ 5 = r.4.five in omega arith
+
+pub returns : goal.returns
+returns c start f g has board f_small g_small =
+    let sets = c.args.enc.now.sets in
+    let slots = c.args.board.now.slots.items in
+    let e : minus_of (set_at sets slots 1) (set_at sets slots 0) ≡ minus_of g f = ap (λ s. minus_of s (set_at sets slots 0)) has.set ∙ ap (minus_of g) has.by_union.union in
+    left_with start c.combine.new.enc c.combine.new.self.slots.items _ _ c.combine.result
+    (λ moved. new_put start c.args.enc.now c.combine.new.enc slots c.combine.new.self.slots.items f g _ has board e moved)
+    (c.combine.ensures start has.by_union.at (new_fits start f g _ board f_small g_small e))

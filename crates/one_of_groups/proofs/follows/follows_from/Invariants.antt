@@ -1,8 +1,0 @@
--- It follows, whichever member so far is the one.
-use Rattle.std.proofs.Common.{◌≡◌, ◌<◌, ℕ, true}
-use Rattle.task_core.specs.States.{truth}
-use Rattle.one_of_groups.specs.Follows.{FollowsAt}
-use Rattle.one_of_groups.proofs.follows.follows_from.Given as goal
-
-abbrev pub invariant-loop-number : goal.invariant-loop-number
-invariant-loop-number l = (f : ℕ) → f < l.number → truth l.members f ≡ true → FollowsAt (truth l.members) f l.cond

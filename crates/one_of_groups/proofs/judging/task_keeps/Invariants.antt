@@ -1,9 +1,0 @@
--- Each action so far keeps it.
-use Rattle.std.proofs.Common.{take}
-use Rattle.std.specs.List.{All}
-use Rattle.task_core.specs.States.{truth}
-use Rattle.one_of_groups.specs.Cases.{Keeps}
-use Rattle.one_of_groups.proofs.judging.task_keeps.Given as goal
-
-abbrev pub invariant-loop-action : goal.invariant-loop-action
-invariant-loop-action l = All (Keeps (truth l.members)) (take l.action-index l.action-items)

@@ -1,8 +1,0 @@
-use Rattle.plan_finding.proofs.Failures.{shown, shown_in_contexts}
-use Rattle.plan_finding.proofs.laws.failures_are_shown.Goals as goal
-
-pub returns-clause-tables : goal.returns-clause-tables
-returns-clause-tables c = shown
-
-pub returns-clause-contexts : goal.returns-clause-contexts
-returns-clause-contexts c = shown_in_contexts

@@ -1,5 +1,0 @@
--- The ledger is the new one.
-use Rattle.plan_finding.proofs.runs.longest_to.Given as goal
-
-abbrev pub ghosts-longest_in : goal.ghosts-longest_in
-ghosts-longest_in a = record { name = a.blank.name; parts = a.blank.parts }

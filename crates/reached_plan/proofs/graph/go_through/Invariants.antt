@@ -1,9 +1,0 @@
--- All states so far are states of the task.
-use Rattle.reached_plan.specs.Reached.{AreWithin}
-use Rattle.task_core.specs.Tasks.{fluent_count}
-use Rattle.reached_plan.proofs.graph.go_through.Given as goal
-
-abbrev pub invariant-loop-number : goal.invariant-loop-number
-invariant-loop-number l = record {
-  within : AreWithin (fluent_count l.task) l.graph.states.items;
-}

@@ -1,6 +1,0 @@
--- Each half has fewer cubes.
-use Rattle.std.proofs.Common.{length}
-use Rattle.refute_cert.proofs.halves.+lists_of.Given as goal
-
-abbrev pub decreases-lists_of : goal.decreases-lists_of
-decreases-lists_of l = length l.cubes.now

@@ -1,8 +1,0 @@
-use Rattle.std.proofs.Common.{◌≡◌, ◌++◌, drop}
-use Rattle.std.specs.List.{flat_map}
-use Rattle.refute_cert.specs.Programs.{literal_steps}
-use Rattle.refute_cert.proofs.programs.add_literals.Given as goal
-
--- the steps so far, and those of the literals that are left
-abbrev pub invariant-loop-lit : goal.invariant-loop-lit
-invariant-loop-lit l = l.steps.items ++ flat_map literal_steps (drop l.lit-index l.cube) ≡ l.fn.steps.items ++ flat_map literal_steps l.cube
