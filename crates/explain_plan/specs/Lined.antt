@@ -2,7 +2,7 @@
 use Rattle.std.specs.Prelude.{ℕ, List}
 use Rattle.command_base.specs.PlanFiles.{PlacedPlan, SpellsPlaced}
 use Rattle.command_base.specs.Words.{Bytes}
-use Rattle.rule_lines.specs.Lines.{AreRuleLines}
+use Rattle.plan_rules.specs.Lines.{AreRuleLines}
 use Rattle.task_core.specs.Names.{Name}
 
 -- a plan, where its list stands in the text, and the line in which each of its rules begins

@@ -9,3 +9,4 @@ pub mod NameKeys
 pub mod PartsViews
 pub mod Kinds
 pub mod Named
+pub mod Lines

@@ -1,6 +1,6 @@
 //! The lines of rules.
 
-ghost use Rattle.rule_lines.specs.Lines.{
+ghost use Rattle.plan_rules.specs.Lines.{
   AreRuleLines,
   group_lines,
   lines_of_found,
