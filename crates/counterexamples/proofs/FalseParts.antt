@@ -5,7 +5,7 @@ use Rattle.std.specs.declared.alloc.Global.{Global}
 use Rattle.std.specs.List.{All}
 use Rattle.std.proofs.lemmas.List.{length-map}
 use Rattle.std.proofs.lemmas.List.Elements.{All-map}
-use Rattle.condition_parts.specs.Parts.{IsFalsePart}
+use Rattle.counterexamples.specs.Parts.{IsFalsePart}
 use Rattle.task_core.specs.Conditions.{holds_in}
 use Rattle.task_core.specs.States.{vector}
 use Rattle.task_core.specs.Tasks.{fluent_count}

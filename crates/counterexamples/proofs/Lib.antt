@@ -9,3 +9,4 @@ mod Pushed
 mod Stems
 mod Stuck
 mod Told
+pub mod Among

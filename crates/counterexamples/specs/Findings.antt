@@ -3,7 +3,7 @@ use Rattle.std.specs.Prelude.{◌≡◌, ◌<◌, ◌↔◌, ◌+◌, ℕ, Bool,
 use Rattle.std.specs.Prelude.{if◌then◌else◌, length, nat_lt, slice_get, take, true}
 use Rattle.std.specs.List.{All}
 use Rattle.std.specs.Option.{option_map}
-use Rattle.condition_parts.specs.Parts.{IsFalsePart}
+use Rattle.counterexamples.specs.Parts.{IsFalsePart}
 use Rattle.goal_witness.specs.Lines.{PlainLine}
 use Rattle.counterexamples.specs.Aims.{IsAimAt}
 use Rattle.counterexamples.specs.declared.aims.Aim.{Aim}

@@ -8,3 +8,4 @@ pub mod Shown
 pub mod Stays
 pub mod Texts
 pub mod Values
+pub mod Parts

@@ -21,7 +21,7 @@ ghost use Rattle.task_core.specs.Tasks.{action_count, fluent_count, system_of};
 
 use crate::aims::Aim;
 use crate::rules::bad_rule;
-use condition_parts::false_parts;
+use crate::parts::false_parts;
 use goal_witness::Line;
 use plan_rules::{AutoRule, Plan};
 use plan_witness::{Spot, counting_rule, lost_outcome};

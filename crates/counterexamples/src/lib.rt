@@ -16,6 +16,7 @@ mod laws;
 mod longest;
 mod misses;
 mod numbers;
+mod parts;
 mod rules;
 mod runs;
 mod sources;

@@ -13,7 +13,7 @@ use Rattle.task_core.specs.declared.conditions.Cond.{Cond}
 use Rattle.task_core.specs.declared.conditions.Cond.TheVariants.{All as AllOf}
 use Rattle.task_core.specs.declared.states.State.{State}
 use Rattle.task_core.proofs.Holds.{holds_All, ids_below_All}
-use Rattle.condition_parts.specs.Parts.{HasFalseParts, IsFalsePart, Asks, by_part, itself}
+use Rattle.counterexamples.specs.Parts.{HasFalseParts, IsFalsePart, Asks, by_part, itself}
 
 -- a false part of some of the conditions
 pub record IsFalseOfSome (conds : List Cond) (state : State) (part : Cond) : Type 0 where

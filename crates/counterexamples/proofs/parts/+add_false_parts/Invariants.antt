@@ -2,8 +2,8 @@
 use Rattle.std.proofs.Common.{◌≡◌, drop, map, take, true}
 use Rattle.std.specs.List.{list_all}
 use Rattle.task_core.specs.Conditions.{ids_below}
-use Rattle.condition_parts.proofs.Among.{HasFalseAmong}
-use Rattle.condition_parts.proofs.parts.+add_false_parts.Given as goal
+use Rattle.counterexamples.proofs.Among.{HasFalseAmong}
+use Rattle.counterexamples.proofs.parts.+add_false_parts.Given as goal
 
 abbrev pub decreases-add_false_parts : goal.decreases-add_false_parts
 decreases-add_false_parts l = goal.size-add_false_parts l

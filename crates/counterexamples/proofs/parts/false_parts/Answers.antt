@@ -2,8 +2,8 @@ use Rattle.std.proofs.Common.{◌≡◌, ◌++◌, List, map, sym, ap, ◌∙◌
 use Rattle.std.specs.List.{All}
 use Rattle.list_laws.proofs.Elements.{All-unmap}
 use Rattle.task_core.specs.declared.conditions.Cond.{Cond}
-use Rattle.condition_parts.specs.Parts.{IsFalsePart}
-use Rattle.condition_parts.proofs.parts.false_parts.Goals as goal
+use Rattle.counterexamples.specs.Parts.{IsFalsePart}
+use Rattle.counterexamples.proofs.parts.false_parts.Goals as goal
 
 pub returns-clause-each : goal.returns-clause-each
 returns-clause-each c =

@@ -1,6 +1,6 @@
 use Rattle.std.proofs.Common.{sym, ◌∙◌}
-use Rattle.condition_parts.proofs.Among.{among_all, among_more, among_none, begun_below, itself_true, rest_below}
-use Rattle.condition_parts.proofs.parts.+add_false_parts.Goals as goal
+use Rattle.counterexamples.proofs.Among.{among_all, among_more, among_none, begun_below, itself_true, rest_below}
+use Rattle.counterexamples.proofs.parts.+add_false_parts.Goals as goal
 
 pub returns-then-cond_holds : goal.returns-then-cond_holds
 returns-then-cond_holds t c = itself_true c.args.cond.now c.args.state.now _ (sym c.cond_holds.ensures.value ∙ c.if-cond_holds.true)

@@ -16,7 +16,7 @@ ghost use Rattle.std.specs.Prelude.{
   map,
 };
 ghost use Rattle.task_core.specs.Conditions.{holds_in, ids_below};
-ghost use Rattle.condition_parts.specs.Parts.{HasFalseParts, IsFalsePart};
+ghost use Rattle.counterexamples.specs.Parts.{HasFalseParts, IsFalsePart};
 
 use std::alloc::{AllocError, Global};
 use task_core::{Cond, State, cond_holds};
