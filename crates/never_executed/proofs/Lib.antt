@@ -1,1 +1,2 @@
 mod FormulaParts
+pub mod Lacking

@@ -1,6 +1,6 @@
 -- Parts of a condition that can't hold, by their numbers.
 use Rattle.std.specs.Prelude.{◌≡◌, ℕ, List, Some, false, slice_get, true}
-use Rattle.never_reasons.specs.Blocked.{conjuncts}
+use Rattle.never_executed.specs.Blocked.{conjuncts}
 use Rattle.relaxed_reach.specs.Literals.{LiteralSet, can_be}
 use Rattle.task_core.specs.declared.conditions.Cond.{Cond}
 

@@ -6,12 +6,23 @@
 //! executed, or not.
 #![tactic(auto)]
 
+mod blocked;
 mod causes;
 mod facts;
 mod finding;
 mod goals;
+mod makers;
 mod parts;
+mod queue;
+mod relaxed;
+mod texts;
 
 pub use causes::Cause;
 pub use finding::{NeverRun, Setup, never_run};
 pub use goals::{GoalNever, goal_never};
+pub use blocked::{parts_of, push_blocked};
+pub use makers::{Maker, lacks_of, makers_of};
+pub use queue::never_literals;
+pub use relaxed::Relaxed;
+pub use state_text::push_parts;
+pub use texts::push_reasons;

@@ -6,7 +6,7 @@ ghost use Rattle.std.specs.List.{list_all};
 ghost use Rattle.std.specs.Prelude.{◌≡◌, ◌∷◌, [], IsTrue, true};
 ghost use Rattle.task_core.specs.Conditions.{ids_below};
 
-use never_reasons::parts_of;
+use crate::blocked::parts_of;
 use relaxed_reach::{Literals, can_be};
 use task_core::Cond;
 

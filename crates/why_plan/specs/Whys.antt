@@ -5,8 +5,8 @@ use Rattle.command_base.specs.Answers.{Answer, Refusal, affirmed, denied, full, 
 use Rattle.command_base.specs.Grounding.{GoalThen, GroundThen}
 use Rattle.command_base.specs.PddlTexts.{ReadBoth}
 use Rattle.command_base.specs.Words.{Bytes, PlanKind, PlanWords, kind_word, of_class, with_contexts}
-use Rattle.never_reasons.specs.Blocked.{AreNever, blocked}
-use Rattle.never_reasons.specs.Texts.{conditions_text, reasons_text}
+use Rattle.never_executed.specs.Blocked.{AreNever, blocked}
+use Rattle.never_executed.specs.Texts.{conditions_text, reasons_text}
 use Rattle.pddl_ast.specs.Trees.{DomainTree, ProblemTree}
 use Rattle.pddl_system.specs.Systems.{system}
 use Rattle.pddl_system.specs.Tasks.{task_of}

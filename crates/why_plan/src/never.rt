@@ -2,12 +2,12 @@
 
 ghost use Rattle.std.specs.Prelude.{◌≡◌, ◌++◌, IfOk, IfSome, Some, codes, false, string_bytes, true};
 ghost use Rattle.command_base.specs.Answers.{denied};
-ghost use Rattle.never_reasons.specs.Blocked.{AreNever};
+ghost use Rattle.never_executed.specs.Blocked.{AreNever};
 ghost use Rattle.relaxed_reach.specs.Literals.{can_be as can_have, has};
 ghost use Rattle.task_core.specs.Conditions.{ids_below};
 ghost use Rattle.why_plan.specs.Whys.{IsNever, never_text as text_of};
 
-use never_reasons::{Relaxed, never_literals, push_blocked, push_parts, push_reasons};
+use never_executed::{Relaxed, never_literals, push_blocked, push_parts, push_reasons};
 use relaxed_reach::{can_be, reached_literals};
 use std::alloc::{AllocError, Global};
 use task_core::{Cond, Lit, Task};

@@ -1,0 +1,7 @@
+-- Each literal so far is never true.
+use Rattle.relaxed_reach.specs.Literals.{has}
+use Rattle.never_executed.specs.Blocked.{AreNever}
+use Rattle.never_executed.proofs.queue.add_needed.Given as goal
+
+abbrev pub invariant-loop-number : goal.invariant-loop-number
+invariant-loop-number l = AreNever (has l.relaxed.literals.now) l.lits.items

@@ -1,7 +1,0 @@
--- Each literal so far is never true.
-use Rattle.relaxed_reach.specs.Literals.{has}
-use Rattle.never_reasons.specs.Blocked.{AreNever}
-use Rattle.never_reasons.proofs.queue.never_literals.Given as goal
-
-abbrev pub invariant-loop-place : goal.invariant-loop-place
-invariant-loop-place l = AreNever (has l.relaxed.literals.now) l.lits.items

@@ -1,4 +1,0 @@
-pub mod Blocked
-pub mod Makers
-pub mod Texts
-pub mod Values

@@ -1,6 +1,0 @@
--- Private: what the code's own types stand for.
-use Rattle.never_reasons.specs.Makers.{MakerPlace}
-use Rattle.never_reasons.specs.declared.makers.Maker.{Maker}
-
-abbrev pub maker_value : Maker → MakerPlace
-maker_value maker = record { action = maker.action.0; outcome = maker.outcome }
