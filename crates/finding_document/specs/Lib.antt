@@ -1,2 +1,2 @@
 pub mod Documents
-pub mod Values
+pub mod FindingValues

@@ -5,7 +5,7 @@ ghost use Rattle.finding_document.specs.Documents.{
   longest_data,
   stays_data,
 };
-ghost use Rattle.finding_document.specs.Values.{besides_value};
+ghost use Rattle.finding_document.specs.FindingValues.{besides_value};
 ghost use Rattle.plan_document.specs.Data.{count_data, list_data};
 ghost use Rattle.counterexamples.specs.Values.{
   finding_value,

@@ -6,7 +6,7 @@ ghost use Rattle.finding_document.specs.Documents.{
   told_object as object_of,
   told_of as told_data,
 };
-ghost use Rattle.finding_document.specs.Values.{besides_value, told_value};
+ghost use Rattle.finding_document.specs.FindingValues.{besides_value, told_value};
 ghost use Rattle.plan_document.specs.Data.{count_data};
 ghost use Rattle.counterexamples.specs.Texts.{Source as PlainSource};
 ghost use Rattle.counterexamples.specs.Values.{

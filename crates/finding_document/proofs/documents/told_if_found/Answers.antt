@@ -3,7 +3,7 @@ use Rattle.task_core.specs.Tasks.{fluent_count}
 use Rattle.counterexamples.specs.Values.{run_found_value, source_value}
 use Rattle.counterexamples.specs.declared.findings.Found.{Found}
 use Rattle.finding_document.specs.Documents.{told_of}
-use Rattle.finding_document.specs.Values.{told_value}
+use Rattle.finding_document.specs.FindingValues.{told_value}
 use Rattle.finding_document.proofs.documents.told_if_found.Goals as goal
 
 pub returns-in-None : goal.returns-in-None
