@@ -4,3 +4,5 @@ mod Explaining
 mod Fairness
 mod Finding
 mod Said
+mod Changed
+mod NoFloats

@@ -12,7 +12,7 @@ use Rattle.command_base.specs.PlanFiles.{IsFaultyPlan, KindThen}
 use Rattle.command_base.specs.Reading.{ReadThen}
 use Rattle.command_base.specs.Words.{Bytes}
 use Rattle.ctl_syntax.specs.declared.goals.Ctl.{Ctl}
-use Rattle.finding_document.specs.Documents.{document_text}
+use Rattle.explain_plan.specs.Documents.{document_text}
 use Rattle.pddl_ast.specs.Trees.{DomainTree, ProblemTree}
 use Rattle.pddl_system.specs.CtlGoals.{ctl_goal_of, goal_value}
 use Rattle.pddl_system.specs.Systems.{action_names, fluent_names, system}

@@ -5,3 +5,5 @@ pub mod Lined
 pub mod Runs
 pub mod Values
 pub mod Words
+pub mod Documents
+pub mod FindingValues

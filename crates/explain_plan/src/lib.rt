@@ -6,11 +6,15 @@
 //! is told of a verdict, `Explained` the answer, and `Runs` a run of the program with its cause.
 #![tactic(auto)]
 
+mod besides;
 mod commands;
+mod documents;
 mod fairly;
 mod findings;
 mod lined;
+mod parts;
 mod shown;
+mod steps;
 mod top;
 mod verdicts;
 mod words;

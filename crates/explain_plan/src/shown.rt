@@ -15,7 +15,7 @@ ghost use Rattle.task_core.specs.Tasks.{action_count, fluent_count};
 
 use check_command::show_verdict;
 use command_base::{Shown, Text};
-use finding_document::finding_document;
+use crate::documents::finding_document;
 use plan_check::{Reason, Verdict};
 use counterexamples::{Finding, Source, finding_text};
 use plan_rules::push_number;
