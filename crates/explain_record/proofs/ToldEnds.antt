@@ -2,7 +2,7 @@
 use Rattle.std.proofs.Common.{◌≡◌, Option, ℕ, List, None, Some, sym, ap}
 use Rattle.command_base.specs.Words.{Bytes}
 use Rattle.plan_rules.specs.Rules.{ContextRule}
-use Rattle.recorded_run.specs.RecordedRuns.{IsStop, Stop, most_made, no_outcome, not_executable, plan_ends, record_ends}
+use Rattle.trace.specs.RecordedRuns.{IsStop, Stop, most_made, no_outcome, not_executable, plan_ends, record_ends}
 use Rattle.run_replay.specs.Traces.{Ending}
 use Rattle.task_core.specs.Vectors.{Vector}
 use Rattle.task_core.specs.declared.tasks.Task.{Task}

@@ -14,8 +14,8 @@ use Rattle.pddl_ast.specs.Trees.{DomainTree, ProblemTree}
 use Rattle.pddl_system.specs.Tasks.{task_of}
 use Rattle.pddl_system.specs.Values.{task_value}
 use Rattle.plan_io.specs.Held.{Held}
-use Rattle.recorded_run.specs.RecordedRuns.{IsRecordedRun, PlainRecorded}
-use Rattle.recorded_run.specs.Texts.{recorded_text}
+use Rattle.trace.specs.RecordedRuns.{IsRecordedRun, PlainRecorded}
+use Rattle.trace.specs.Texts.{recorded_text}
 use Rattle.replay_command.specs.ReplayCommand.{FirstThen, IsFaultyRecord}
 use Rattle.run_replay.specs.Records.{RecordTree, SpellsRecord}
 use Rattle.run_replay.specs.Traces.{Capped, Ended, Ending, Stray, Terminal, Unexecutable}

@@ -1,8 +1,8 @@
 -- Private: the answer that a run is told by.
 use Rattle.command_base.specs.Answers.{Answer, affirmed, denied}
 use Rattle.command_base.specs.Words.{Bytes}
-use Rattle.recorded_run.specs.RecordedRuns.{Stop, most_made, no_outcome, not_executable, plan_ends}
-use Rattle.recorded_run.specs.RecordedRuns.{record_ends}
+use Rattle.trace.specs.RecordedRuns.{Stop, most_made, no_outcome, not_executable, plan_ends}
+use Rattle.trace.specs.RecordedRuns.{record_ends}
 
 -- Private: the answer with this text for a run that stops so
 abbrev pub answer_at : Bytes → Stop → Answer

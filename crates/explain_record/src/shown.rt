@@ -9,7 +9,7 @@ ghost use Rattle.explain_plan.specs.Values.{lined_of};
 ghost use Rattle.explain_record.specs.Values.{answer_at};
 ghost use Rattle.pddl_ast.specs.Values.{problem_value};
 ghost use Rattle.plan_rules.specs.Plans.{IsPlanOf};
-ghost use Rattle.recorded_run.specs.Values.{stop_value};
+ghost use Rattle.trace.specs.Values.{stop_value};
 ghost use Rattle.replay_command.specs.ReplayCommand.{FirstThen};
 ghost use Rattle.run_replay.specs.Records.{record_value};
 ghost use Rattle.std.specs.Prelude.{◌≡◌, ◌⊎◌, IfOk};
@@ -20,7 +20,7 @@ ghost use Rattle.task_core.specs.Initials.{HasTooManyInitial};
 use crate::commands::RunRequest;
 use command_base::{Refusal, Shown, Text};
 use counterexamples::Source;
-use recorded_run::{Stop, recorded_run, recorded_text};
+use trace::{Stop, trace, recorded_text};
 use replay_command::{ReplayRequest, first_state};
 use run_replay::Recorded;
 use std::alloc::{AllocError, Global};
@@ -84,7 +84,7 @@ fn told_run(
         (vector (fluent_count task) first.now) (shown_of shown)) }
 {
     let plan = &request.lined.read.plan;
-    let made = recorded_run(alloc, request.task, plan, first, &recorded.words)?;
+    let made = trace(alloc, request.task, plan, first, &recorded.words)?;
     let source = Source {
         task: request.task,
         plan,

@@ -3,9 +3,9 @@ use Rattle.std.specs.Prelude.{Vec}
 use Rattle.std.specs.declared.alloc.Global.{Global}
 use Rattle.explain_plan.specs.Explained.{source_in}
 use Rattle.plan_rules.specs.Rules.{plain_of}
-use Rattle.recorded_run.specs.RecordedRuns.{IsRecordedRun}
-use Rattle.recorded_run.specs.Texts.{recorded_text}
-use Rattle.recorded_run.specs.Values.{run_value, stop_value}
+use Rattle.trace.specs.RecordedRuns.{IsRecordedRun}
+use Rattle.trace.specs.Texts.{recorded_text}
+use Rattle.trace.specs.Values.{run_value, stop_value}
 use Rattle.task_core.specs.States.{vector}
 use Rattle.task_core.specs.Tasks.{fluent_count}
 use Rattle.explain_record.specs.Values.{answer_at}

@@ -1,8 +1,0 @@
-use Rattle.std.specs.Prelude.{◌≡◌, map, take}
-use Rattle.plan_rules.specs.Rules.{context_rule_of}
-use Rattle.recorded_run.specs.Indexed.{run_rule_value}
-use Rattle.recorded_run.proofs.rules.context_rules.Given as goal
-
--- the rules so far
-abbrev pub invariant-loop-rule : goal.invariant-loop-rule
-invariant-loop-rule l = map run_rule_value l.made.items ≡ map context_rule_of (take l.rule-index l.rules)

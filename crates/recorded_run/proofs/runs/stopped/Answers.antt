@@ -1,5 +1,0 @@
-use Rattle.recorded_run.proofs.Courses.{recorded}
-use Rattle.recorded_run.proofs.runs.stopped.Goals as goal
-
-pub returns : goal.returns
-returns c = λ plan first words has. recorded c.args.task.now plan first words c.args.halted c.in_ok-stop.stop c.in_ok-stop.ensures has
