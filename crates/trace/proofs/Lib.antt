@@ -3,3 +3,4 @@ mod Courses
 mod Pushed
 mod Turned
 mod Stopping
+mod Replays

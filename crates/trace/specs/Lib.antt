@@ -4,3 +4,4 @@ pub mod RecordedRuns
 pub mod Texts
 pub mod Values
 pub mod Turns
+pub mod Replayed

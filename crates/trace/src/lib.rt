@@ -5,6 +5,7 @@
 //! the rules' cubes (`rules`), one turn is made in `turns`, and what is false at the end in `stops`.
 #![tactic(auto)]
 
+mod laws;
 mod rules;
 mod runs;
 mod stops;

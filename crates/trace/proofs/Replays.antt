@@ -22,7 +22,7 @@ use Rattle.plan_witness.specs.Runs.{IsByOutcome, IsContextStep, IsRunOf, IsTable
 use Rattle.plan_witness.proofs.Counting.{counting_at}
 use Rattle.plan_witness.proofs.Taken.{number_outcome}
 use Rattle.run_replay.specs.Traces.{Capped, Ended, Ending, Ends, Goes, Terminal, Trace, TraceStep, Unexecutable, acting, after_step, choosing, most_steps, outcome_state, run_plan, stepping, trace_from, turn}
-use Rattle.replayed_runs.specs.Replayed.{RecordsAreReplayed, as_traced, recorded}
+use Rattle.trace.specs.Replayed.{RecordsAreReplayed, as_traced, recorded}
 
 is_below : (a b : ℕ) → a < b → nat_lt a b ≡ true
 is_below a b l = grind (arith, nat_tests)
