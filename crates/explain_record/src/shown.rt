@@ -20,7 +20,7 @@ ghost use Rattle.task_core.specs.Initials.{HasTooManyInitial};
 use crate::commands::RunRequest;
 use command_base::{Refusal, Shown, Text};
 use counterexamples::Source;
-use trace::{Stop, trace, recorded_text};
+use trace::{Stop, recorded_run, recorded_text};
 use replay_command::{ReplayRequest, first_state};
 use run_replay::Recorded;
 use std::alloc::{AllocError, Global};
@@ -84,7 +84,7 @@ fn told_run(
         (vector (fluent_count task) first.now) (shown_of shown)) }
 {
     let plan = &request.lined.read.plan;
-    let made = trace(alloc, request.task, plan, first, &recorded.words)?;
+    let made = recorded_run(alloc, request.task, plan, first, &recorded.words)?;
     let source = Source {
         task: request.task,
         plan,

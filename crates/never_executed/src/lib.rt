@@ -24,5 +24,4 @@ pub use blocked::{parts_of, push_blocked};
 pub use makers::{Maker, lacks_of, makers_of};
 pub use queue::never_literals;
 pub use relaxed::Relaxed;
-pub use state_text::push_parts;
 pub use texts::push_reasons;

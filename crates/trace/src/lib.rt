@@ -13,6 +13,6 @@ mod texts;
 mod turns;
 
 pub use rules::Counting;
-pub use runs::{MadeStep, RecordedRun, trace};
+pub use runs::{MadeStep, RecordedRun, recorded_run};
 pub use stops::Stop;
 pub use texts::recorded_text;

@@ -78,7 +78,7 @@ pub(crate) struct Halted {
 ///
 /// The plan's numbers are those of the task's fluents and actions, and the state has no true fluent past
 /// the task's. Fails only where memory runs out.
-pub fn trace<'a>(
+pub fn recorded_run<'a>(
     alloc: Global,
     task: &'a Task,
     plan: &Plan,

@@ -7,7 +7,8 @@ ghost use Rattle.relaxed_reach.specs.Literals.{can_be as can_have, has};
 ghost use Rattle.task_core.specs.Conditions.{ids_below};
 ghost use Rattle.why_plan.specs.Whys.{IsNever, never_text as text_of};
 
-use never_executed::{Relaxed, never_literals, push_blocked, push_parts, push_reasons};
+use never_executed::{Relaxed, never_literals, push_blocked, push_reasons};
+use state_text::push_parts;
 use relaxed_reach::{can_be, reached_literals};
 use std::alloc::{AllocError, Global};
 use task_core::{Cond, Lit, Task};
