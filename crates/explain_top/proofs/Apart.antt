@@ -7,9 +7,9 @@ use Rattle.std.proofs.lemmas.Str.Parse.{digit_at}
 use Rattle.command_base.specs.Words.{Bytes, PlanWords, ReplayWords}
 use Rattle.command_base.proofs.WordLists.{as_plain}
 use Rattle.answer_help.specs.CommonWords.{json_words}
-use Rattle.explain_record.specs.Words.{SaysRun}
-use Rattle.mistakes_command.specs.Words.{MistakesWords, SaysMistakes}
-use Rattle.why_plan.specs.Words.{SaysWhy}
+use Rattle.trace_command.specs.Words.{SaysRun}
+use Rattle.lint_command.specs.Words.{MistakesWords, SaysMistakes}
+use Rattle.why_command.specs.Words.{SaysWhy}
 
 -- a number's text begins with a digit
 no_number : (n : ℕ) → n < 2 ^ 64 → decimal n ≡ codes "--run" → ⊥

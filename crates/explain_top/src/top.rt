@@ -3,33 +3,33 @@
 ghost use Rattle.answer_help.specs.Keeping.{KeepsAfter, faults_by, held_by, kept_in};
 ghost use Rattle.command_base.specs.Delivery.{seen};
 ghost use Rattle.command_base.specs.Words.{PlanWords as AskedPlan, ReplayWords as AskedRun};
-ghost use Rattle.explain_plan.specs.Runs.{HasExplained};
-ghost use Rattle.explain_record.specs.Runs.{HasTold};
-ghost use Rattle.explain_record.specs.Words.{AskNothing as AskNoRun, SaysRun};
-ghost use Rattle.mistakes_command.specs.Runs.{HasMistakes};
-ghost use Rattle.mistakes_command.specs.Words.{
+ghost use Rattle.explain_command.specs.Runs.{HasExplained};
+ghost use Rattle.trace_command.specs.Runs.{HasTold};
+ghost use Rattle.trace_command.specs.Words.{AskNothing as AskNoRun, SaysRun};
+ghost use Rattle.lint_command.specs.Runs.{HasMistakes};
+ghost use Rattle.lint_command.specs.Words.{
   AskNothing as AskNoMistakes,
   MistakesWords as AskedMistakes,
   SaysMistakes,
 };
 ghost use Rattle.std.specs.Prelude.{◌≡◌, [], map, string_bytes};
-ghost use Rattle.why_plan.specs.Runs.{HasWhy};
-ghost use Rattle.why_plan.specs.Words.{AskNothing as AskNoReason, SaysWhy};
+ghost use Rattle.why_command.specs.Runs.{HasWhy};
+ghost use Rattle.why_command.specs.Words.{AskNothing as AskNoReason, SaysWhy};
 
 use answer_help::KeepingShelf;
-use explain_plan::explain;
-use explain_record::{asks_run, tell};
-use mistakes_command::{asks_mistakes, mistakes};
+use explain_command::explain;
+use trace_command::{asks_run, tell};
+use lint_command::{asks_mistakes, mistakes};
 use plan_io::{Shelf, Sink};
 use std::alloc::Global;
-use why_plan::{says_why, why};
+use why_command::{says_why, why};
 
 /// Does what the words ask for, writes the answer, and gives the exit status.
 ///
 /// The words `CLASS DOMAIN PROBLEM` and `ctl DOMAIN PROBLEM`, with `--nodes N` or nothing after them,
-/// are those of `why_plan::why`. The words `DOMAIN PROBLEM`, with `--json` or nothing after them, are
-/// those of `mistakes_command::mistakes`. The words `DOMAIN PROBLEM PLAN RECORD --run` are those of
-/// `explain_record::tell`. All others are those of `explain_plan::explain`.
+/// are those of `why_command::why`. The words `DOMAIN PROBLEM`, with `--json` or nothing after them, are
+/// those of `lint_command::mistakes`. The words `DOMAIN PROBLEM PLAN RECORD --run` are those of
+/// `trace_command::tell`. All others are those of `explain_command::explain`.
 pub fn explain_words<S: Shelf, O: Sink, E: Sink>(
     alloc: Global,
     words: &[String],

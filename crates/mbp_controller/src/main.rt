@@ -1,10 +1,10 @@
 //! The program `mbp_controller`: its words, the real files and the standard streams, handed to
-//! `controller_plan::control`.
+//! `control_command::control`.
 #![tactic(auto)]
 
 use answer_help::KeepingShelf;
 use command_base::{NO_MEMORY, command_words};
-use controller_plan::control;
+use control_command::control;
 use plan_io::{DiskShelf, StdSink};
 use std::io;
 use std::process::ExitCode;

@@ -1,10 +1,10 @@
 //! The program `mbp_picture`: its words, the real files and the standard streams, handed to
-//! `picture_plan::picture`.
+//! `draw_command::picture`.
 #![tactic(auto)]
 
 use answer_help::KeepingShelf;
 use command_base::{NO_MEMORY, command_words};
-use picture_plan::picture;
+use draw_command::picture;
 use plan_io::{DiskShelf, StdSink};
 use std::io;
 use std::process::ExitCode;

@@ -1,0 +1,172 @@
+-- What follows from a run that has its cause.
+use Rattle.std.proofs.Common.{◌≡◌, ◌⊎◌, ℕ, Bool, true, false, List, inl, inr, refl, sym, subst, ap, ◌∙◌, arith}
+use Rattle.std.specs.Io.KnownBytes.{append_known}
+use Rattle.pddl_ast.specs.Trees.{DomainTree, ProblemTree}
+use Rattle.pddl_system.specs.Systems.{system}
+use Rattle.plan_io.specs.Fetches.{FailedLast}
+use Rattle.plan_io.specs.Held.{Held}
+use Rattle.command_base.specs.Answers.{Answer, affirmed, denied, is_shown, no_memory, refused, status_of, text_of}
+use Rattle.command_base.specs.Delivery.{Seen}
+use Rattle.command_base.specs.Grounding.{GroundThen}
+use Rattle.command_base.specs.InitialStates.{empty_init}
+use Rattle.command_base.specs.PddlTexts.{HoldBoth}
+use Rattle.plan_command.specs.PlanCommand.{HasNoPlan, IsNoPlanText, IsPlanResult, IsResultOf}
+use Rattle.plan_meets.specs.Meets.{pairs}
+use Rattle.plan_certs.proofs.PrintedLemmas.{printed_accepted, printed_class}
+use Rattle.pddl_system.proofs.States.{they_have_a_system}
+use Rattle.task_core.specs.Solutions.{HasNoSolution}
+use Rattle.std.proofs.lemmas.Bool.{true≢false}
+use Rattle.command_base.specs.Words.{Bytes, MayBeCertified, PlanKind, of_class, with_contexts}
+use Rattle.command_base.proofs.Initials.{shown_initial}
+use Rattle.command_base.proofs.PddlDecides.{ReadFor, not_refused, shown_both, shown_goal, shown_grounded}
+use Rattle.command_base.proofs.Statuses.{shown_at}
+use Rattle.answer_help.specs.Helped.{IsHelpedDelivery}
+use Rattle.control_command.specs.Controllers.{ControlThen, IsControlAnswer, IsControlled, IsControllerShown, IsNoPlanShown}
+use Rattle.control_command.specs.Laws.{IsControllerRun, IsNoPlanRun}
+use Rattle.control_words.specs.FairWords.{ControlRequest, to_plan}
+use Rattle.control_command.specs.Runs.{ControlRun, HasControlCause, HasControlled, IsRequestAnswer}
+use Rattle.control_words.specs.Words.{ControlWords, SaysControl}
+use Rattle.control_command.proofs.Answers.{denied_affirms_nothing}
+use Rattle.control_words.proofs.OneAsked.{one_request}
+
+-- the trees that the files spell, and what follows for a shown answer
+pub record ShownFor (held : Bytes → Held) (asked : ControlWords) (a : Answer) : Type 0 where
+  pub domain : DomainTree
+  pub problem : ProblemTree
+  pub both : HoldBoth held asked.plan.domain asked.plan.problem domain problem
+  pub then : ControlThen asked domain problem a
+
+shown_read : (held : Bytes → Held) (asked : ControlWords) (a : Answer) → is_shown a ≡ true
+    → ReadFor held asked.plan.domain asked.plan.problem (IsControlled asked) a → ShownFor held asked a
+shown_read held asked a shown read =
+    let d = read.domain in
+    let p = read.problem in
+    record {
+      domain = d;
+      problem = p;
+      both = read.both;
+      then = (shown_grounded d p (ControlThen asked d p) a shown
+          (shown_goal asked.plan.kind asked.plan.problem p (GroundThen d p (ControlThen asked d p)) a shown read.result)).1;
+    }
+
+shown_answer : (held : Bytes → Held) (failed : Bytes → Type 0) (asked : ControlWords) (a : Answer) → is_shown a ≡ true
+    → (a ≡ refused no_memory) ⊎ IsControlAnswer held failed asked a → ShownFor held asked a
+shown_answer held failed asked a shown (inl is) = absurd (not_refused no_memory a is shown)
+shown_answer held failed asked a shown (inr (inl (may, is))) = absurd (not_refused _ a is shown)
+shown_answer held failed asked a shown (inr (inr read)) =
+    shown_read held asked a shown (shown_both held failed asked.plan.domain asked.plan.problem (IsControlled asked) a shown read)
+
+shown_cause : (held : Bytes → Held) (failed : Bytes → Type 0) (words : List Bytes) (asked : ControlWords) (a : Answer) → is_shown a ≡ true → SaysControl words asked
+    → HasControlCause held failed words a → ShownFor held asked a
+shown_cause held failed words asked a shown says (inl (nothing, is)) = absurd (nothing (to_plan asked) says)
+shown_cause held failed words asked a shown says (inr (other, said, why)) =
+    shown_answer held failed asked a shown
+    (subst (λ (k : ControlRequest). (a ≡ refused no_memory) ⊎ IsRequestAnswer held failed k a) (one_request words other (to_plan asked) said says) why)
+
+-- an answer with status 0 affirms, and one with status 1 denies
+pub affirms : (a : Answer) → is_shown a ≡ true → status_of a ≡ 0 → (text : Bytes) × (a ≡ affirmed text)
+affirms (affirmed text) shown zero = (text, refl)
+affirms (denied text) shown one = absurd (omega (arith, one))
+affirms (refused refusal) shown zero = absurd (cc shown)
+
+pub denies : (a : Answer) → is_shown a ≡ true → status_of a ≡ 1 → (text : Bytes) → a ≡ affirmed text → ⊥
+denies a shown one text is = let e : 0 ≡ 1 = ap status_of (sym is) ∙ one in omega (arith, e)
+
+-- an answer that was delivered whole with its help has its status, and where it is shown its text was
+-- written
+pub record Written (a : Answer) (out out' : Seen) (status : ℕ) : Type 0 where
+  pub is : status ≡ status_of a
+  pub text : is_shown a ≡ true → out'.written ≡ append_known out.written (text_of a)
+
+pub delivered_whole : (help : Bytes) (a : Answer) (out out' err err' : Seen) (status : ℕ) → IsHelpedDelivery help a out out' err err' status → (status ≡ 7 → ⊥) → Written a out out' status
+delivered_whole help a out out' err err' status (inl (is, inl showed)) not = record { is = is; text = λ shown. showed.output.written }
+delivered_whole help a out out' err err' status (inl (is, inr line)) not = record { is = is; text = λ shown. absurd (true≢false (sym shown ∙ line.unshown)) }
+delivered_whole help a out out' err err' status (inr (is, cut)) not = absurd (not is)
+
+-- what is written of a controller
+pub as_written : (text : Bytes) (a : Answer) (out out' : Seen) → a ≡ affirmed text
+    → out'.written ≡ append_known out.written (text_of a) → out'.written ≡ append_known out.written text
+as_written text a out out' is written = written ∙ ap (λ (b : Answer). append_known out.written (text_of b)) is
+
+-- a controller is shown where the answer affirms
+controller_for : (asked : ControlWords) (d : DomainTree) (p : ProblemTree) (a : Answer) (text : Bytes) → a ≡ affirmed text → is_shown a ≡ true
+    → ControlThen asked d p a → IsControllerShown asked d p a
+controller_for asked d p a text is shown (inl controller) = controller
+controller_for asked d p a text is shown (inr (inl (name, is_name, refused_is))) = absurd (not_refused _ a refused_is shown)
+controller_for asked d p a text is shown (inr (inr (inl refuted))) = absurd (denied_affirms_nothing refuted.text text (sym refuted.shown ∙ is))
+controller_for asked d p a text is shown (inr (inr (inr (plan, none)))) = absurd (none text is)
+
+-- what is told where there is no plan
+pub record MissingFor (asked : ControlWords) (d : DomainTree) (p : ProblemTree) (a : Answer) : Type 0 where
+  pub text : Bytes
+  pub shown : a ≡ denied text
+  pub none : HasNoPlan asked.plan.kind d p
+  pub told : IsNoPlanShown asked.plan.certified asked.plan.kind d p text
+
+-- what `plan` tells where there is none
+told_by_plan : (certified : Bool) (kind : PlanKind) (d : DomainTree) (p : ProblemTree) (text : Bytes) → MayBeCertified kind certified → HasNoPlan kind d p → IsNoPlanText certified kind d p text
+    → IsNoPlanShown certified kind d p text
+told_by_plan false (of_class class) d p text may none is = is
+told_by_plan false with_contexts d p text may none is = is
+told_by_plan true (of_class class) d p text may none is =
+    let none_solves : HasNoSolution class (system d p) = λ rows table solves. none (pairs rows) (table, solves) in
+    record {
+      certificate = is.certificate;
+      of_class = ap of_class (sym (printed_class class (system d p) is.certificate is.printed));
+      accepted = printed_accepted class (system d p) is.certificate (they_have_a_system d p) is.printed none_solves;
+      spelled = is.spelled;
+      written = is.written;
+    }
+told_by_plan true with_contexts d p text may none is = absurd (true≢false may)
+
+plan_missing : (asked : ControlWords) (d : DomainTree) (p : ProblemTree) (a : Answer) → MayBeCertified asked.plan.kind asked.plan.certified → ((text : Bytes) → a ≡ affirmed text → ⊥)
+    → IsPlanResult asked.plan.certified asked.plan.kind d p a → MissingFor asked d p a
+plan_missing asked d p a may none (inl found) = absurd (none found.text found.shown)
+plan_missing asked d p a may none (inr missing) = record {
+  text = missing.text;
+  shown = missing.shown;
+  none = missing.none;
+  told = told_by_plan asked.plan.certified asked.plan.kind d p missing.text may missing.none missing.written;
+}
+
+-- after the initial states, of a class and with contexts
+result_missing : (kind : PlanKind) (certified : Bool) (name : Bytes) (d : DomainTree) (p : ProblemTree) (a : Answer) → is_shown a ≡ true → IsResultOf certified kind name d p a → IsPlanResult certified kind d p a
+result_missing (of_class class) certified name d p a shown result = shown_initial (empty_init name p) (system d p).initial (IsPlanResult certified (of_class class) d p) a shown result
+result_missing with_contexts certified name d p a shown (inl (no_chain, is)) = absurd (not_refused _ a is shown)
+result_missing with_contexts certified name d p a shown (inr (chain, is_chain, inl (many, is))) = absurd (not_refused _ a is shown)
+result_missing with_contexts certified name d p a shown (inr (chain, is_chain, inr (few, result))) =
+    shown_initial (empty_init name p) (system d p).initial (IsPlanResult certified with_contexts d p) a shown result
+
+missing_for : (asked : ControlWords) (d : DomainTree) (p : ProblemTree) (a : Answer) → MayBeCertified asked.plan.kind asked.plan.certified → is_shown a ≡ true → ((text : Bytes) → a ≡ affirmed text → ⊥)
+    → ControlThen asked d p a → MissingFor asked d p a
+missing_for asked d p a may shown none (inl controller) = absurd (none _ controller.shown)
+missing_for asked d p a may shown none (inr (inl (name, is_name, is))) = absurd (not_refused _ a is shown)
+missing_for asked d p a may shown none (inr (inr (inl refuted))) = record { text = refuted.text; shown = refuted.shown; none = refuted.none; told = refuted.told }
+missing_for asked d p a may shown none (inr (inr (inr (plan, nothing)))) =
+    plan_missing asked d p a may none (result_missing asked.plan.kind asked.plan.certified asked.plan.problem d p a shown plan)
+
+module _ {S : Type 0} (held : S → Bytes → Held) (faults : S → ℕ) (fetched : S → Bytes → S → Type 0) (run : ControlRun S) (has : HasControlled held faults fetched run) where
+  abbrev failed : Bytes → Type 0
+  failed = FailedLast fetched faults run.shelf run.shelf_after
+
+  pub controller_run : IsControllerRun held run
+  controller_run asked says zero =
+      let a = has.answer in
+      let whole = delivered_whole has.help a run.out run.out_after run.err run.err_after run.status has.delivered (λ seven. let e : 0 ≡ 7 = sym zero ∙ seven in omega (arith, e)) in
+      let code : status_of a ≡ 0 = sym whole.is ∙ zero in
+      let shown = shown_at a (inl code) in
+      let found = shown_cause (held run.shelf) failed run.words asked a shown says has.cause in
+      let text = affirms a shown code in
+      let controller = controller_for asked found.domain found.problem a text.0 text.1 shown found.then in
+      (found.domain, found.problem, controller.plan, controller.steps, controller.bytes, found.both, controller.text, controller.guarded, controller.shown_as, as_written _ a run.out run.out_after controller.shown (whole.text shown))
+
+  pub no_plan_run : IsNoPlanRun held run
+  no_plan_run asked says one =
+      let a = has.answer in
+      let whole = delivered_whole has.help a run.out run.out_after run.err run.err_after run.status has.delivered (λ seven. let e : 1 ≡ 7 = sym one ∙ seven in omega (arith, e)) in
+      let code : status_of a ≡ 1 = sym whole.is ∙ one in
+      let shown = shown_at a (inr code) in
+      let found = shown_cause (held run.shelf) failed run.words asked a shown says has.cause in
+      let missing = missing_for asked found.domain found.problem a says.plan.for_class shown (denies a shown code) found.then in
+      let written = whole.text shown ∙ ap (λ (b : Answer). append_known run.out.written (text_of b)) missing.shown in
+      (found.domain, found.problem, missing.text, found.both, missing.none, missing.told, written)

@@ -1,0 +1,14 @@
+use Rattle.std.proofs.Common.{map, string_bytes}
+use Rattle.std.specs.declared.alloc.Global.{Global}
+use Rattle.control_words.specs.Values.{control_words_of}
+use Rattle.control_words.proofs.RequestLists.{fair_asked, fair_nothing}
+use Rattle.control_words.proofs.requests.fair_request.Goals as goal
+
+pub returns-in-Some-clause-said : goal.returns-in-Some-clause-said
+returns-in-Some-clause-said c = fair_asked (map (string_bytes {Z = Global}) c.args.words.now) (control_words_of c.in-Some.asked) c.in-Some.ensures.kind c.in-Some.ensures.said
+
+pub returns-in-Some-clause-room : goal.returns-in-Some-clause-room
+returns-in-Some-clause-room c = c.in-Some.ensures.said.says.says.room
+
+pub returns-in-None-clause-said : goal.returns-in-None-clause-said
+returns-in-None-clause-said c = fair_nothing (map (string_bytes {Z = Global}) c.args.words.now) c.in-None.ensures.said

@@ -1,5 +1,0 @@
-use Rattle.controller_plan.proofs.FairAnswers.{full_try}
-use Rattle.controller_plan.proofs.fair_search.search_fairly.Goals as goal
-
-pub returns-clause-full : goal.returns-clause-full
-returns-clause-full c is = full_try c.args.nodes c.args.task.now (c.search_in_tries.ensures.full is)

@@ -1,9 +1,0 @@
--- All states so far are states of the task.
-use Rattle.task_core.specs.Tasks.{fluent_count}
-use Rattle.controller_plan.specs.Followed.{AreReachedWithin}
-use Rattle.controller_plan.proofs.followed.Followed.add_outcomes.Given as goal
-
-abbrev pub invariant-loop-outcome : goal.invariant-loop-outcome
-invariant-loop-outcome l = record {
-  within : AreReachedWithin (fluent_count l.task) l.self.places.items;
-}

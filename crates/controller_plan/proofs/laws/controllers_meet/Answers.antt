@@ -1,5 +1,0 @@
-use Rattle.controller_plan.proofs.RunLaws.{controller_run}
-use Rattle.controller_plan.proofs.laws.controllers_meet.Goals as goal
-
-pub returns : goal.returns
-returns g c = λ run has. controller_run g.S.Shelf.held g.S.Shelf.faults g.S.Shelf.fetched run has

@@ -1,5 +1,0 @@
-use Rattle.controller_plan.proofs.Yes.{ok_holds}
-use Rattle.controller_plan.proofs.made.is_good.Goals as goal
-
-pub returns-clause-guarded : goal.returns-clause-guarded
-returns-clause-guarded c = ok_holds c.is_controller.result (c.is_guarded_if.ensures c.if-not-is_guarded_if.false)

@@ -1,6 +1,0 @@
--- The table keeps its variables.
-use Rattle.std.proofs.Common.{◌≡◌}
-use Rattle.dd_tests.proofs.operation_tests.start.Given as goal
-
-abbrev pub invariant-loop-v : goal.invariant-loop-v
-invariant-loop-v l = l.ops.vars ≡ l.initial.ops.vars

@@ -1,0 +1,130 @@
+-- Which answer explains the verdict on a plan.
+use Rattle.std.specs.Prelude.{◌≡◌, ◌++◌, ℕ, Bool, List, Option, None, Some, codes, decimal, false, true}
+use Rattle.std.specs.Option.{option_map}
+use Rattle.check_command.specs.CheckCommand.{ExploreThen, reason_word, verdict_answer}
+use Rattle.check_command.specs.Judged.{IsTaskVerdict}
+use Rattle.command_base.specs.Answers.{Answer, affirmed, denied, refused}
+use Rattle.command_base.specs.Following.{HasTooManyStates}
+use Rattle.command_base.specs.Grounding.{GoalThen, GroundThen}
+use Rattle.command_base.specs.InitialStates.{InitialThen, empty_init}
+use Rattle.command_base.specs.PddlTexts.{ReadBoth}
+use Rattle.command_base.specs.PlanFiles.{IsFaultyPlan, KindThen}
+use Rattle.command_base.specs.Reading.{ReadThen}
+use Rattle.command_base.specs.Words.{Bytes}
+use Rattle.ctl_syntax.specs.declared.goals.Ctl.{Ctl}
+use Rattle.explain_command.specs.Documents.{document_text}
+use Rattle.pddl_ast.specs.Trees.{DomainTree, ProblemTree}
+use Rattle.pddl_system.specs.CtlGoals.{ctl_goal_of, goal_value}
+use Rattle.pddl_system.specs.Systems.{action_names, fluent_names, system}
+use Rattle.pddl_system.specs.Tasks.{task_of}
+use Rattle.pddl_system.specs.Values.{task_value}
+use Rattle.plan_check.specs.declared.verdicts.Verdict.{Verdict}
+use Rattle.plan_check.specs.declared.verdicts.Verdict.TheVariants.{No, Yes}
+use Rattle.counterexamples.specs.ForVerdicts.{PlainFinding}
+use Rattle.counterexamples.specs.Texts.{Source, finding_text}
+use Rattle.plan_io.specs.Held.{Held}
+use Rattle.plan_rules.specs.Rules.{PlainPlan}
+use Rattle.task_core.specs.Tasks.{action_names as actions_in, fluent_names as fluents_in, system_of}
+use Rattle.task_core.specs.declared.tasks.Task.{Task}
+use Rattle.explain_command.specs.Fairly.{FairThen, IsGoalFor, IsJudgedAs}
+use Rattle.explain_command.specs.Findings.{IsFindingFor, IsShownFor}
+use Rattle.explain_command.specs.Lined.{LinedPlan, SpellsLined}
+use Rattle.explain_command.specs.Words.{ExplainWords}
+
+-- an answer with more text after it
+abbrev pub with_more : Answer → Bytes → Answer
+with_more (affirmed text) more = affirmed (text ++ more)
+with_more (denied text) more = denied (text ++ more)
+with_more (refused refusal) more = refused refusal
+
+-- an answer with another text
+abbrev pub with_text : Answer → Bytes → Answer
+with_text (affirmed old) text = affirmed text
+with_text (denied old) text = denied text
+with_text (refused refusal) text = refused refusal
+
+-- the words of a verdict: the line of `check` without its line feed
+abbrev pub verdict_words : Verdict → Bytes
+verdict_words (Yes None) = codes "yes"
+verdict_words (Yes (Some bound)) = codes "yes bound " ++ decimal bound
+verdict_words (No reason) = codes "no " ++ reason_word reason
+
+-- what names and lines are taken from
+abbrev pub source_in : Task → PlainPlan → List ℕ → Source
+source_in task plan lines =
+    record { fluents = fluents_in task; actions = actions_in task; plan = plan; lines = lines }
+
+-- what is shown of a verdict and what is told of it: the line of `check`, and the text of what is told
+-- after it; or the document of both
+abbrev pub shown_answer : Bool → Source → Verdict → PlainFinding → Answer
+shown_answer false source verdict finding =
+    with_more (verdict_answer verdict) (finding_text source finding)
+shown_answer true source verdict finding =
+    with_text (verdict_answer verdict) (document_text source (verdict_words verdict) finding)
+
+-- what is shown is a verdict on the plan of a task for this goal, and what is told of it
+pub record ExplainsIn (asked : ExplainWords) (task : Task) (lined : LinedPlan) (goal : Option Ctl)
+    (answer : Answer) : Type 0 where
+  pub verdict : Verdict
+  pub judged : IsTaskVerdict asked.check.kind task goal lined.placed.plan verdict
+  pub finding : PlainFinding
+  pub found : IsFindingFor asked.fair asked.check.kind task goal lined.placed.plan verdict finding
+  pub some : IsShownFor asked.check.kind verdict finding
+  pub shown : answer
+      ≡ shown_answer asked.json (source_in task lined.placed.plan lined.lines) verdict finding
+
+-- the same for a domain and a problem, over the task that they are grounded to, and for the goal by which
+-- the plan is judged, where it has contexts
+pub record Explains (asked : ExplainWords) (domain : DomainTree) (problem : ProblemTree)
+    (lined : LinedPlan) (answer : Answer) : Type 0 where
+  pub verdict : Verdict
+  pub judged : IsJudgedAs asked.fair asked.check.kind domain problem lined.placed.plan verdict
+  pub task : Task
+  pub grounded : task_value task ≡ task_of domain problem
+  pub same : system_of task ≡ system domain problem
+  pub given : Option Ctl
+  pub stands : option_map goal_value given ≡ ctl_goal_of domain problem
+  pub goal : Option Ctl
+  pub is_goal : IsGoalFor asked.fair given goal
+  pub finding : PlainFinding
+  pub found : IsFindingFor asked.fair asked.check.kind task goal lined.placed.plan verdict finding
+  pub some : IsShownFor asked.check.kind verdict finding
+  pub shown : answer
+      ≡ shown_answer asked.json (source_in task lined.placed.plan lined.lines) verdict finding
+
+-- what follows once a plan of the kind was followed: there is no initial state, so that it reached
+-- nothing; or there is one, and the plan is judged and the verdict explained
+abbrev pub ExplainedThen : ExplainWords → DomainTree → ProblemTree → LinedPlan → Answer → Type 0
+ExplainedThen asked domain problem lined =
+    InitialThen (empty_init asked.check.problem problem) (system domain problem).initial
+    (Explains asked domain problem lined)
+
+-- what follows once a plan of the kind was read: it is judged by some goal, it is followed, judged and the
+-- verdict explained
+abbrev pub FollowedThen : ExplainWords → DomainTree → ProblemTree → LinedPlan → Answer → Type 0
+FollowedThen asked domain problem lined =
+    FairThen asked.fair asked.check.problem domain problem
+    (ExploreThen (HasTooManyStates domain problem) (system domain problem) lined.placed.plan
+    (ExplainedThen asked domain problem lined))
+
+-- what follows once both are read and within the limits: the plan is read, and it is of the kind
+abbrev pub PlanThen : (Bytes → Held) → (Bytes → Type 0) → ExplainWords → DomainTree → ProblemTree
+    → Answer → Type 0
+PlanThen held failed asked domain problem =
+    ReadThen held failed asked.check.plan
+    (SpellsLined (fluent_names domain problem) (action_names domain problem))
+    (IsFaultyPlan (fluent_names domain problem) (action_names domain problem)) (λ lined.
+    KindThen asked.check.kind asked.check.plan lined.placed.place lined.placed.plan
+    (FollowedThen asked domain problem lined))
+
+-- what follows once both are read
+abbrev pub IsExplained : (Bytes → Held) → (Bytes → Type 0) → ExplainWords → DomainTree
+    → ProblemTree → Answer → Type 0
+IsExplained held failed asked domain problem =
+    GoalThen asked.check.kind asked.check.problem problem
+    (GroundThen domain problem (PlanThen held failed asked domain problem))
+
+-- the answer
+abbrev pub IsExplainAnswer : (Bytes → Held) → (Bytes → Type 0) → ExplainWords → Answer → Type 0
+IsExplainAnswer held failed asked =
+    ReadBoth held failed asked.check.domain asked.check.problem (IsExplained held failed asked)

@@ -1,8 +1,0 @@
-use Rattle.std.proofs.Common.{◌≡◌, ℕ, map, take}
-use Rattle.plan_witness.specs.Values.{steps_value}
-use Rattle.serde_json.specs.View.{view}
-use Rattle.explain_plan.specs.Documents.{outcome_data}
-use Rattle.explain_plan.proofs.steps.outcome_values.Given as goal
-
-abbrev pub invariant-loop-step : goal.invariant-loop-step
-invariant-loop-step l = (n : ℕ) → map view l.numbers.items ≡ map outcome_data (steps_value n (take l.step-index l.steps))

@@ -1,9 +1,0 @@
--- The shapes that are left, and those that are chosen.
-use Rattle.group_shapes.specs.Found.{AreFound}
-use Rattle.group_hints.proofs.chosen.chosen.Given as goal
-
-abbrev pub invariant-loop : goal.invariant-loop
-invariant-loop l = record {
-  left : AreFound l.task l.left.items;
-  chosen : AreFound l.task l.chosen.items;
-}

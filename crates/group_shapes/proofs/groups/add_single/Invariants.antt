@@ -1,6 +1,0 @@
--- What is found so far.
-use Rattle.group_shapes.specs.Found.{AreFound}
-use Rattle.group_shapes.proofs.groups.add_single.Given as goal
-
-abbrev pub invariant-loop-counted : goal.invariant-loop-counted
-invariant-loop-counted l = AreFound l.world.task.now l.search.found.items

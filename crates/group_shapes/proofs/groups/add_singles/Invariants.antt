@@ -1,6 +1,0 @@
--- What is found so far.
-use Rattle.group_shapes.specs.Found.{AreFound}
-use Rattle.group_shapes.proofs.groups.add_singles.Given as goal
-
-abbrev pub invariant-loop-signature : goal.invariant-loop-signature
-invariant-loop-signature l = AreFound l.world.task.now l.search.found.items

@@ -1,7 +1,0 @@
-use Rattle.std.proofs.Common.{◌≡◌, drop}
-use Rattle.sexpr_text.specs.Forest.{forest_of}
-use Rattle.likely_mistakes.specs.NeverTrue.{domain_asserts}
-use Rattle.likely_mistakes.proofs.never_true.domain_asserts.Given as goal
-
-abbrev pub invariant-loop-form : goal.invariant-loop-form
-invariant-loop-form l = domain_asserts l.name (forest_of l.sections) ≡ domain_asserts l.name (forest_of (drop l.form-index l.sections))

@@ -1,0 +1,10 @@
+use Rattle.std.proofs.Common.{◌≡◌, ◌++◌, drop}
+use Rattle.sexpr_text.specs.Forest.{forest_of}
+use Rattle.lint_mistakes.specs.Equal.{equal_in_sections}
+use Rattle.lint_mistakes.specs.Values.{vocabulary_value}
+use Rattle.lint_mistakes.proofs.equal.equal_parameters.Given as goal
+
+abbrev pub invariant-loop-form : goal.invariant-loop-form
+invariant-loop-form l =
+    l.found.items ++ equal_in_sections (vocabulary_value l.words) (forest_of (drop l.form-index l.sections))
+    ≡ equal_in_sections (vocabulary_value l.words) (forest_of l.sections)

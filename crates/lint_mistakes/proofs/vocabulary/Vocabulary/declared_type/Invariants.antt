@@ -1,0 +1,13 @@
+use Rattle.std.proofs.Common.{◌≡◌}
+use Rattle.sexpr_text.specs.Forest.{forest_of}
+use Rattle.lint_mistakes.specs.TermTypes.{declared_type}
+use Rattle.lint_mistakes.specs.Values.{vocabulary_value}
+use Rattle.pddl_ast.proofs.Weights.{weight}
+use Rattle.lint_mistakes.proofs.vocabulary.Vocabulary.declared_type.Given as goal
+
+abbrev pub invariant-loop-word : goal.invariant-loop-word
+invariant-loop-word l =
+    declared_type (vocabulary_value l.self) (forest_of l.row) l.name ≡ declared_type (vocabulary_value l.self) (forest_of l.rest) l.name
+
+abbrev pub decreases-loop-word : goal.decreases-loop-word
+decreases-loop-word l = weight (forest_of l.rest)

@@ -1,9 +1,0 @@
-use Rattle.std.proofs.Common.{arith}
-use Rattle.plan_tests.proofs.chain_tests.chain_of.Goals as goal
-
-pub returns : goal.returns
-returns c = record {
-  few = omega (arith, c.in_ok-stages.ensures.long, c.requires.few);
-  names = record { stages = c.in_ok-stages.ensures.names; keep = c.requires.keep.names };
-  shallow = record { stages = c.in_ok-stages.ensures.shallow; keep = c.requires.keep.shallow };
-}

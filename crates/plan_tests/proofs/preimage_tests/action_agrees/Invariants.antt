@@ -1,6 +1,0 @@
--- The sets stay those of the task.
-use Rattle.encode_task.specs.Made.{MadeOf}
-use Rattle.plan_tests.proofs.preimage_tests.action_agrees.Given as goal
-
-abbrev pub invariant-loop-b : goal.invariant-loop-b
-invariant-loop-b l = MadeOf l.task l.enc

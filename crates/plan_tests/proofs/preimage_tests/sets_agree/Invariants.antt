@@ -1,6 +1,0 @@
--- The sets stay those of the task.
-use Rattle.encode_task.specs.Made.{MadeOf}
-use Rattle.plan_tests.proofs.preimage_tests.sets_agree.Given as goal
-
-abbrev pub invariant-loop-a : goal.invariant-loop-a
-invariant-loop-a l = MadeOf l.task l.enc

@@ -1,4 +1,0 @@
-use Rattle.state_tests.proofs.goal_tests.+every_path.Given as goal
-
-abbrev pub decreases-every_path : goal.decreases-every_path
-decreases-every_path l = l.steps

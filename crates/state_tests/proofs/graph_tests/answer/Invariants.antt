@@ -1,4 +1,0 @@
-use Rattle.state_tests.proofs.graph_tests.answer.Given as goal
-
-abbrev pub ghosts-shown : goal.ghosts-shown
-ghosts-shown a = record { name = a.blank.name; parts = a.blank.parts }

@@ -1,0 +1,31 @@
+use Rattle.std.proofs.lemmas.Result.{err_from_is_err_and}
+use Rattle.pddl_ast.specs.Values.{problem_value}
+use Rattle.run_replay.specs.Records.{record_value}
+use Rattle.task_core.specs.States.{vector}
+use Rattle.task_core.specs.Tasks.{fluent_count, initial_states}
+use Rattle.command_base.specs.Following.{most_followed}
+use Rattle.command_base.specs.InitialStates.{empty_init}
+use Rattle.command_base.specs.Values.{answer_of, refusal_of}
+use Rattle.replay_command.proofs.ReplayAnswers.{first_answer, first_refused}
+use Rattle.trace_command.specs.Told.{IsRunTold}
+use Rattle.explain_command.specs.Values.{lined_of}
+use Rattle.trace_command.proofs.shown.show_record.Goals as goal
+use Rattle.task_core.specs.Initials.{HasTooManyInitial}
+
+pub returns-in_err-first : goal.returns-in_err-first
+returns-in_err-first c =
+    let p = err_from_is_err_and c.from_residual.result c.from_residual.ensures.1 in
+    let request = c.args.request.now in
+    let task = request.task.now in
+    let recorded = record_value c.args.recorded.now in
+    rw (p.1, p.2) (first_refused (HasTooManyInitial task most_followed) (empty_init request.asked.now.problem.now (problem_value request.problem.now)) (initial_states task) request.asked.now.recorded.now recorded
+    (IsRunTold task (lined_of request.lined.now) recorded) (refusal_of c.in_err-first.field-0.0) c.in_err-first.ensures.refused)
+
+pub returns : goal.returns
+returns c =
+    let request = c.args.request.now in
+    let task = request.task.now in
+    let recorded = record_value c.args.recorded.now in
+    first_answer (HasTooManyInitial task most_followed) (empty_init request.asked.now.problem.now (problem_value request.problem.now)) (initial_states task) request.asked.now.recorded.now recorded
+    (vector (fluent_count task) c.in_ok-first.first) (IsRunTold task (lined_of request.lined.now) recorded) (answer_of c.show_run.result)
+    c.in_ok-first.ensures.few c.in_ok-first.ensures.first c.show_run.ensures
