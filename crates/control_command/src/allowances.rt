@@ -1,7 +1,7 @@
 //! How much a search may do for a task: less where the conditions of its actions are large.
 
-use heuristic_search::Allowance;
 use explicit_plan::tests_in_state;
+use heuristic_search::Allowance;
 use staged_search::Allowance as StagedAllowance;
 use task_core::Task;
 

@@ -17,12 +17,12 @@ ghost use Rattle.plan_rules.specs.Plans.{IsCubeOf};
 ghost use Rattle.std.specs.Prelude.{◌≡◌, IfOk, IsSome, IsTrue, map, true};
 ghost use Rattle.task_core.specs.Tasks.{fluent_count, fluent_names, system_of};
 
+use cert_check::{Judged, refute};
 use command_base::Text;
 use dd_sets::SetErr;
 use encode_task::Enc;
 use plan_certs::{Certificate, StateSet};
 use plan_command::certified_text;
-use cert_check::{Judged, refute};
 use std::alloc::{AllocError, Global};
 use task_core::{Class, Lit, Task};
 use task_sets::{SetSearch, search_in_tries};

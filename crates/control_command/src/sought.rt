@@ -4,8 +4,8 @@ ghost use Rattle.control_command.specs.Sought.{JudgedPlansControl, wanted_for};
 ghost use Rattle.std.specs.Prelude.{◌≡◌};
 
 use crate::made::Wanted;
-use controller_rules::good_rules_control;
 use control_words::ControlWords;
+use controller_rules::good_rules_control;
 use ground_task::Grounded;
 use pddl_ast::{Domain, Problem};
 use pddl_system::grounded_goals_are_true;

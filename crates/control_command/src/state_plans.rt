@@ -1,7 +1,7 @@
 //! Plans for the states alone that they reach.
 
-use heuristic_search::GuidedStates;
 use explicit_plan::ReachedPlan;
+use heuristic_search::GuidedStates;
 use task_core::{ActionId, State};
 
 /// What is taken in each of some states.

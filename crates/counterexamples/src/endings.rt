@@ -20,8 +20,8 @@ ghost use Rattle.task_core.specs.States.{IsWithin, vector};
 ghost use Rattle.task_core.specs.Tasks.{action_count, fluent_count, system_of};
 
 use crate::aims::Aim;
-use crate::rules::bad_rule;
 use crate::parts::false_parts;
+use crate::rules::bad_rule;
 use goal_witness::Line;
 use plan_rules::{AutoRule, Plan};
 use plan_witness::{Spot, counting_rule, lost_outcome};

@@ -21,8 +21,8 @@ ghost use Rattle.std.specs.Prelude.{◌≡◌, IfOk};
 ghost use Rattle.task_core.specs.Tasks.{fluent_count};
 
 use crate::steps::{number_value, outcome_values, rule_values, step_values};
-use plan_document::count_value;
 use counterexamples::{Finding, Found, Source, Stays};
+use plan_document::count_value;
 use serde_json::{Map, Value, put};
 use std::alloc::{AllocError, Global};
 

@@ -24,8 +24,8 @@ ghost use Rattle.task_core.specs.Tasks.{fluent_count};
 use crate::besides::{Besides, besides_of};
 use crate::parts::part_values;
 use crate::steps::{number_value, outcome_values, rule_values, step_values};
-use plan_document::value_text;
 use counterexamples::{Finding, Found, Source, cycle_from, ending_sentence};
+use plan_document::value_text;
 use serde_json::{Map, Value, put};
 use std::alloc::{AllocError, Global};
 

@@ -19,10 +19,10 @@ ghost use Rattle.std.specs.Prelude.{◌≡◌, IfOk, IfSome, IsSome};
 ghost use Rattle.task_core.specs.Tasks.{action_count, fluent_count};
 
 use command_base::{PlanKind, goal_in};
+use counterexamples::{Finding, JudgedBy, find_for_class, find_for_contexts, find_miss, with_run};
 use exec_graph::Graph;
 use ground_task::Grounded;
 use plan_check::{Reason, Verdict};
-use counterexamples::{Finding, JudgedBy, find_for_class, find_for_contexts, find_miss, with_run};
 use plan_rules::Plan;
 use plan_witness::Scene;
 use std::alloc::{AllocError, Global};

@@ -16,8 +16,7 @@ ghost use Rattle.task_core.specs.Tasks.{action_count, action_names, fluent_count
 
 use command_base::{Refusal, fetch, misread};
 use plan_io::Shelf;
-use plan_rules::{PlanRead, read_plan};
-use plan_rules::rule_lines;
+use plan_rules::{PlanRead, read_plan, rule_lines};
 use sexpr_text::{MAX_BYTES, ReadErr};
 use std::alloc::Global;
 use task_core::Task;

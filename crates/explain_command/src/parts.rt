@@ -13,9 +13,9 @@ ghost use Rattle.std.specs.Prelude.{◌≡◌, IfOk, map};
 ghost use Rattle.task_core.specs.Tasks.{fluent_names};
 
 use crate::steps::number_value;
+use counterexamples::{Ending, missed_lines};
 use ctl_syntax::Ctl;
 use goal_witness::{Line, push_goal};
-use counterexamples::{Ending, missed_lines};
 use serde_json::{Map, Value, put};
 use std::alloc::{AllocError, Global};
 use task_core::Task;

@@ -13,11 +13,11 @@ ghost use Rattle.plan_rules.specs.Plans.{IsPlanOf};
 ghost use Rattle.std.specs.Prelude.{◌≡◌, ◌++◌, IfOk, OnOk, codes, decimal, string_bytes, false, true};
 ghost use Rattle.task_core.specs.Tasks.{action_count, fluent_count};
 
+use crate::documents::finding_document;
 use check_command::show_verdict;
 use command_base::{Shown, Text};
-use crate::documents::finding_document;
-use plan_check::{Reason, Verdict};
 use counterexamples::{Finding, Source, finding_text};
+use plan_check::{Reason, Verdict};
 use plan_rules::push_number;
 use std::alloc::{AllocError, Global};
 

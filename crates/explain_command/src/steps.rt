@@ -32,8 +32,8 @@ ghost use Rattle.std.specs.Rc.{rc_str_bytes};
 ghost use Rattle.task_core.specs.States.{truth, vector};
 ghost use Rattle.task_core.specs.Tasks.{action_names, fluent_count, fluent_names};
 
-use plan_document::{count_value, name_value};
 use counterexamples::{Source, line_at};
+use plan_document::{count_value, name_value};
 use plan_witness::{Run, RunStep};
 use serde_json::{Map, Value, put};
 use state_text::push_action;

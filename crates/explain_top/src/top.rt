@@ -18,10 +18,10 @@ ghost use Rattle.why_command.specs.Words.{AskNothing as AskNoReason, SaysWhy};
 
 use answer_help::KeepingShelf;
 use explain_command::explain;
-use trace_command::{asks_run, tell};
 use lint_command::{asks_mistakes, mistakes};
 use plan_io::{Shelf, Sink};
 use std::alloc::Global;
+use trace_command::{asks_run, tell};
 use why_command::{says_why, why};
 
 /// Does what the words ask for, writes the answer, and gives the exit status.

@@ -43,9 +43,7 @@ use crate::words::MistakesWords;
 use command_base::{ReadTexts, Refusal, Shown, Text};
 use ground_task::{GroundErr, ground};
 use lint_mistakes::{Files, Mistakes, find_mistakes};
-use lint_notices::{
-    LimitName, Notice, Report, Source, add_notices, report_document, report_text,
-};
+use lint_notices::{LimitName, Notice, Report, Source, add_notices, report_document, report_text};
 use std::alloc::{AllocError, Global};
 use task_core::Task;
 

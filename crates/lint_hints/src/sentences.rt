@@ -31,8 +31,8 @@ ghost use Rattle.task_core.specs.Names.{name_bytes};
 ghost use Rattle.task_core.specs.States.{truth};
 ghost use Rattle.task_core.specs.Tasks.{fluent_names};
 
-use lint_shapes::OneOf;
 use itoa::Buffer;
+use lint_shapes::OneOf;
 use plan_rules::push_name;
 use std::alloc::{AllocError, Global};
 use std::rc::RcStr;

@@ -17,10 +17,10 @@ mod queue;
 mod relaxed;
 mod texts;
 
+pub use blocked::{parts_of, push_blocked};
 pub use causes::Cause;
 pub use finding::{NeverRun, Setup, never_run};
 pub use goals::{GoalNever, goal_never};
-pub use blocked::{parts_of, push_blocked};
 pub use makers::{Maker, lacks_of, makers_of};
 pub use queue::never_literals;
 pub use relaxed::Relaxed;

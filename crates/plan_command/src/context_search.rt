@@ -16,10 +16,10 @@ ghost use Rattle.task_core.specs.Tasks.{action_count, fluent_count, initial_stat
 ghost use Rattle.task_sets.specs.FullTables.{IsTightToEncode};
 ghost use Rattle.ctl_syntax.specs.GoalSizes.{count_of};
 
+use context_plan::{FoundAuto, plan_patrol, plan_until};
 use ctl_syntax::{ContextGoal, UntilChain};
 use dd_sets::{SetErr, no_room_is_small, no_room_is_tight, tight_is_monotone};
 use encode_task::{Enc, kept_sets_bound_nodes};
-use context_plan::{FoundAuto, plan_patrol, plan_until};
 use std::alloc::Global;
 use task_core::{Cond, Task};
 use task_sets::{SetSearch, search_in_tries};

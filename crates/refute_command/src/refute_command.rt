@@ -27,6 +27,7 @@ ghost use Rattle.task_core.specs.Tasks.{fluent_count, initial_states, system_of}
 ghost use Rattle.task_sets.specs.FullTables.{IsTightToEncode};
 
 use crate::certificate_files::read_certificate_file;
+use cert_check::{Flaw, Judged, refute};
 use command_base::{
     PlanKind, Refusal, RefuteWords, Shown, Text, check_goal, ground_both, no_initial, read_both,
 };
@@ -36,7 +37,6 @@ use pddl_ast::{Domain, Problem};
 use plan_certs::Certificate;
 use plan_io::Shelf;
 use plan_rules::Class;
-use cert_check::{Flaw, Judged, refute};
 use std::alloc::Global;
 use task_core::Task;
 use task_sets::{SetSearch, search_in_tries};

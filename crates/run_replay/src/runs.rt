@@ -31,8 +31,8 @@ use crate::traces::{RunErr, Trace};
 use crate::turns::{Standing, Turn, take_turn};
 use crate::watch::tell;
 use crate::worlds::{Step, World};
-use rule_lookup::Guide;
 use plan_rules::{FIRST_CONTEXT, Plan};
+use rule_lookup::Guide;
 use std::alloc::{AllocFailed, Global};
 use task_core::{State, Task};
 

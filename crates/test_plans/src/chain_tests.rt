@@ -6,10 +6,10 @@ ghost use Rattle.context_plan.specs.Chains.{IsUntilOver};
 ghost use Rattle.task_core.specs.Conditions.{IsConditionOver, ids_below, is_shallow};
 ghost use Rattle.task_core.specs.Tasks.{fluent_count};
 
+use context_plan::{FoundAuto, plan_until};
 use ctl_syntax::{UntilChain, UntilStage};
 use dd_sets::SetErr;
 use encode_task::encode;
-use context_plan::{FoundAuto, plan_until};
 use plan_rules::{AutoRule, Next};
 use std::alloc::{AllocError, Global};
 use std::rc::RcStr;

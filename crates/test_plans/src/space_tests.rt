@@ -9,11 +9,11 @@ ghost use Rattle.task_core.specs.Tasks.{action_count, fluent_count};
 
 use crate::encode_tests::table;
 use crate::reach_tests::{action, all_of, literals, name, text};
+use context_plan::{FoundAuto, plan_until};
 use ctl_syntax::{UntilChain, UntilStage};
 use cyclic_plan::plan_cyclic;
 use dd_sets::SetErr;
 use encode_task::{Enc, encode};
-use context_plan::{FoundAuto, plan_until};
 use plan_rules::{Plan, write_plan};
 use plan_theory::Found;
 use preimage::{strong_pre, weak_pre};

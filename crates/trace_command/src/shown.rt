@@ -20,11 +20,11 @@ ghost use Rattle.task_core.specs.Initials.{HasTooManyInitial};
 use crate::commands::RunRequest;
 use command_base::{Refusal, Shown, Text};
 use counterexamples::Source;
-use trace::{Stop, recorded_run, recorded_text};
 use replay_command::{ReplayRequest, first_state};
 use run_replay::Recorded;
 use std::alloc::{AllocError, Global};
 use task_core::State;
+use trace::{Stop, recorded_run, recorded_text};
 
 /// The run of a plan of the task, told, under a record that was read out of its file.
 pub(crate) fn show_record(

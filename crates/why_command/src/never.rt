@@ -8,8 +8,8 @@ ghost use Rattle.task_core.specs.Conditions.{ids_below};
 ghost use Rattle.why_command.specs.Whys.{IsNever, never_text as text_of};
 
 use never_executed::{Relaxed, never_literals, push_blocked, push_reasons};
-use state_text::push_parts;
 use relaxed_reach::{can_be, reached_literals};
+use state_text::push_parts;
 use std::alloc::{AllocError, Global};
 use task_core::{Cond, Lit, Task};
 
