@@ -87,12 +87,16 @@ subcommand_help sub =
     usage_line sub ++ subcommand_about sub ++ line_feed ++ option_lines (options_of sub)
     ++ status_lines (own_statuses sub) ++ status_lines common_statuses
 
--- the help for a subcommand, or for all
-abbrev pub help_text : Option Subcommand → Bytes
-help_text None =
-    codes "usage: pulgazer SUBCOMMAND .." ++ line_feed ++ subcommand_lines subcommands
+-- the help for all
+abbrev pub all_help : List Subcommand → Bytes
+all_help subs =
+    codes "usage: pulgazer SUBCOMMAND .." ++ line_feed ++ subcommand_lines subs
     ++ codes "pulgazer SUBCOMMAND --help shows a subcommand's operands, options and exit statuses"
     ++ line_feed
+
+-- the help for a subcommand, or for all
+abbrev pub help_text : Option Subcommand → Bytes
+help_text None = all_help subcommands
 help_text (Some sub) = subcommand_help sub
 
 -- the words that a wrong word may have been meant for

@@ -77,7 +77,7 @@ has_certificates with_contexts = false
 abbrev pub certificate_said : PlanKind → List Said → Result Bool Mistake
 certificate_said kind options =
     if is_said options Cert then
-      (if has_certificates kind then Ok true else Err (mistake (option_word Cert) NoCertificate))
+    (if has_certificates kind then Ok true else Err (mistake (option_word Cert) NoCertificate))
     else Ok false
 
 abbrev pub language_said : Bytes → Result Form Mistake
@@ -96,47 +96,51 @@ form_for true (Some word) = Err (mistake (option_word Code) OneForm)
 abbrev pub form_said : List Said → Result Form Mistake
 form_said options = form_for (is_said options Json) (value_of options (option_word Code))
 
+-- the first operand that is one too many
+abbrev pub surplus : List Bytes → Mistake
+surplus [] = mistake [] OneTooMany
+surplus (word ∷ words) = mistake word OneTooMany
+
 -- the operand that is left out, or the first one too many
 abbrev pub operand_mistake : List Bytes → List Bytes → Mistake
-operand_mistake [] [] = mistake [] Missing
-operand_mistake [] (word ∷ words) = mistake word OneTooMany
+operand_mistake [] operands = surplus operands
 operand_mistake (name ∷ names) [] = mistake name Missing
 operand_mistake (name ∷ names) (word ∷ words) = operand_mistake names words
 
 -- the next step, where the one before went well
-abbrev pub then : {A B : Type 0} → Result A Mistake → (A → Result B Mistake) → Result B Mistake
-then (Ok value) next = next value
-then (Err found) next = Err found
+abbrev pub and_then : {A B : Type 0} → Result A Mistake → (A → Result B Mistake) → Result B Mistake
+and_then (Ok value) next = next value
+and_then (Err found) next = Err found
 
 abbrev pub control_request : Judge → Bytes → Bytes → ℕ → Bool → Shape → ControlRequest
-control_request judge domain problem nodes certified shape =
-    if judge.fair then
-      to_try (record {
+control_request by domain problem nodes certified shape =
+    if by.fair then
+    to_try (record {
+      domain = domain;
+      problem = problem;
+      options = record { nodes = nodes };
+      shape = shape;
+    })
+    else
+    to_plan (record {
+      plan = record {
+        kind = by.kind;
         domain = domain;
         problem = problem;
         options = record { nodes = nodes };
-        shape = shape;
-      })
-    else
-      to_plan (record {
-        plan = record {
-          kind = judge.kind;
-          domain = domain;
-          problem = problem;
-          options = record { nodes = nodes };
-          certified = certified;
-        };
-        shape = shape;
-      })
+        certified = certified;
+      };
+      shape = shape;
+    })
 
 -- `control CLASS DOMAIN PROBLEM`
 abbrev pub control_for : Bytes → Bytes → Bytes → List Said → Result Asked Mistake
 control_for class domain problem options =
-    then (class_said class) (λ judge.
-    then (nodes_said options) (λ nodes.
-    then (certificate_said judge.kind options) (λ certified.
-    then (form_said options) (λ form.
-    Ok (control (control_request judge domain problem nodes certified
+    and_then (class_said class) (λ by.
+    and_then (nodes_said options) (λ nodes.
+    and_then (certificate_said by.kind options) (λ certified.
+    and_then (form_said options) (λ form.
+    Ok (control (control_request by domain problem nodes certified
     (record { guarded = is_said options Guarded; form = form })))))))
 
 abbrev pub control_asked : List Bytes → List Said → Result Asked Mistake
@@ -150,23 +154,23 @@ control_asked (a ∷ b ∷ c ∷ d ∷ more) options =
 -- `check CLASS DOMAIN PROBLEM PLAN` and `explain CLASS DOMAIN PROBLEM PLAN`
 abbrev pub judge_for : ShownAs → Bytes → Bytes → Bytes → Bytes → Result Asked Mistake
 judge_for shown class domain problem plan =
-    then (class_said class) (λ by.
+    and_then (class_said class) (λ by.
     Ok (judge (record {
       check = record { kind = by.kind; domain = domain; problem = problem; plan = plan };
       fair = by.fair;
       shown = shown;
     })))
 
-abbrev pub judge_asked : Subcommand → ShownAs → List Bytes → Result Asked Mistake
-judge_asked sub shown (class ∷ domain ∷ problem ∷ plan ∷ []) =
+abbrev pub judge_asked : List Bytes → ShownAs → List Bytes → Result Asked Mistake
+judge_asked names shown (class ∷ domain ∷ problem ∷ plan ∷ []) =
     judge_for shown class domain problem plan
-judge_asked sub shown [] = Err (operand_mistake (operand_names sub) [])
-judge_asked sub shown (a ∷ []) = Err (operand_mistake (operand_names sub) (a ∷ []))
-judge_asked sub shown (a ∷ b ∷ []) = Err (operand_mistake (operand_names sub) (a ∷ b ∷ []))
-judge_asked sub shown (a ∷ b ∷ c ∷ []) =
-    Err (operand_mistake (operand_names sub) (a ∷ b ∷ c ∷ []))
-judge_asked sub shown (a ∷ b ∷ c ∷ d ∷ e ∷ more) =
-    Err (operand_mistake (operand_names sub) (a ∷ b ∷ c ∷ d ∷ e ∷ more))
+judge_asked names shown [] = Err (operand_mistake names [])
+judge_asked names shown (a ∷ []) = Err (operand_mistake names (a ∷ []))
+judge_asked names shown (a ∷ b ∷ []) = Err (operand_mistake names (a ∷ b ∷ []))
+judge_asked names shown (a ∷ b ∷ c ∷ []) =
+    Err (operand_mistake names (a ∷ b ∷ c ∷ []))
+judge_asked names shown (a ∷ b ∷ c ∷ d ∷ e ∷ more) =
+    Err (operand_mistake names (a ∷ b ∷ c ∷ d ∷ e ∷ more))
 
 -- what `explain` shows
 abbrev pub explained_as : List Said → ShownAs
@@ -178,9 +182,9 @@ plain_kind word by = if by.fair then Err (mistake word NotFair) else Ok by.kind
 
 abbrev pub why_for : Bytes → Bytes → Bytes → List Said → Result Asked Mistake
 why_for class domain problem options =
-    then (class_said class) (λ by.
-    then (plain_kind class by) (λ kind.
-    then (nodes_said options) (λ nodes.
+    and_then (class_said class) (λ by.
+    and_then (plain_kind class by) (λ kind.
+    and_then (nodes_said options) (λ nodes.
     Ok (why (record {
       kind = kind;
       domain = domain;
@@ -235,13 +239,13 @@ drawn_for true (Some file) = as_page_with (as_file file)
 abbrev pub drawn_said : List Said → Result PictureForm Mistake
 drawn_said options =
     if is_said options Rules then
-      (if is_said options Page || is_said options Explanation
-      then Err (mistake (option_word Rules) Alone) else Ok as_rules)
+    (if is_said options Page || is_said options Explanation
+    then Err (mistake (option_word Rules) Alone) else Ok as_rules)
     else Ok (drawn_for (is_said options Page) (value_of options (option_word Explanation)))
 
 abbrev pub draw_for : Bytes → Bytes → Bytes → List Said → Result Asked Mistake
 draw_for domain problem plan options =
-    then (drawn_said options) (λ form.
+    and_then (drawn_said options) (λ form.
     Ok (draw (record { domain = domain; problem = problem; plan = plan; form = form })))
 
 abbrev pub draw_asked : List Bytes → List Said → Result Asked Mistake
@@ -255,8 +259,8 @@ draw_asked (a ∷ b ∷ c ∷ d ∷ more) options =
 -- what a subcommand is asked by its operands and options
 abbrev pub asked_by : Subcommand → List Bytes → List Said → Result Asked Mistake
 asked_by Control operands options = control_asked operands options
-asked_by Check operands options = judge_asked Check Verdict operands
-asked_by Explain operands options = judge_asked Explain (explained_as options) operands
+asked_by Check operands options = judge_asked (operand_names Check) Verdict operands
+asked_by Explain operands options = judge_asked (operand_names Explain) (explained_as options) operands
 asked_by Why operands options = why_asked operands options
 asked_by Lint operands options = lint_asked operands options
 asked_by Trace operands options = trace_asked operands

@@ -101,7 +101,7 @@ named_option options given name joined = after_option given (option_in options n
 abbrev pub option_said : List CommandOption → Given → Bytes → Scan
 option_said options given word =
     if has_value word then
-      named_option options given (before_first is_equals word) (Some (after_first is_equals word))
+    named_option options given (before_first is_equals word) (Some (after_first is_equals word))
     else named_option options given word None
 
 -- what follows a word where options may stand

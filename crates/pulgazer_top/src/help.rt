@@ -1,6 +1,7 @@
 //! The texts about the command line: help, and what is wrong with words.
 
 ghost use Rattle.pulgazer_top.specs.Help.{
+  all_help as help_for_all,
   common_statuses as statuses_of_all,
   help_text as text_of_help,
   hint as text_of_hint,
@@ -23,13 +24,11 @@ ghost use Rattle.pulgazer_top.specs.Nearest.{nearest};
 ghost use Rattle.pulgazer_top.specs.Table.{option_word, subcommand_word};
 ghost use Rattle.pulgazer_top.specs.Values.{mistake_of};
 ghost use Rattle.std.specs.Option.{option_map};
-ghost use Rattle.std.specs.Prelude.{◌≡◌, ◌++◌, IfOk, None, OnOk, map, string_bytes};
+ghost use Rattle.std.specs.Prelude.{◌≡◌, ◌++◌, IfOk, OnOk, Some, codes, map, string_bytes};
 
 use crate::mistakes::{Mistake, Why};
 use crate::nearest::nearest_known;
-use crate::table::{
-    CommandOption, Subcommand, all_subcommands, class_names, language_names,
-};
+use crate::table::{CommandOption, Subcommand, all_subcommands, class_names, language_names};
 use std::alloc::{AllocError, Global};
 
 /// The help for a subcommand, or for all.
@@ -37,20 +36,22 @@ pub(crate) fn help_text(alloc: Global, sub: Option<Subcommand>) -> Result<String
     ensures { IfOk result (λ text. string_bytes text ≡ text_of_help sub) }
 {
     match sub {
-        None => help_for_all(alloc),
+        None => all_help(alloc, all_subcommands()),
         Some(sub) => subcommand_help(alloc, sub),
     }
 }
 
-fn help_for_all(alloc: Global) -> Result<String, AllocError>
-    ensures { IfOk result (λ text. string_bytes text ≡ text_of_help None) }
+fn all_help(alloc: Global, subs: &[Subcommand]) -> Result<String, AllocError>
+    ensures { IfOk result (λ text. string_bytes text ≡ help_for_all subs.now) }
 {
     let mut out = String::new(alloc);
-    out.push_str("usage: pulgazer SUBCOMMAND ..\n")?;
-    push_subcommands(&mut out, all_subcommands())?;
+    out.push_str("usage: pulgazer SUBCOMMAND ..")?;
+    out.push_str("\n")?;
+    push_subcommands(&mut out, subs)?;
     out.push_str(
-        "pulgazer SUBCOMMAND --help shows a subcommand's operands, options and exit statuses\n",
+        "pulgazer SUBCOMMAND --help shows a subcommand's operands, options and exit statuses",
     )?;
+    out.push_str("\n")?;
     Ok(out)
 }
 
@@ -104,12 +105,23 @@ fn push_hint(out: &mut String, word: Option<&str>) -> Result<(), AllocError>
 {
     match word {
         None => Ok(()),
-        Some(word) => {
-            out.push_str(" (did you mean `")?;
-            out.push_str(word)?;
-            out.push_str("`?)")
-        }
+        Some(word) => push_meant(out, word),
     }
+}
+
+/// Appends the word that was meant.
+fn push_meant(out: &mut String, word: &str) -> Result<(), AllocError>
+    ensures { OnOk result (string_bytes out.new ≡ string_bytes out.old ++ text_of_hint (Some word.now)) }
+{
+    out.push_str(" (did you mean `")?;
+    push_closed(out, word)
+}
+
+fn push_closed(out: &mut String, word: &str) -> Result<(), AllocError>
+    ensures { OnOk result (string_bytes out.new ≡ string_bytes out.old ++ (word.now ++ codes "`?)")) }
+{
+    out.push_str(word)?;
+    out.push_str("`?)")
 }
 
 /// The words that a wrong word may have been meant for.
@@ -138,10 +150,7 @@ fn options_in(sub: Option<Subcommand>) -> &'static [CommandOption]
     }
 }
 
-fn subcommand_words(
-    alloc: Global,
-    subs: &[Subcommand],
-) -> Result<Vec<&'static str>, AllocError>
+fn subcommand_words(alloc: Global, subs: &[Subcommand]) -> Result<Vec<&'static str>, AllocError>
     ensures { IfOk result (λ words. map (λ word. word.now) words.items ≡ map subcommand_word subs.now) }
 {
     let mut words = Vec::new(alloc);

@@ -40,6 +40,7 @@ ghost use Rattle.pulgazer_top.specs.Requests.{
   request_of,
   request_with as request_given,
   scanned as request_scanned,
+  surplus as surplus_in,
   topic as topic_of,
   trace_asked as trace_wanted,
   wants_help as asks_help,
@@ -50,7 +51,6 @@ ghost use Rattle.pulgazer_top.specs.Values.{
   asked_of,
   asked_result,
   drawn_result,
-  form_result,
   given_of,
   judge_of,
   judge_result,
@@ -213,7 +213,7 @@ fn request_with<'a>(sub: Subcommand, operands: &[&'a str], options: &[Said<'a>])
 }
 
 fn as_request<'a>(sub: Subcommand, asked: Result<Asked<'a>, Mistake<'a>>) -> Request<'a>
-    requires { IfOk asked.entry (λ found. IsAllowed (asked_of found)) }
+    requires { IfOk asked (λ found. IsAllowed (asked_of found)) }
     ensures said { request_said result ≡ the_request sub (asked_result asked.entry) }
     ensures allowed { IsRequestAllowed result }
 {
@@ -235,8 +235,8 @@ fn asked_by<'a>(
 {
     match sub {
         Subcommand::Control => control_asked(operands, options),
-        Subcommand::Check => judge_asked(Subcommand::Check, ShownAs::Verdict, operands),
-        Subcommand::Explain => judge_asked(Subcommand::Explain, explained_as(options), operands),
+        Subcommand::Check => judge_asked(sub.operands(), ShownAs::Verdict, operands),
+        Subcommand::Explain => judge_asked(sub.operands(), explained_as(options), operands),
         Subcommand::Why => why_asked(operands, options),
         Subcommand::Lint => lint_asked(operands, options),
         Subcommand::Trace => trace_asked(operands),
@@ -274,9 +274,7 @@ fn control_for<'a>(
         guarded: is_said(options, CommandOption::Guarded),
         form,
     };
-    Ok(Asked::Control(control_request(
-        judge, domain, problem, nodes, certified, shape,
-    )))
+    Ok(Asked::Control(control_request(judge, domain, problem, nodes, certified, shape)))
 }
 
 fn control_request<'a>(
@@ -315,15 +313,16 @@ fn control_request<'a>(
 
 /// `check CLASS DOMAIN PROBLEM PLAN` and `explain CLASS DOMAIN PROBLEM PLAN`.
 fn judge_asked<'a>(
-    sub: Subcommand,
+    names: &'static [&'static str],
     shown: ShownAs,
     operands: &[&'a str],
 ) -> Result<Asked<'a>, Mistake<'a>>
-    ensures said { asked_result result ≡ judge_wanted sub shown (map (λ word. word.now) operands.now) }
+    ensures said { asked_result result ≡ judge_wanted (map (λ name. name.now) names.now) shown
+        (map (λ word. word.now) operands.now) }
     ensures allowed { IfOk result (λ asked. IsAllowed (asked_of asked)) }
 {
     let [class, domain, problem, plan] = operands else {
-        return Err(operand_mistake(sub.operands(), operands));
+        return Err(operand_mistake(names, operands));
     };
     judge_for(shown, class, domain, problem, plan)
 }
@@ -678,20 +677,31 @@ fn operand_mistake<'a>(names: &'static [&'static str], operands: &[&'a str]) -> 
     ensures { mistake_of result
         ≡ mistake_in (map (λ name. name.now) names.now) (map (λ word. word.now) operands.now) }
 {
-    match (names, operands) {
-        ([_, names @ ..], [_, words @ ..]) => operand_mistake(names, words),
-        ([name, ..], []) => Mistake {
+    let [name, names @ ..] = names else {
+        return surplus(operands);
+    };
+    let [_, words @ ..] = operands else {
+        return Mistake {
             word: name,
             why: Why::Missing,
-        },
-        ([], [word, ..]) => Mistake {
-            word,
-            why: Why::OneTooMany,
-        },
-        ([], []) => Mistake {
+        };
+    };
+    operand_mistake(names, words)
+}
+
+/// The first operand that is one too many.
+fn surplus<'a>(operands: &[&'a str]) -> Mistake<'a>
+    ensures { mistake_of result ≡ surplus_in (map (λ word. word.now) operands.now) }
+{
+    let [word, ..] = operands else {
+        return Mistake {
             word: "",
-            why: Why::Missing,
-        },
+            why: Why::OneTooMany,
+        };
+    };
+    Mistake {
+        word,
+        why: Why::OneTooMany,
     }
 }
 
