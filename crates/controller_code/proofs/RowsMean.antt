@@ -59,12 +59,12 @@ pub rules_told : (rules : List ContextRule) (context : ℕ) (v : Vector) → row
 rules_told [] context v = refl
 rules_told (rule ∷ rules) context v =
     ap (λ b. option_map row_move (if (rule.context == context) && b then Some (rule_row rule) else find (row_matches context v) (map rule_row rules))) (cube_told v rule.cube)
-    ∙ on ((rule.context == context) && matches rule.cube v)
+    ∙ on (rules_told rules context v) ((rule.context == context) && matches rule.cube v)
   where
-    on : (b : Bool) → option_map row_move (if b then Some (rule_row rule) else find (row_matches context v) (map rule_row rules))
+    on : rows_move (map rule_row rules) context v ≡ plan_move rules context v → (b : Bool) → option_map row_move (if b then Some (rule_row rule) else find (row_matches context v) (map rule_row rules))
         ≡ option_map move_of (if b then Some rule else find (λ (r : ContextRule). (r.context == context) && matches r.cube v) rules)
-    on true = refl
-    on false = rules_told rules context v
+    on later true = refl
+    on later false = later
 
 -- the literals of a change
 named_told : (positive : Bool) (f : ℕ) (lits : Cube) → list_any (λ number. (number / 2 == f) && same_value (number % 2 == 1) positive) (map literal_number lits) ≡ names_it positive f lits

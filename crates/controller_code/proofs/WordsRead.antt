@@ -1,5 +1,5 @@
 -- The words of a condition are read to its value, and passed over where they don't count.
-use Rattle.std.proofs.Common.{◌≡◌, ℕ, suc, ◌+◌, ◌-◌, ◌==◌, Bool, true, false, not, ◌&&◌, ◌||◌, List, [], ◌∷◌, ◌++◌, map, refl, sym, ◌∙◌, ap, subst, append-nil, append_assoc, arith}
+use Rattle.std.proofs.Common.{◌≡◌, ◌<◌, ℕ, suc, ◌+◌, ◌-◌, ◌==◌, Bool, true, false, not, ◌&&◌, ◌||◌, List, [], ◌∷◌, ◌++◌, map, refl, sym, ◌∙◌, ap, subst, append-nil, append_assoc, arith}
 use Rattle.std.specs.Prelude.{if◌then◌else◌, nat_le}
 use Rattle.std.specs.List.{flat_map, list_all, list_any}
 use Rattle.std.proofs.lemmas.Bool.Decides.{nat_tests}
@@ -51,7 +51,7 @@ fluent_passed b n f =
     ap (λ x. if x then suc (suc n) else if 7 + f == 1 then n else suc n) (no_number 0 f (omega arith))
     ∙ ap (λ x. if x then n else suc n) (no_number 1 f (omega arith))
 
-fluent_read : (f : ℕ) → AreRead (7 + f ∷ []) (λ s. s f)
+fluent_read : (f : ℕ) → AreRead ((7 + f) ∷ []) (λ s. s f)
 fluent_read f = record {
   value = λ s b rest.
       ap (λ n. read_words s n (value_after s b 0 (7 + f)) rest) (fluent_pending b f)
@@ -93,20 +93,20 @@ some_true parts s = list_any (λ p. p s) (map holds (map (λ e. e.0) parts))
 all_read : (parts : List Shown) (s : State) (rest : List ℕ) → read_words s 0 true (row 5 parts ++ (1 ∷ rest)) ≡ read_words s 0 (all_true parts s) rest
 all_read [] s rest = refl
 all_read (e ∷ parts) s rest =
-    ap (read_words s 0 true) (split 5 e parts (1 ∷ rest)) ∙ e.1.value s true (5 ∷ (row 5 parts ++ (1 ∷ rest))) ∙ on (holds e.0 s)
+    ap (read_words s 0 true) (split 5 e parts (1 ∷ rest)) ∙ e.1.value s true (5 ∷ (row 5 parts ++ (1 ∷ rest))) ∙ on (all_read parts s rest) (holds e.0 s)
   where
-    on : (b : Bool) → read_words s 0 b (5 ∷ (row 5 parts ++ (1 ∷ rest))) ≡ read_words s 0 (b && all_true parts s) rest
-    on true = all_read parts s rest
-    on false = passed_5 parts s 0 false (1 ∷ rest)
+    on : read_words s 0 true (row 5 parts ++ (1 ∷ rest)) ≡ read_words s 0 (all_true parts s) rest → (b : Bool) → read_words s 0 b (5 ∷ (row 5 parts ++ (1 ∷ rest))) ≡ read_words s 0 (b && all_true parts s) rest
+    on later true = later
+    on later false = passed_5 parts s 0 false (1 ∷ rest)
 
 some_read : (parts : List Shown) (s : State) (rest : List ℕ) → read_words s 0 false (row 6 parts ++ (1 ∷ rest)) ≡ read_words s 0 (some_true parts s) rest
 some_read [] s rest = refl
 some_read (e ∷ parts) s rest =
-    ap (read_words s 0 false) (split 6 e parts (1 ∷ rest)) ∙ e.1.value s false (6 ∷ (row 6 parts ++ (1 ∷ rest))) ∙ on (holds e.0 s)
+    ap (read_words s 0 false) (split 6 e parts (1 ∷ rest)) ∙ e.1.value s false (6 ∷ (row 6 parts ++ (1 ∷ rest))) ∙ on (some_read parts s rest) (holds e.0 s)
   where
-    on : (b : Bool) → read_words s 0 b (6 ∷ (row 6 parts ++ (1 ∷ rest))) ≡ read_words s 0 (b || some_true parts s) rest
-    on false = some_read parts s rest
-    on true = passed_6 parts s 0 true (1 ∷ rest)
+    on : read_words s 0 false (row 6 parts ++ (1 ∷ rest)) ≡ read_words s 0 (some_true parts s) rest → (b : Bool) → read_words s 0 b (6 ∷ (row 6 parts ++ (1 ∷ rest))) ≡ read_words s 0 (b || some_true parts s) rest
+    on later false = later
+    on later true = passed_6 parts s 0 true (1 ∷ rest)
 
 all_of : (parts : List Shown) → AreRead (0 ∷ 2 ∷ row 5 parts ++ 1 ∷ []) (all_true parts)
 all_of parts = record {

@@ -17,7 +17,7 @@ then_word word part = part ++ word ∷ []
 abbrev pub words_layer : Cond-F (List ℕ) → List ℕ
 words_layer Yes = 2 ∷ []
 words_layer No = 3 ∷ []
-words_layer (Is f) = 7 + f.0 ∷ []
+words_layer (Is f) = (7 + f.0) ∷ []
 words_layer (Not part) = part.value ++ 4 ∷ []
 words_layer (All parts) = 0 ∷ 2 ∷ flat_map (then_word 5) parts.items ++ 1 ∷ []
 words_layer (Any parts) = 0 ∷ 3 ∷ flat_map (then_word 6) parts.items ++ 1 ∷ []

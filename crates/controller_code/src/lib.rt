@@ -26,7 +26,6 @@ mod texts;
 mod trees;
 mod words;
 
-
 pub use laws::{rows_answer_as_plan, rows_are_read, rows_lead_as_outcome, steps_are_read};
 pub use names::is_code_name;
 pub use steps::{Move, Step, Test};

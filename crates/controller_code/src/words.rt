@@ -8,12 +8,19 @@ use std::alloc::AllocError;
 use task_core::Cond;
 
 const OPEN: usize = 0;
+
 const CLOSE: usize = 1;
+
 const TRUE: usize = 2;
+
 const FALSE: usize = 3;
+
 const NOT: usize = 4;
+
 const LEAVE_IF_FALSE: usize = 5;
+
 const LEAVE_IF_TRUE: usize = 6;
+
 const FIRST_FLUENT: usize = 7;
 
 /// Appends the words of a condition.
