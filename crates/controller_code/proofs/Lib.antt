@@ -4,3 +4,4 @@ pub mod StepLemmas
 pub mod WordsRead
 pub mod RowsRead
 pub mod RowsMean
+pub mod RowsFound

@@ -1,7 +1,7 @@
 -- The rows of a program: its rules, its outcomes and its steps as numbers, and what they mean.
 use Rattle.std.specs.Prelude.{ℕ, ◌+◌, ◌*◌, ◌/◌, ◌%◌, ◌==◌, Bool, true, false, ◌&&◌, List, [], ◌∷◌, ◌++◌}
 use Rattle.std.specs.Prelude.{Option, Some, None, drop, find, if◌then◌else◌, length, map, nat_le, slice_index_or, take}
-use Rattle.std.specs.List.{list_all, list_any}
+use Rattle.std.specs.List.{filter, list_all, list_any}
 use Rattle.std.specs.Option.{option_map, option_map_or}
 use Rattle.rule_lookup.specs.RunRules.{run_rules}
 use Rattle.plan_rules.specs.Rules.{ContextRule, PlainPlan, automaton, table}
@@ -104,6 +104,15 @@ abbrev pub action_rows : ℕ → List GroundAction → List (List ℕ)
 action_rows number [] = []
 action_rows number (action ∷ actions) =
     outcome_rows number 0 action.outcomes.items ++ action_rows (number + 1) actions
+
+-- whether a row is one of an outcome of an action
+abbrev pub is_row_of : ℕ → ℕ → List ℕ → Bool
+is_row_of action outcome row =
+    (slice_index_or row 0 0 == action) && (slice_index_or row 1 0 == outcome)
+
+-- the rows of an outcome of an action
+abbrev pub rows_at : List (List ℕ) → ℕ → ℕ → List (List ℕ)
+rows_at rows action outcome = filter (is_row_of action outcome) rows
 
 -- whether a row makes the fluent f true (positive) or false (not positive) from a state
 abbrev pub row_makes : Bool → Vector → ℕ → List ℕ → Bool

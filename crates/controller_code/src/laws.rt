@@ -3,9 +3,11 @@
 
 ghost use Rattle.controller_code.specs.FirstMoves.{contexts_of};
 ghost use Rattle.controller_code.specs.Rows.{
+  action_rows,
   goal_words,
   plan_answer,
   rows_answer,
+  rows_at,
   rows_of_outcome,
   rule_row,
   step_of,
@@ -17,8 +19,10 @@ ghost use Rattle.controller_code.specs.declared.steps.Step.{Step as PlainStep};
 ghost use Rattle.plan_rules.specs.Rules.{PlainPlan};
 ghost use Rattle.rule_lookup.specs.RunRules.{run_rules};
 ghost use Rattle.std.specs.List.{AllByRecursion, flat_map};
-ghost use Rattle.std.specs.Prelude.{◌≡◌, ◌<◌, ◌^◌, ℕ, List, map};
+ghost use Rattle.std.specs.Option.{option_map_or};
+ghost use Rattle.std.specs.Prelude.{◌≡◌, ◌<◌, ◌^◌, ℕ, List, [], map, slice_get};
 ghost use Rattle.task_core.specs.Actions.{after_value};
+ghost use Rattle.task_core.specs.Tasks.{outcomes_at};
 ghost use Rattle.task_core.specs.Vectors.{Vector, value_of};
 ghost use Rattle.task_core.specs.declared.actions.Outcome.{Outcome as PlainOutcome};
 
@@ -40,9 +44,14 @@ pub fn rows_answer_as_plan(task: &Task)
         ≡ plan_answer task.now plan context v }
 {}
 
-/// The rows of an outcome lead to what the outcome leads to.
-pub fn rows_lead_as_outcome()
-    ensures { (action : ℕ) (number : ℕ) (outcome : PlainOutcome) (v : Vector) (f : ℕ)
+/// The rows of an outcome are found in the table of all outcomes by the numbers of the action and the
+/// outcome, none where there is no such outcome; and they lead to what the outcome leads to.
+pub fn rows_lead_as_outcome(task: &Task)
+    ensures found { (action : ℕ) (number : ℕ)
+        → rows_at (action_rows 0 task.now.actions.items) action number
+        ≡ option_map_or (rows_of_outcome action number)
+        (slice_get (outcomes_at task.now action) number) [] }
+    ensures lead { (action : ℕ) (number : ℕ) (outcome : PlainOutcome) (v : Vector) (f : ℕ)
         → value_after_rows (rows_of_outcome action number outcome) v f
         ≡ after_value outcome (value_of v) f }
 {}

@@ -21,7 +21,7 @@ ghost use Rattle.std.specs.Prelude.{◌≡◌, ◌++◌, ◌∷◌, IfOk, OnOk, 
 use crate::left_rules::number_of;
 use crate::numbers::{push_counted, push_row};
 use crate::steps::Step;
-use crate::words::push_words;
+use crate::words::{FALSE, push_words};
 use plan_rules::{AutoRule, FIRST_CONTEXT, Next, Plan, Rule};
 use std::alloc::{AllocError, Global};
 use task_core::{Change, GroundAction, Lit, Outcome, Task};
@@ -47,7 +47,7 @@ fn goal_words(alloc: Global, task: &Task, plan: &Plan) -> Result<Vec<usize>, All
     let mut words = Vec::new(alloc);
     match (plan, &task.goal) {
         (Plan::Table(_), Some(goal)) => push_words(&mut words, goal)?,
-        _ => words.push(3)?,
+        _ => words.push(FALSE)?,
     }
     Ok(words)
 }

@@ -13,7 +13,7 @@ const CLOSE: usize = 1;
 
 const TRUE: usize = 2;
 
-const FALSE: usize = 3;
+pub(crate) const FALSE: usize = 3;
 
 const NOT: usize = 4;
 
