@@ -19,10 +19,9 @@ def main(file, seed=1):
     plan, world, context = load(file), Courier(random.Random(int(seed))), 1
     for step in range(1, 13):
         facts = world.observe()
-        decision = plan.decide([name in facts for name in plan.FLUENT_NAMES], context)
-        if decision is None:
+        answer, action, context = plan.decide([name in facts for name in plan.FLUENT_NAMES], context)
+        if answer != plan.ACT:
             break
-        action, context = decision
         world.act(plan.ACTION_NAMES[action])
         print(f"step {step} {plan.ACTION_NAMES[action]} context {context}")
 

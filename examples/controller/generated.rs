@@ -60,7 +60,7 @@ fn main() {
             .iter()
             .map(|fact| world.holds(fact))
             .collect();
-        let Some((action, next)) = plan::decide(&state, context) else {
+        let (plan::Answer::Act(action), next) = plan::decide(&state, context) else {
             break;
         };
         world.act(plan::ACTION_NAMES[action]);

@@ -38,7 +38,7 @@ use Rattle.command_base.specs.Words.{Bytes, PlanKind, of_class, with_contexts}
 use Rattle.check_command.proofs.CheckAnswers.{goal_in, verdict_for}
 use Rattle.check_command.proofs.YesMeets.{YesSolves, yes_is_met}
 use Rattle.command_base.proofs.TaskNames.{same_actions, same_fluents}
-use Rattle.control_command.specs.Controllers.{IsController, IsControllerShown, IsGuardedFor, IsProgramOf, IsShownAs, run_meaning, text_for}
+use Rattle.control_command.specs.Controllers.{IsController, IsControllerShown, IsGuardedFor, IsShownAs, run_meaning, text_for}
 use Rattle.control_command.specs.Judged.{CanBeJudged, HasNoGraph, IsFoundGood, IsGoodAlong, HasTextTooLong, IsJudged, IsJudgedShown, IsMadeRefusal, IsTableGoodOnSets, IsAffirmedAs, IsGuardedOver, IsShownOver, IsTextRefusal, IsTextShown, text_over}
 use Rattle.control_command.proofs.Limits.{too_much}
 use Rattle.control_command.specs.Sought.{IsReady, IsShownFor, JudgedPlansControl, wanted_for}
@@ -130,12 +130,6 @@ text_is : (most : ℕ) (text : List ℕ) (found : Option (Vec ℕ Global)) (byte
 text_is most text found bytes is within = subst (IsTextWithin most text) is within
 
 -- what is shown, over names that are those of the domain and the problem
-program_for : (language : Language) (d : DomainTree) (p : ProblemTree) (t : Task) (plan : PlainPlan) (bytes : Bytes) → IsTaskOf d p t → IsProgramOf language (names_of_fluents t) (names_of_actions t) plan bytes
-    → IsProgramOf language (fluent_names d p) (action_names d p) plan bytes
-program_for language d p t plan bytes of shown =
-    subst (λ (ys : List Name). IsProgramOf language (fluent_names d p) ys plan bytes) (same_actions d p t of.task_is)
-    (subst (λ (xs : List Name). IsProgramOf language xs (names_of_actions t) plan bytes) (same_fluents d p t of.task_is) shown)
-
 text_same : (d : DomainTree) (p : ProblemTree) (t : Task) (plan : PlainPlan) (steps : List ℕ) → IsTaskOf d p t → text_over t plan steps ≡ text_for d p plan steps
 text_same d p t plan steps of =
     ap (λ (xs : List Name). controller_text xs (names_of_actions t) plan steps) (same_fluents d p t of.task_is)
@@ -145,7 +139,7 @@ by_form : (form : Form) (d : DomainTree) (p : ProblemTree) (t : Task) (plan : Pl
     → IsShownAs form d p plan steps bytes
 by_form AsText d p t plan steps bytes of is = is ∙ text_same d p t plan steps of
 by_form Json d p t plan steps bytes of is = (t, of, is)
-by_form (Code language) d p t plan steps bytes of is = program_for language d p t plan bytes of is
+by_form (Code language) d p t plan steps bytes of is = (t, of, is)
 
 guarded_for : (guarded : Bool) (d : DomainTree) (p : ProblemTree) (t : Task) (plan : PlainPlan) → IsTaskOf d p t → IsGuardedOver guarded t plan → IsGuardedFor guarded d p plan
 guarded_for guarded d p t plan of are = λ wanted. (t, of, are wanted)

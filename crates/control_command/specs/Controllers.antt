@@ -5,10 +5,8 @@ use Rattle.controller_rules.specs.AsRun.{HasNoDeadRule, HasNoHiddenRule, HasOneM
 use Rattle.controller_rules.specs.AsRun.{NamesLastContext}
 use Rattle.controller_rules.specs.Guards.{AreGuarded}
 use Rattle.controller_rules.specs.Texts.{controller_text}
-use Rattle.controller_code.specs.FirstMoves.{DecidesAs}
-use Rattle.controller_code.specs.Texts.{code_text}
+use Rattle.controller_code.specs.Texts.{rules_text}
 use Rattle.controller_code.specs.declared.texts.Language.{Language}
-use Rattle.controller_code.specs.declared.trees.Tree.{Tree}
 use Rattle.exec_graph.specs.Executions.{ReachesMoreThan}
 use Rattle.first_match.specs.FirstMatch.{run_table}
 use Rattle.pddl_ast.specs.Trees.{DomainTree, ProblemTree}
@@ -84,13 +82,10 @@ pub record IsControllerText (kind : PlanKind) (domain : DomainTree) (problem : P
       (text_for domain problem plan steps) plan
   pub short : length (text_for domain problem plan steps) ≤ file_limit
 
--- a program in a language: the text of a decision tree that decides as the plan does, in each context
--- and at every state
-pub record IsProgramOf (language : Language) (fluents actions : List Name) (plan : PlainPlan)
-    (bytes : Bytes) : Type 0 where
-  pub tree : Tree
-  pub decides : DecidesAs tree plan
-  pub written : bytes ≡ code_text language fluents actions tree
+-- the program of a plan in a language: the rows of its rules, of the goal and of the outcomes, and the loops
+-- that look into them. What the rows answer is what the plan does (`rows_answer_as_plan` of controller_code)
+abbrev pub program_text : Language → Task → PlainPlan → Bytes
+program_text language task plan = rules_text language (codes "controller") task plan
 
 -- what is shown of a plan: its text; or, as JSON, its document over the problem's task; or a program
 abbrev pub IsShownAs : Form → DomainTree → ProblemTree → PlainPlan → List ℕ → Bytes → Type 0
@@ -98,7 +93,7 @@ IsShownAs AsText domain problem plan steps bytes = bytes ≡ text_for domain pro
 IsShownAs Json domain problem plan steps bytes =
     (task : Task) × IsTaskOf domain problem task × (bytes ≡ document_text task plan)
 IsShownAs (Code language) domain problem plan steps bytes =
-    IsProgramOf language (fluent_names domain problem) (action_names domain problem) plan bytes
+    (task : Task) × IsTaskOf domain problem task × (bytes ≡ program_text language task plan)
 
 -- where that is asked for, each rule of a plan asks for the precondition of its action
 abbrev pub IsGuardedFor : Bool → DomainTree → ProblemTree → PlainPlan → Type 0

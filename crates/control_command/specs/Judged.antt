@@ -34,7 +34,7 @@ use Rattle.command_base.specs.Values.{bytes_of}
 use Rattle.command_base.specs.declared.answers.Text.{Text}
 use Rattle.command_base.specs.Reading.{file_limit}
 use Rattle.command_base.specs.Words.{Bytes, IsNodeLimit, PlanKind, of_class, with_contexts}
-use Rattle.control_command.specs.Controllers.{IsLimitPassed, IsProgramOf}
+use Rattle.control_command.specs.Controllers.{IsLimitPassed, program_text}
 use Rattle.control_command.specs.Words.{ControlWords}
 use Rattle.control_command.specs.declared.words.Form.{Form}
 use Rattle.control_command.specs.declared.words.Form.TheVariants.{Code, Json, Text as AsText}
@@ -108,7 +108,7 @@ abbrev pub IsShownOver : Form → Task → PlainPlan → Bytes → Bytes → Typ
 IsShownOver AsText task plan text bytes = bytes ≡ text
 IsShownOver Json task plan text bytes = bytes ≡ document_text task plan
 IsShownOver (Code language) task plan text bytes =
-    IsProgramOf language (fluent_names task) (action_names task) plan bytes
+    bytes ≡ program_text language task plan
 
 -- an answer shows it
 pub record IsAffirmedAs (form : Form) (task : Task) (plan : PlainPlan) (text : Bytes)

@@ -29,7 +29,7 @@ use crate::searches::follow_found;
 use crate::served::served_rules;
 use crate::words::{Form, Shape};
 use command_base::{Limit, PlanKind, Refusal, Shown, Text};
-use controller_code::{Language, code_text, tree_of};
+use controller_code::{Language, rules_text};
 use controller_rules::{are_guarded, is_plan_of, write_controller};
 use ground_task::Grounded;
 use plan_document::plan_document;
@@ -356,6 +356,9 @@ fn shown_document(alloc: Global, plan: &Plan, task: &Task) -> Result<Shown, Allo
     Ok(Shown::Affirmed(Text::Made(document)))
 }
 
+/// With what each name of a program begins.
+const PROGRAM_NAME: &str = "controller";
+
 /// The program of a controller.
 fn shown_program(
     alloc: Global,
@@ -366,7 +369,6 @@ fn shown_program(
     ensures { (text : Bytes) → IfOk result (λ shown.
         IsAffirmedAs (Form.Code language) task.now (plain_of plan.now) text (shown_of shown)) }
 {
-    let tree = tree_of(alloc, plan)?;
-    let program = code_text(alloc, language, task, &tree)?;
+    let program = rules_text(alloc, language, PROGRAM_NAME, task, plan)?;
     Ok(Shown::Affirmed(Text::Made(program)))
 }

@@ -74,7 +74,7 @@ fn move_in(rule: &AutoRule) -> Move
 }
 
 /// The number of the next context; 0 where it depends on the new state.
-fn number_of(next: &Next) -> u32
+pub(crate) fn number_of(next: &Next) -> u32
     ensures { result ≡ next_number (next_of next.now) }
 {
     match next {

@@ -1,25 +1,32 @@
 //! The text of a program.
 
+ghost use Rattle.controller_code.specs.CodeNames.{is_code_name as is_named};
+ghost use Rattle.controller_code.specs.FirstMoves.{contexts_of};
 ghost use Rattle.controller_code.specs.Texts.{
-  code_text as text_of_code,
+  common_text,
+  frame_byte,
   name_line,
+  named,
   question_mark,
-  start_line,
-  step_line,
+  rules_text as text_of_rules,
+  steps_text as text_of_steps,
   string_byte,
 };
+ghost use Rattle.plan_rules.specs.Rules.{plain_of};
 ghost use Rattle.plan_rules.specs.Texts.{atom_text};
 ghost use Rattle.std.specs.List.{flat_map};
-ghost use Rattle.std.specs.Prelude.{◌≡◌, ◌++◌, IfOk, OnOk, decimal, map, string_bytes};
+ghost use Rattle.std.specs.Prelude.{◌≡◌, ◌++◌, IfOk, IsTrue, OnOk, map, string_bytes};
 ghost use Rattle.std.specs.Rc.{rc_str_bytes};
 ghost use Rattle.task_core.specs.Names.{name_bytes, name_of};
-ghost use Rattle.task_core.specs.Tasks.{action_names, fluent_names};
 
-use crate::frames::{actions_head, fluents_head, starts_head, steps_head, tail};
-use crate::steps::Step;
+use crate::frames::{
+    actions_head, contexts_head, fluents_head, functions, goal_head, outcomes_head, rules_head,
+    rules_tail, starts_head, steps_head, steps_tail,
+};
+use crate::numbers::{push_number, push_text};
+use crate::rows;
 use crate::trees::Tree;
-use itoa::{Buffer, Integer};
-use plan_rules::push_name;
+use plan_rules::{Plan, push_name};
 use std::alloc::{AllocError, Global};
 use std::rc::RcStr;
 use task_core::{GroundAction, Task};
@@ -32,27 +39,104 @@ pub enum Language {
     Python,
 }
 
-/// The program of a tree, with the names of a task's fluents and actions.
-pub fn code_text(
+/// The program of this name that decides by a plan's rules.
+pub fn rules_text(
     alloc: Global,
     language: Language,
+    name: &str,
     task: &Task,
-    tree: &Tree,
+    plan: &Plan,
 ) -> Result<Vec<u8>, AllocError>
-    ensures { IfOk result (λ text. text.items
-        ≡ text_of_code language (fluent_names task.now) (action_names task.now) tree.now) }
+    requires name { IsTrue (is_named name.now) }
+    ensures text { IfOk result (λ text. text.items
+        ≡ text_of_rules language name.now task.now (plain_of plan.now)) }
 {
     let mut out = Vec::new(alloc);
-    push_text(&mut out, fluents_head(language))?;
-    push_fluents(&mut out, alloc, language, &task.fluents)?;
-    push_text(&mut out, actions_head(language))?;
-    push_actions(&mut out, alloc, language, &task.actions)?;
-    push_text(&mut out, steps_head(language))?;
-    push_steps(&mut out, &tree.steps)?;
-    push_text(&mut out, starts_head(language))?;
-    push_starts(&mut out, &tree.starts)?;
-    push_text(&mut out, tail(language))?;
+    push_common(&mut out, alloc, language, name, task, plan)?;
+    push_frame(&mut out, name, rules_head(language))?;
+    rows::push_rules(&mut out, alloc, plan)?;
+    push_frame(&mut out, name, rules_tail(language))?;
     Ok(out)
+}
+
+/// The program of this name that decides by the steps of a tree.
+pub fn steps_text(
+    alloc: Global,
+    language: Language,
+    name: &str,
+    task: &Task,
+    plan: &Plan,
+    tree: &Tree,
+) -> Result<Vec<u8>, AllocError>
+    requires name { IsTrue (is_named name.now) }
+    ensures text { IfOk result (λ text. text.items
+        ≡ text_of_steps language name.now task.now (plain_of plan.now) tree.now) }
+{
+    let mut out = Vec::new(alloc);
+    push_common(&mut out, alloc, language, name, task, plan)?;
+    push_frame(&mut out, name, steps_head(language))?;
+    rows::push_steps(&mut out, &tree.steps)?;
+    push_frame(&mut out, name, starts_head(language))?;
+    rows::push_starts(&mut out, &tree.starts)?;
+    push_frame(&mut out, name, steps_tail(language))?;
+    Ok(out)
+}
+
+/// Appends what both forms of a program have.
+fn push_common(
+    out: &mut Vec<u8>,
+    alloc: Global,
+    language: Language,
+    name: &str,
+    task: &Task,
+    plan: &Plan,
+) -> Result<(), AllocError>
+    ensures { OnOk result (out.new.items ≡ out.old.items
+        ++ common_text language name.now task.now (plain_of plan.now)) }
+{
+    push_frame(out, name, fluents_head(language))?;
+    push_fluents(out, alloc, language, &task.fluents)?;
+    push_frame(out, name, actions_head(language))?;
+    push_actions(out, alloc, language, &task.actions)?;
+    push_frame(out, name, contexts_head(language))?;
+    push_number(out, contexts_in(plan))?;
+    push_frame(out, name, goal_head(language))?;
+    rows::push_goal(out, alloc, task, plan)?;
+    push_frame(out, name, outcomes_head(language))?;
+    rows::push_actions(out, alloc, &task.actions)?;
+    push_frame(out, name, functions(language))
+}
+
+/// How many contexts a plan has.
+fn contexts_in(plan: &Plan) -> u32
+    ensures { result ≡ contexts_of (plain_of plan.now) }
+{
+    match plan {
+        Plan::Table(_) => 1,
+        Plan::Auto(automaton) => automaton.contexts,
+    }
+}
+
+/// Appends a fixed text, with the program's name in place of `@`.
+fn push_frame(out: &mut Vec<u8>, name: &str, frame: &str) -> Result<(), AllocError>
+    ensures { OnOk result (out.new.items ≡ out.old.items ++ named name.now frame.now) }
+{
+    for byte in frame.as_bytes() {
+        push_frame_byte(out, name, *byte)?;
+    }
+    Ok(())
+}
+
+/// Appends a byte of a fixed text.
+fn push_frame_byte(out: &mut Vec<u8>, name: &str, byte: u8) -> Result<(), AllocError>
+    ensures { OnOk result (out.new.items ≡ out.old.items ++ frame_byte name.now byte) }
+{
+    if byte == b'@' {
+        push_text(out, name)
+    } else {
+        out.push(byte)?;
+        Ok(())
+    }
 }
 
 /// Appends the names of fluents.
@@ -139,73 +223,4 @@ fn mark(language: Language) -> &'static str
         Language::Rust => "?",
         Language::Python => "?",
     }
-}
-
-/// Appends steps.
-fn push_steps(out: &mut Vec<u8>, steps: &[Step]) -> Result<(), AllocError>
-    ensures { OnOk result (out.new.items ≡ out.old.items ++ flat_map step_line steps.now) }
-{
-    for step in steps {
-        push_step(out, step)?;
-    }
-    Ok(())
-}
-
-/// Appends the line of a step.
-fn push_step(out: &mut Vec<u8>, step: &Step) -> Result<(), AllocError>
-    ensures { OnOk result (out.new.items ≡ out.old.items ++ step_line step.now) }
-{
-    match step {
-        Step::Stop => push_text(out, "    Stop,\n"),
-        Step::Take(chosen) => {
-            push_text(out, "    Take(")?;
-            push_number(out, chosen.action.0)?;
-            push_text(out, ", ")?;
-            push_number(out, chosen.next)?;
-            push_text(out, "),\n")
-        }
-        Step::Ask(test) => {
-            push_text(out, "    Ask(")?;
-            push_number(out, test.fluent.0)?;
-            push_text(out, ", ")?;
-            push_number(out, test.if_true)?;
-            push_text(out, ", ")?;
-            push_number(out, test.if_false)?;
-            push_text(out, "),\n")
-        }
-    }
-}
-
-/// Appends the numbers of steps.
-fn push_starts(out: &mut Vec<u8>, starts: &[usize]) -> Result<(), AllocError>
-    ensures { OnOk result (out.new.items ≡ out.old.items ++ flat_map start_line starts.now) }
-{
-    for start in starts {
-        push_start(out, *start)?;
-    }
-    Ok(())
-}
-
-/// Appends the line of a start.
-fn push_start(out: &mut Vec<u8>, start: usize) -> Result<(), AllocError>
-    ensures { OnOk result (out.new.items ≡ out.old.items ++ start_line start) }
-{
-    push_text(out, "    ")?;
-    push_number(out, start)?;
-    push_text(out, ",\n")
-}
-
-/// Appends a number in decimal.
-fn push_number<I: Integer>(out: &mut Vec<u8>, number: I) -> Result<(), AllocError>
-    ensures { OnOk result (out.new.items ≡ out.old.items ++ I.text number) }
-{
-    let mut buffer = Buffer::new();
-    push_text(out, buffer.format(number))
-}
-
-/// Appends a text.
-fn push_text(out: &mut Vec<u8>, text: &str) -> Result<(), AllocError>
-    ensures { OnOk result (out.new.items ≡ out.old.items ++ text.now) }
-{
-    out.extend_from_slice(text.as_bytes())
 }

@@ -1,0 +1,13 @@
+-- The lines so far, and those of the rules that are left, are together the whole.
+use Rattle.std.specs.Prelude.{◌≡◌, ◌++◌, drop, map}
+use Rattle.std.specs.List.{flat_map}
+use Rattle.controller_code.specs.Texts.{counted_line}
+use Rattle.rule_lookup.specs.RunRules.{in_one_context}
+use Rattle.plan_rules.specs.Rules.{rule_of}
+use Rattle.controller_code.specs.Rows.{rule_row}
+use Rattle.controller_code.proofs.rows.push_table.Given as goal
+
+abbrev pub invariant-loop-rule : goal.invariant-loop-rule
+invariant-loop-rule l =
+    l.out.items ++ flat_map counted_line (map rule_row (map in_one_context (map rule_of (drop l.rule-index l.rules))))
+    ≡ l.fn.out.items ++ flat_map counted_line (map rule_row (map in_one_context (map rule_of l.rules)))
