@@ -1,5 +1,5 @@
-/* The diagrams of the program bench_diagrams, made with the C library BuDDy (Debian package libbdd-dev): the same clauses, sets
- * and board, by the same calls in the same order. Use: buddy PROBLEM COUNT, with a problem of bench_diagrams except nodes.
+/* The diagrams of `bench_calls diagrams`, made with the C library BuDDy (Debian package libbdd-dev): the same clauses, sets
+ * and board, by the same calls in the same order. Use: buddy PROBLEM COUNT, with a problem of that call except nodes.
  *
  * BuDDy collects its garbage and makes a node again that it needs again, so the last number of its line counts the nodes that
  * it made, and may exceed that of different nodes.
@@ -12,7 +12,7 @@
 
 enum { VARIABLES = 60, LITERALS = 3, PART = 8, LARGEST = 16, LARGE = 100, SMALL = 10, MIDDLE = 17, SETS = 16 };
 
-/* The generator of crates/bench_diagrams/src/random.rt. */
+/* The generator of crates/bench_calls/src/random.rt. */
 static uint64_t state = 1;
 
 static unsigned below(unsigned bound)

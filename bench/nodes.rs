@@ -1,9 +1,9 @@
-//! The triples that `bench_diagrams nodes COUNT` puts into its table, in a plain `HashMap` of Rust's standard library, with the
-//! same line of output. Use, as its program is named `hashmap`: hashmap nodes COUNT.
+//! The triples that `bench_calls diagrams nodes COUNT` puts into its table, in a plain `HashMap` of Rust's standard library,
+//! with the same line of output. Use, as its program is named `hashmap`: hashmap nodes COUNT.
 
 use std::collections::HashMap;
 
-/// The generator of crates/bench_diagrams/src/random.rt.
+/// The generator of crates/bench_calls/src/random.rt.
 struct Random {
     state: u64,
 }

@@ -31,8 +31,8 @@ def name_of(form):
 
 
 def literals_of(forms):
-    """The fluents that are asked for, each with the value that it has to have."""
-    return {name_of(form[1] if form[0] == "not" else form): form[0] != "not" for form in forms}
+    """The fluents that are asked for, each with the value that it has to have. One that is asked for with both values is never met."""
+    return [(name_of(form[1] if form[0] == "not" else form), form[0] != "not") for form in forms]
 
 
 class Rule:
@@ -51,7 +51,7 @@ class Rule:
 
 
 def holds(literals, state):
-    return all((fluent in state) == value for fluent, value in literals.items())
+    return all((fluent in state) == value for fluent, value in literals)
 
 
 def is_true(condition, state):
@@ -73,14 +73,14 @@ def changed(state, outcome):
 
 def rules_of_document(document):
     for rule in document["rules"]:
-        yield Rule(rule["context"], rule["literals"], rule["action"], [({}, rule["next"])], rule["precondition"], rule["outcomes"])
+        yield Rule(rule["context"], list(rule["literals"].items()), rule["action"], [([], rule["next"])], rule["precondition"], rule["outcomes"])
 
 
 def rules_of_text(text):
     plan = next(form for form in read(text) if form and form[0] == "plan")
     for rule in plan[3:]:
         context, cube, action, after = [1, *rule[1:], "1"] if plan[1] == "table" else rule[1:]
-        cases = [(literals_of(case[0]), int(case[1])) for case in after] if isinstance(after, list) else [({}, int(after))]
+        cases = [(literals_of(case[0]), int(case[1])) for case in after] if isinstance(after, list) else [([], int(after))]
         yield Rule(int(context), literals_of(cube), name_of(action), cases)
 
 

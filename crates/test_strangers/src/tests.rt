@@ -4,14 +4,16 @@
 
 ghost use Rattle.std.specs.Prelude.{◌≡◌, All, IfOk};
 
-use crate::{ListingMonitor, Place, ReverseWorld, WeightMonitor};
+use crate::{ActionMonitor, ListingMonitor, Place, QueueWorld, ReverseWorld, WeightMonitor};
 use mbp_top::run;
 use plan_io::{MemShelf, MemSink};
 use run_replay::{ChangeMonitor, Monitor, StepMonitor, World};
 use std::alloc::{AllocError, Global};
+use std::collections::VecDeque;
 use std::fmt::Write;
 use std::rc::Rc;
 use std::test::Fail;
+use task_core::ActionId;
 
 const SWITCH: &str = "(define (domain sw)
   (:predicates (p))
@@ -67,12 +69,15 @@ fn shelf(alloc: Global) -> Result<MemShelf, Fail> {
         ("slip-d", SLIP),
         ("slip-p", ACROSS),
         ("go", "(plan table weak (rule () (go a b)))"),
+        ("arrive", "(plan table weak (rule ((at a)) (go a b)))"),
         ("many-d", MANY),
         ("many", ELEVEN),
         ("none", "(record 0)"),
         ("two", "(record 0 0 0)"),
         ("three", "(record 0 0 0 0)"),
         ("long", "(record 0 4294967295)"),
+        ("stray", "(record 0 0 2 0)"),
+        ("far", "(record 1)"),
     ] {
         shelf.add(name, text.as_bytes())?;
     }
@@ -217,6 +222,34 @@ fn told_to(alloc: Global, line: &str, faults: Faults, watchers: Watchers) -> Res
     told(alloc, line, faults, world, monitors(alloc, watchers)?)
 }
 
+/// What a command tells with a world that draws from a queue and a monitor of each of the two
+/// actions of the switch.
+fn told_of_actions(alloc: Global, line: &str) -> Result<String, Fail> {
+    let numbers = VecDeque::new(alloc);
+    let world: Box<dyn World> = Box::new(alloc, QueueWorld { numbers })?;
+    let on = ActionMonitor {
+        action: ActionId(0),
+        count: 0,
+    };
+    let off = ActionMonitor {
+        action: ActionId(1),
+        count: 0,
+    };
+    let mut monitors: Vec<Box<dyn Monitor>> = Vec::new(alloc);
+    monitors.push(Box::new(alloc, on)?)?;
+    monitors.push(Box::new(alloc, off)?)?;
+    told(alloc, line, NO_FAULT, world, monitors)
+}
+
+#[test]
+fn the_steps_with_each_action(rt: HostRuntime) -> Result<(), Fail> {
+    let text = "0 step 1 (on) outcome 0\nstep 2 (off) outcome 0\nstep 3 (on) outcome 0\n\
+        end record\ntally uses 2\ntally uses 1\n|";
+    let told = told_of_actions(rt.alloc(), "replay sw-d sw-p sw-plan three")?;
+    assert_eq!(rt; told.as_str(), text);
+    Ok(())
+}
+
 #[test]
 fn what_a_replay_tells(rt: HostRuntime) -> Result<(), Fail> {
     for (watchers, line, text) in [
@@ -281,7 +314,6 @@ fn uses_of(alloc: Global, line: &str, faults: Faults) -> Result<String, Fail> {
     uses_text(alloc, status, &of_world, &of_monitor)
 }
 
-/// The same from the status and the places.
 fn uses_text(
     alloc: Global,
     status: &str,
@@ -325,6 +357,11 @@ fn who_uses_them_and_that_each_is_dropped_once(rt: HostRuntime) -> Result<(), Fa
         ("replay sw-d sw-p sw-plan three", 0, 9, "7 5 1 5 1: 1 2 3"),
         // The second step can't be made.
         ("replay slip-d slip-p go two", 0, 0, "9 2 1 1 1: 1"),
+        // It ends in the goal after one step.
+        ("replay slip-d slip-p arrive two", 0, 0, "0 2 1 3 1: 1"),
+        // The second number is of no outcome.
+        ("replay sw-d sw-p sw-plan stray", 0, 0, "9 3 1 1 1: 1"),
+        ("replay sw-d sw-p sw-plan far", 0, 0, "3 0 1 0 1:"),
         ("plan ctl sw-d sw-p", 0, 0, "0 0 1 0 1:"),
         ("plan strong slip-d slip-p", 0, 0, "1 0 1 0 1:"),
         ("ground slip-d slip-p", 0, 0, "0 0 1 0 1:"),

@@ -1,0 +1,2 @@
+(define (problem night) (:domain watch)
+  (:init (= (cost) 0)) (:goal (bell)))

@@ -1,6 +1,0 @@
--- The table keeps its variables.
-use Rattle.std.proofs.Common.{◌≡◌}
-use Rattle.bench_diagrams.proofs.chains.make_nodes.Given as goal
-
-abbrev pub invariant-loop : goal.invariant-loop
-invariant-loop l = l.dd.vars ≡ 256

@@ -1,2 +1,0 @@
-(define (problem c) (:domain coin)
-  (:init (= (cost) 0)) (:goal (up)))
