@@ -18,7 +18,6 @@ use encode_task::Enc;
 use slot_board::Board;
 use task_core::FluentId;
 
-/// Ends a slot.
 fn end(enc: &mut Enc, slot: SetId)
     requires { IsLive enc.old.sets slot.0 }
     ensures released { Releases enc.old.sets enc.new.sets slot.0 }
@@ -103,7 +102,6 @@ fn put_fluent(enc: &mut Enc, board: &mut Board, place: usize, f: FluentId) -> Re
     put(enc, board, place, answer)
 }
 
-/// Fixes a fluent in the set at a place.
 fn put_fixed(
     enc: &mut Enc,
     board: &mut Board,
@@ -125,7 +123,6 @@ fn put_fixed(
     put(enc, board, place, answer)
 }
 
-/// Makes a step.
 fn make(enc: &mut Enc, board: &mut Board, step: Step) -> Result<(), SetErr>
     requires { (start : Start) × (placed : Placed)
         × Shows start enc.old board.old.slots.items placed × CanMake start placed step }

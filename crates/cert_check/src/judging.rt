@@ -61,7 +61,6 @@ fn has_opposite(cube: &[Lit], lit: Lit) -> bool
     false
 }
 
-/// Whether a cube contradicts itself.
 fn contradicts(cube: &[Lit]) -> bool
     ensures { result ≡ contradicts cube.now }
 {
@@ -119,7 +118,6 @@ fn make_set(alloc: Global, enc: &mut Enc, board: &mut Board, set: &StateSet) -> 
     }
 }
 
-/// Joins a set to the union.
 fn join_set(enc: &mut Enc, board: &mut Board) -> Result<(), SetErr>
     requires { (start : Start) × (f : Function) × (g : Function)
         × HasSet start enc.old board.old.slots.items f g × IsBoard start × IsSmall start (or_of f g) }
@@ -265,7 +263,6 @@ fn make_way_out(alloc: Global, enc: &mut Enc, board: &mut Board, way: Way) -> Re
     make_all(enc, board, &steps)
 }
 
-/// Whether an action is a way out of a set.
 fn is_way_out(
     alloc: Global,
     enc: &mut Enc,
@@ -289,7 +286,6 @@ fn is_way_out(
     some_matches_left(alloc, enc, board, set)
 }
 
-/// Whether some action is a way out of a set.
 fn some_is_way_out(
     alloc: Global,
     enc: &mut Enc,

@@ -49,7 +49,6 @@ fn sign_of(positive: bool) -> Operation
     }
 }
 
-/// A literal of a cube.
 fn add_literal(steps: &mut Vec<Step>, lit: Lit) -> Result<(), SetErr>
     ensures added { OnOk result (steps.new.items ≡ steps.old.items ++ literal_steps lit) }
     ensures never_full { IfErr result (λ e. e ≡ SetErr.Memory) }
@@ -61,7 +60,6 @@ fn add_literal(steps: &mut Vec<Step>, lit: Lit) -> Result<(), SetErr>
     )
 }
 
-/// The literals of a cube.
 fn add_literals(steps: &mut Vec<Step>, cube: &[Lit]) -> Result<(), SetErr>
     ensures added { OnOk result
         (steps.new.items ≡ steps.old.items ++ flat_map literal_steps cube.now) }

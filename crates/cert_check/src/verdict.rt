@@ -71,7 +71,6 @@ fn judge_actions(
     }
 }
 
-/// Makes the union of the sets.
 fn join_all(
     alloc: Global,
     enc: &mut Enc,

@@ -105,7 +105,6 @@ fn search_visits(
     Ok(FoundAuto::Plan(plan))
 }
 
-/// How many visits there are.
 fn count_of(visits: &[Cond]) -> u32
     requires { length visits.now ≤ most_visits }
     ensures { result ≡ length visits.now }

@@ -57,7 +57,6 @@ pub(crate) struct Taken {
     pub(crate) action: ActionId,
 }
 
-/// A rule for each cube.
 fn add_rules(rules: &mut Vec<AutoRule>, given: Move, cubes: Vec<Vec<Lit>>) -> Result<(), AllocError>
     ensures { OnOk result (map context_rule_of rules.new.items
         ≡ map context_rule_of rules.old.items

@@ -154,7 +154,6 @@ fn keep_first(
     keep_all(enc, board, means, visits)
 }
 
-/// Makes one round more.
 fn keep_more(
     enc: &mut Enc,
     board: &mut Board,

@@ -20,7 +20,6 @@ pub fn names_last_context(plan: &Plan) -> bool
     }
 }
 
-/// Whether some rule names a context.
 fn is_named(context: u32, rules: &[AutoRule]) -> bool
     ensures { IsTrue result → (rule : ContextRule) × Contains (map context_rule_of rules.now) rule
         × NamesContext context rule }
@@ -33,14 +32,12 @@ fn is_named(context: u32, rules: &[AutoRule]) -> bool
     false
 }
 
-/// Whether a rule names a context.
 fn names(context: u32, rule: &AutoRule) -> bool
     ensures { IsTrue result → NamesContext context (context_rule_of rule.now) }
 {
     rule.context == context || goes_to(context, &rule.next)
 }
 
-/// Whether the next context is always this one.
 fn goes_to(context: u32, next: &Next) -> bool
     ensures { IsTrue result → next_of next.now ≡ always context }
 {

@@ -41,7 +41,6 @@ fn are_rules_of(fluents: usize, actions: usize, rules: &[Rule]) -> bool
     true
 }
 
-/// Whether a rule is.
 fn is_rule_of(fluents: usize, actions: usize, rule: &Rule) -> bool
     ensures { IsTrue result → IsRuleOf fluents actions (rule_of rule.now) }
 {
@@ -61,7 +60,6 @@ fn are_context_rules_of(fluents: usize, actions: usize, contexts: u32, rules: &[
     true
 }
 
-/// Whether a rule is.
 fn is_context_rule_of(fluents: usize, actions: usize, contexts: u32, rule: &AutoRule) -> bool
     ensures { IsTrue result
         → IsContextRuleOf fluents actions contexts (context_rule_of rule.now) }
@@ -72,14 +70,12 @@ fn is_context_rule_of(fluents: usize, actions: usize, contexts: u32, rule: &Auto
     is_context_of(contexts, rule.context) && is_next_of(contexts, &rule.next)
 }
 
-/// Whether a context is one of so many.
 fn is_context_of(contexts: u32, context: u32) -> bool
     ensures { IsTrue result → IsContextOf contexts context }
 {
     1 <= context && context <= contexts
 }
 
-/// Whether the next context is one of so many.
 fn is_next_of(contexts: u32, next: &Next) -> bool
     ensures { (fluents : ℕ) → IsTrue result → IsNextOf fluents contexts (next_of next.now) }
 {

@@ -26,7 +26,6 @@ pub fn are_guarded(task: &Task, plan: &Plan) -> bool
     }
 }
 
-/// Whether the rules of a table do.
 fn are_rules_guarded(task: &Task, rules: &[Rule]) -> bool
     ensures { IsTrue result
         → All (IsGuardedRule task.now) (map in_one_context (map rule_of rules.now)) }
@@ -39,7 +38,6 @@ fn are_rules_guarded(task: &Task, rules: &[Rule]) -> bool
     true
 }
 
-/// Whether the rules of an automaton do.
 fn are_context_rules_guarded(task: &Task, rules: &[AutoRule]) -> bool
     ensures { IsTrue result → All (IsGuardedRule task.now) (map context_rule_of rules.now) }
 {

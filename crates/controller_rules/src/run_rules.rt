@@ -174,7 +174,6 @@ fn rules_of(alloc: Global, plan: &Plan) -> Result<Option<Vec<RunRule<'_>>>, Allo
     }
 }
 
-/// Those of a table.
 fn table_rules(alloc: Global, rules: &[Rule]) -> Result<Vec<RunRule<'_>>, AllocError>
     ensures { IfOk result (λ made. map run_value made.items
         ≡ map in_one_context (map rule_of rules.now)) }

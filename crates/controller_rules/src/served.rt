@@ -39,7 +39,6 @@ pub fn rules_serve(
     }
 }
 
-/// The same of the rules with their index.
 fn serve_in(
     alloc: Global,
     task: &Task,
@@ -84,7 +83,6 @@ fn agree_everywhere(task: &Task, run: &RunRules<'_>, graph: &Graph, served: &mut
     true
 }
 
-/// Whether all are marked.
 fn are_all(marks: &[bool]) -> bool
     ensures { IsTrue result → (k : ℕ) → k < length marks.now
         → slice_index_or marks.now k false ≡ true }

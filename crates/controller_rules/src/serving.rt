@@ -77,7 +77,6 @@ pub fn serving_part(
     }
 }
 
-/// For each rule whether it serves.
 fn serving_marks(
     alloc: Global,
     task: &Task,
@@ -93,7 +92,6 @@ fn serving_marks(
     Ok(marks)
 }
 
-/// Marks the rules that serve.
 fn mark_serving(task: &Task, run: &RunRules<'_>, graph: &Graph, marks: &mut [bool])
     requires indexed { AreIndexed (fluent_count task.now) run.now }
     requires one_each { length marks.old ≡ length run.now.rules.items }
@@ -129,7 +127,6 @@ fn mark_first(task: &Task, run: &RunRules<'_>, state: &State, context: u32, mark
     }
 }
 
-/// The part of a plan with these rules that is marked.
 fn part_of(
     alloc: Global,
     plan: &Plan,
@@ -155,7 +152,6 @@ fn part_of(
     }
 }
 
-/// The rules of a table that are marked.
 fn marked_rules(alloc: Global, rules: &[Rule], marks: &[bool]) -> Result<Vec<Rule>, AllocError>
     ensures { IfOk result (λ kept.
         map rule_of kept.items ≡ marked marks.now (map rule_of rules.now)) }
@@ -180,7 +176,6 @@ fn keep_if(alloc: Global, kept: &mut Vec<Rule>, rule: &Rule, is: bool) -> Result
     Ok(())
 }
 
-/// The rules of an automaton that are marked.
 fn marked_context_rules(
     alloc: Global,
     rules: &[RunRule<'_>],
@@ -196,7 +191,6 @@ fn marked_context_rules(
     Ok(kept)
 }
 
-/// The same for the rule of an automaton.
 fn keep_context_if(
     alloc: Global,
     kept: &mut Vec<AutoRule>,
@@ -214,7 +208,6 @@ fn keep_context_if(
     Ok(())
 }
 
-/// Whether the mark of a number is set.
 fn is_marked(marks: &[bool], number: usize) -> bool
     ensures { result ≡ slice_index_or marks.now number false }
 {
@@ -224,7 +217,6 @@ fn is_marked(marks: &[bool], number: usize) -> bool
     }
 }
 
-/// The same rule.
 fn copy_of(alloc: Global, rule: &Rule) -> Result<Rule, AllocError>
     ensures { IfOk result (λ copy. rule_of copy ≡ rule_of rule.now) }
 {
@@ -234,7 +226,6 @@ fn copy_of(alloc: Global, rule: &Rule) -> Result<Rule, AllocError>
     })
 }
 
-/// The same rule of an automaton.
 fn context_copy_of(alloc: Global, rule: &RunRule<'_>) -> Result<AutoRule, AllocError>
     ensures { IfOk result (λ copy. context_rule_of copy ≡ run_value rule.now) }
 {
@@ -246,7 +237,6 @@ fn context_copy_of(alloc: Global, rule: &RunRule<'_>) -> Result<AutoRule, AllocE
     })
 }
 
-/// The greatest context that rules name.
 fn greatest_named(rules: &[AutoRule]) -> u32
     ensures { result ≡ greatest_named (map context_rule_of rules.now) }
 {

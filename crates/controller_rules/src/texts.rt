@@ -75,7 +75,6 @@ pub fn write_controller(
     }
 }
 
-/// The same of a table.
 fn write_table(
     alloc: Global,
     plan: &TablePlan,
@@ -99,7 +98,6 @@ fn write_table(
     Ok(None)
 }
 
-/// The same of an automaton.
 fn write_automaton(
     alloc: Global,
     plan: &AutoPlan,
@@ -239,7 +237,6 @@ fn push_new(out: &mut String, before: Option<u32>, steps: u32) -> Result<(), All
     }
 }
 
-/// Appends a comment.
 fn push_comment(out: &mut String, steps: u32) -> Result<(), AllocError>
     ensures { OnOk result (string_bytes out.new ≡ string_bytes out.old ++ comment_text steps) }
 {

@@ -79,7 +79,6 @@ fn stays_if_found(
     }
 }
 
-/// Where a plan stays after a run.
 fn stays_after(alloc: Global, scene: &Scene<'_>, run: &Run) -> Result<Stays, AllocError>
     requires scene { IsFollowed scene.now }
     requires reached { EndsReached scene.now run.now }

@@ -432,7 +432,6 @@ fn push_back(out: &mut String, again: Option<usize>) -> Result<(), AllocError>
     }
 }
 
-/// The same for a step with a number.
 fn push_again(out: &mut String, number: usize) -> Result<(), AllocError>
     ensures { OnOk result
         (string_bytes out.new ≡ string_bytes out.old ++ back_text (Some number)) }

@@ -201,7 +201,6 @@ fn first_step(
     grow(enc, board, steps, spent, actions)
 }
 
-/// One step more.
 fn next_step(
     enc: &mut Enc,
     board: &mut Board,

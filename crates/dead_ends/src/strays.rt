@@ -206,7 +206,6 @@ fn left_to(leaving: &Leaving<'_>, taken: &Taken<'_>, outcome: u32, state: State)
     })
 }
 
-/// Whether an outcome of a step to a state leaves a run so.
 fn leaves(leaving: &Leaving<'_>, step: &RunStep, state: &State) -> bool
     ensures { (n : ℕ) → IsWithin n state.now → IsWithin n step.now.state
         → All (IsWithin n) leaving.now.states.now
@@ -220,7 +219,6 @@ fn leaves(leaving: &Leaving<'_>, step: &RunStep, state: &State) -> bool
     }
 }
 
-/// Whether a state is one of some.
 fn is_among(states: &[State], state: &State) -> bool
     ensures { (n : ℕ) → IsWithin n state.now → All (IsWithin n) states.now
         → result ≡ list_any (same_vector (vector n state.now)) (map (vector n) states.now) }
@@ -228,14 +226,12 @@ fn is_among(states: &[State], state: &State) -> bool
     is_listed(states, state)
 }
 
-/// The same by `==`.
 fn is_listed(states: &[State], state: &State) -> bool
     ensures { result ≡ list_any (λ other. same_state state.now other) states.now }
 {
     states.iter().any(|other| is_equal(state, other))
 }
 
-/// Whether two states are the same.
 fn is_same(state: &State, other: &State) -> bool
     ensures { (n : ℕ) → IsWithin n state.now → IsWithin n other.now
         → result ≡ same_vector (vector n state.now) (vector n other.now) }
@@ -243,7 +239,6 @@ fn is_same(state: &State, other: &State) -> bool
     is_equal(state, other)
 }
 
-/// The same by `==`.
 fn is_equal(state: &State, other: &State) -> bool
     ensures { result ≡ same_state state.now other.now }
 {

@@ -79,7 +79,6 @@ pub fn run_to_goal<P: Planner>(
     }
 }
 
-/// The text of a run that is told.
 fn text_of(alloc: Global, class: Class, task: &Task, told: &Told) -> Result<String, AllocError>
     ensures { let n = fluent_count task.now in IfOk result (λ text. string_bytes text
         ≡ text_of_run (fluent_names task.now) (action_names task.now) told.now.number

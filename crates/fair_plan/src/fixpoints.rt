@@ -108,7 +108,6 @@ fn near_by(enc: &mut Enc, board: &mut Board, a: ActionId) -> Result<(), SetErr>
     near_hits(enc, board, a)
 }
 
-/// Does that by each action.
 fn pass(enc: &mut Enc, board: &mut Board, actions: u32) -> Result<(), SetErr>
     requires ready { (origin : Origin) × IsThere origin (enc.old, board.old.slots.items) }
     requires actions { actions ≡ length enc.old.actions }

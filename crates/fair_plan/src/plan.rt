@@ -31,7 +31,6 @@ use slot_board::Board;
 use std::alloc::Global;
 use task_core::{Cond, Task};
 
-/// How many stages there are.
 fn stages_of(stages: &[UntilStage]) -> u32
     requires { length stages.now ≤ most_stages }
     ensures { result ≡ length stages.now }
@@ -39,7 +38,6 @@ fn stages_of(stages: &[UntilStage]) -> u32
     stages.len() as u32
 }
 
-/// How many visits there are.
 fn visits_of(visits: &[Cond]) -> u32
     requires { length visits.now ≤ most_stages }
     ensures { result ≡ length visits.now }

@@ -42,7 +42,6 @@ struct VisitPlaces {
     takers: usize,
 }
 
-/// A rule for each cube.
 fn add_rules(rules: &mut Vec<AutoRule>, turn: Turn, cubes: Vec<Vec<Lit>>) -> Result<(), AllocError>
     ensures { OnOk result (map context_rule_of rules.new.items
         ≡ map context_rule_of rules.old.items
@@ -312,7 +311,6 @@ fn list_visit(
     Ok(())
 }
 
-/// The rules of all contexts of a patrol.
 fn list_patrol(
     enc: &mut Enc,
     board: &mut Board,

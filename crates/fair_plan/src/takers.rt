@@ -98,7 +98,6 @@ fn climb_by(enc: &mut Enc, board: &mut Board, takers: usize, a: ActionId) -> Res
     climb_hits(enc, board, takers, a)
 }
 
-/// Does that by each action.
 fn climb_once(enc: &mut Enc, board: &mut Board, actions: u32, takers: usize) -> Result<(), SetErr>
     requires ready { (origin : Origin) × IsThere origin (enc.old, board.old.slots.items) }
     requires actions { actions ≡ length enc.old.actions }

@@ -156,7 +156,6 @@ fn lasso_without<L: Ledger>(
     }
 }
 
-/// The steps of the way back of a lasso.
 fn steps_back(alloc: Global, scene: &Scene<'_>, lasso: &WayBack) -> Result<Vec<RunStep>, AllocError>
     requires scene { IsScene scene.now }
     requires end { lasso.now.stem.end < size_in scene.now }

@@ -233,7 +233,6 @@ pub(crate) fn shrink_by(enc: &mut Enc, board: &mut Board, a: ActionId) -> Result
     Ok(true)
 }
 
-/// Does that by each action: whether there were any by some.
 fn shrink_once(enc: &mut Enc, board: &mut Board, actions: u32) -> Result<bool, SetErr>
     requires ready { (scene : Scene) × (from : Function) × (set : Function)
         × HasShrunk scene enc.old board.old.slots.items from set }

@@ -95,7 +95,6 @@ fn write(written: &mut Vec<Option<Written>>, lit: Lit, always: bool) {
     }
 }
 
-/// What was noted of a fluent.
 fn written_at(written: &[Option<Written>], fluent: FluentId) -> Option<Written> {
     match written.get(fluent.0 as usize) {
         Some(place) => *place,

@@ -150,7 +150,6 @@ impl Walk {
         }
     }
 
-    /// One of them by its place.
     fn follower(&self, action: ActionId, place: usize) -> Option<ActionId> {
         match self.followers.get(action.0 as usize) {
             Some(list) => match list.get(place) {

@@ -167,7 +167,6 @@ fn agrees(enc: &mut Enc, board: &mut Board, order: &Order) -> Result<bool, SetEr
     stays_in(enc, board, PART, order)
 }
 
-/// The verdict, by the sets at the places of a board.
 fn judge(
     enc: &mut Enc,
     board: &mut Board,

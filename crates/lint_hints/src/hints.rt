@@ -71,7 +71,6 @@ pub fn lint_hints(
     }
 }
 
-/// Whether a domain has an invariant.
 fn has_invariant(domain: &Domain) -> bool {
     match &domain.invariant {
         Formula::All(parts) => !parts.is_empty(),

@@ -80,7 +80,6 @@ fn one_of(alloc: Global, task: &Task, members: &[u32], groups: usize) -> Result<
     Ok(out)
 }
 
-/// The members that are named.
 fn named(members: &[u32]) -> &[u32]
     ensures { result.now ≡ take 8 members.now }
 {
@@ -179,7 +178,6 @@ fn widest(alloc: Global, count: u32, groups: &[State]) -> Result<Vec<u32>, Alloc
     Ok(most)
 }
 
-/// The longer list.
 fn longer(first: Vec<u32>, second: Vec<u32>) -> Vec<u32>
     ensures { result.items ≡ longer_of first.items second.items }
 {

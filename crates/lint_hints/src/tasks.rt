@@ -65,7 +65,6 @@ fn task_in(
     grounded(alloc, domain, problem)
 }
 
-/// The domain that a text spells.
 fn domain_of(alloc: Global, text: &[u8]) -> Result<Option<Domain>, AllocError>
     requires { length text.now ≤ MAX_BYTES }
     ensures spells { IfOk result (λ found. IfSome found
@@ -82,7 +81,6 @@ fn domain_of(alloc: Global, text: &[u8]) -> Result<Option<Domain>, AllocError>
     }
 }
 
-/// The problem of a domain that a text spells.
 fn problem_of(alloc: Global, text: &[u8], domain: &Domain) -> Result<Option<Problem>, AllocError>
     requires text { length text.now ≤ MAX_BYTES }
     requires domain { FitsDomain (domain_value domain.now) }

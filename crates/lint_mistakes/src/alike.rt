@@ -99,7 +99,6 @@ impl Pair<'_> {
         !has_word(self.other, parts) || self.has_alike(parts, row)
     }
 
-    /// The same of each list of a row.
     fn each_says_no_more(&self, parts: &[Form], row: &[Form]) -> bool
         ensures { result ≡ equal.each_says_no_more (pair_value self.now) (forest_of parts.now)
             (forest_of row.now) }

@@ -71,7 +71,6 @@ fn is_made(name: &Text, domain: &[Form], problem: &[Form]) -> bool
     mentions(name, section_named(problem, b":init")) || domain_adds(name, domain)
 }
 
-/// Whether a section of a domain other than `:predicates` asserts the predicate.
 fn domain_asserts(name: &Text, sections: &[Form]) -> bool
     ensures { result ≡ never.domain_asserts name.now (forest_of sections.now) }
 {
@@ -85,7 +84,6 @@ fn domain_asserts(name: &Text, sections: &[Form]) -> bool
     false
 }
 
-/// The same of a section with these parts.
 fn section_asserts(name: &Text, parts: &[Form]) -> bool
     ensures { result ≡ never.section_asserts name.now (forest_of parts.now) }
 {
@@ -107,7 +105,6 @@ fn asserts(name: &Text, row: &[Form]) -> bool
     false
 }
 
-/// The same of a list with these parts.
 #[cycle(asserting)]
 fn list_asserts(name: &Text, parts: &[Form]) -> bool
     ensures { result ≡ never.list_asserts name.now (forest_of parts.now) }
@@ -135,7 +132,6 @@ fn domain_adds(name: &Text, sections: &[Form]) -> bool
     false
 }
 
-/// The same of a section with these parts.
 fn section_adds(name: &Text, parts: &[Form]) -> bool
     ensures { result ≡ never.section_adds name.now (forest_of parts.now) }
 {
@@ -157,7 +153,6 @@ fn adds(name: &Text, row: &[Form]) -> bool
     false
 }
 
-/// The same of an effect with these parts.
 #[cycle(adding)]
 fn effect_adds(name: &Text, parts: &[Form]) -> bool
     ensures { result ≡ never.effect_adds name.now (forest_of parts.now) }

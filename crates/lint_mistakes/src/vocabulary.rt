@@ -62,7 +62,6 @@ fn number_in(names: &[Text], name: &Text) -> Option<usize>
     names.iter().position(|other| is_same(name, other))
 }
 
-/// Whether two texts are the same.
 fn is_same(text: &Text, other: &Text) -> bool
     ensures { result ≡ bytes_eq text.now other.now }
 {
@@ -96,7 +95,6 @@ fn is_under(parents: &[TypeId], type_id: TypeId, other: TypeId) -> bool
     ancestor == other
 }
 
-/// The parent of a type.
 fn parent_of(parents: &[TypeId], type_id: TypeId) -> TypeId
     ensures { result ≡ slice_index parents.now type_id }
 {

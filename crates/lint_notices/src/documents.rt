@@ -33,7 +33,6 @@ pub fn report_document(
     value_text(alloc, &value)
 }
 
-/// The document as a value.
 fn document_value(
     alloc: Global,
     names: &FileNames<'_>,
@@ -79,7 +78,6 @@ fn notice_values(
     Ok(Value::from(values))
 }
 
-/// A mistake as an object.
 fn notice_object(alloc: Global, names: &FileNames<'_>, notice: &Notice) -> Result<Value, AllocError>
     ensures { IfOk result (λ value.
         view value ≡ notice_data (names_value names.now) (notice_value notice.now)) }

@@ -48,7 +48,6 @@ pub fn add_notices(
     Ok(())
 }
 
-/// What is told of a mistake.
 fn notice_of(alloc: Global, source: &Source<'_>, mistake: &Mistake) -> Result<Notice, AllocError>
     ensures { IfOk result
         (λ notice. notice_value notice ≡ notice_for (source_value source.now) mistake.now) }
@@ -61,7 +60,6 @@ fn notice_of(alloc: Global, source: &Source<'_>, mistake: &Mistake) -> Result<No
     })
 }
 
-/// The word of a kind.
 fn kind_word(kind: MistakeKind) -> &'static str
     ensures { result.now ≡ word_of_kind kind }
 {
@@ -124,7 +122,6 @@ fn equal_to(alloc: Global, word: &str, text: &[u8], other: Span) -> Result<Strin
     Ok(out)
 }
 
-/// That a predicate is never used.
 fn never_used(alloc: Global, word: &str) -> Result<String, AllocError>
     ensures { IfOk result (λ text. string_bytes text ≡ never_used_text word.now) }
 {
@@ -135,7 +132,6 @@ fn never_used(alloc: Global, word: &str) -> Result<String, AllocError>
     )
 }
 
-/// That a predicate is never true.
 fn never_true(alloc: Global, word: &str) -> Result<String, AllocError>
     ensures { IfOk result (λ text. string_bytes text ≡ never_true_text word.now) }
 {
@@ -177,7 +173,6 @@ fn wrong_type(
     Ok(out)
 }
 
-/// The name of a type.
 fn type_name(alloc: Global, types: &[Text], number: TypeId) -> Result<String, AllocError>
     ensures { IfOk result (λ text. string_bytes text ≡ name_of_type types.now number) }
 {

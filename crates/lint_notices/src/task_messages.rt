@@ -106,7 +106,6 @@ fn name_span(parts: &[Form]) -> Span
     span_or(after_first(parts), start_span())
 }
 
-/// The start of a text.
 fn start_span() -> Span
     ensures { result ≡ first_span }
 {
@@ -133,7 +132,6 @@ fn never_message(
     Ok(out)
 }
 
-/// Appends what the cause is.
 fn push_cause(
     alloc: Global,
     out: &mut String,
@@ -182,7 +180,6 @@ fn push_part(alloc: Global, out: &mut String, text: &[u8], span: Span) -> Result
     out.push_str("` never holds")
 }
 
-/// Whether a text has several lines.
 fn has_lines(text: &[u8]) -> bool
     ensures { result ≡ are_lines text.now }
 {

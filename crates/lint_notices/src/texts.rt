@@ -114,7 +114,6 @@ fn push_hint(out: &mut String, names: &FileNames<'_>, hint: &Notice) -> Result<(
     out.push_str("\n")
 }
 
-/// Appends the file and the place.
 fn push_place(out: &mut String, names: &FileNames<'_>, notice: &Notice) -> Result<(), AllocError>
     ensures { OnOk result (string_bytes out.new ≡ string_bytes out.old
         ++ place_text (names_value names.now) (notice_value notice.now)) }

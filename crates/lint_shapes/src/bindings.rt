@@ -46,7 +46,6 @@ fn extended(
     Ok(found)
 }
 
-/// A binding with one more object.
 fn with_object(
     alloc: Global,
     binding: &[ObjectId],

@@ -154,7 +154,6 @@ fn begins(pieces: &[Piece], piece: usize, number: FluentId) -> bool {
     }
 }
 
-/// The shape of some pieces.
 fn shape_of(alloc: Global, pieces: &[Piece], cover: Cover) -> Result<Option<Shape>, AllocError> {
     let Some(first) = pieces.get(cover.first) else {
         return Ok(None);
@@ -169,7 +168,6 @@ fn shape_of(alloc: Global, pieces: &[Piece], cover: Cover) -> Result<Option<Shap
     Ok(Some(Shape { free, parts }))
 }
 
-/// Adds the part of a piece.
 fn push_part(
     alloc: Global,
     pieces: &[Piece],

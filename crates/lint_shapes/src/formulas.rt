@@ -36,7 +36,6 @@ pub fn conjunction_of(alloc: Global, found: &[OneOf]) -> Result<Formula, AllocEr
     Ok(Formula::All(formulas_of(alloc, found)?))
 }
 
-/// The formula of each shape.
 fn formulas_of(alloc: Global, found: &[OneOf]) -> Result<Vec<Formula>, AllocError>
     ensures { IfOk result (λ fs. map formula_value fs.items
         ≡ map formula_of (map (λ one. one.shape) found.now)) }
@@ -83,7 +82,6 @@ fn for_some(alloc: Global, types: &[TypeId], formula: Formula) -> Result<Formula
     Ok(Formula::Exists(types, Box::new(alloc, formula)?))
 }
 
-/// That one atom of the parts is true.
 fn some_true(alloc: Global, free: usize, parts: &[Part]) -> Result<Formula, AllocError>
     ensures { IfOk result (λ f. formula_value f ≡ either (map (some_of free) parts.now)) }
 {
@@ -93,7 +91,6 @@ fn some_true(alloc: Global, free: usize, parts: &[Part]) -> Result<Formula, Allo
     Ok(Formula::Any(each_true(alloc, free, parts)?))
 }
 
-/// For each part, that one of its atoms is true.
 fn each_true(alloc: Global, free: usize, parts: &[Part]) -> Result<Vec<Formula>, AllocError>
     ensures { IfOk result (λ fs. map formula_value fs.items ≡ map (some_of free) parts.now) }
 {
@@ -113,7 +110,6 @@ fn some_of(alloc: Global, free: usize, part: &Part) -> Result<Formula, AllocErro
     for_some(alloc, &types, atom)
 }
 
-/// The types of the places of a part that are counted.
 fn counted_types(alloc: Global, part: &Part) -> Result<Vec<TypeId>, AllocError>
     ensures { IfOk result (λ types. types.items ≡ types_counted part.now) }
 {
@@ -163,7 +159,6 @@ fn push_alone(
     Ok(())
 }
 
-/// Adds that of one part.
 fn push_alone_in(
     alloc: Global,
     free: usize,
@@ -216,7 +211,6 @@ fn for_all_two(alloc: Global, type_id: TypeId, formula: Formula) -> Result<Formu
     Ok(Formula::Forall(types, Box::new(alloc, formula)?))
 }
 
-/// How many types there are.
 fn length_of(types: &[TypeId]) -> usize
     ensures { result ≡ length types.now }
 {

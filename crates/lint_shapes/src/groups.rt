@@ -79,7 +79,6 @@ fn add_singles(
     Ok(())
 }
 
-/// Adds those of a signature.
 fn add_single(
     world: &World<'_>,
     signature: &Signature,

@@ -145,7 +145,6 @@ fn true_count(world: &World<'_>, part: &Part, binding: &[ObjectId]) -> usize {
     count
 }
 
-/// Whether the fluent with this number is a fact.
 fn is_fact(world: &World<'_>, number: usize) -> bool {
     number < 256 && world.task.init.facts.get(FluentId(number as u32))
 }

@@ -62,7 +62,6 @@ fn add_signatures(
     }
 }
 
-/// The types of terms.
 fn types_of(
     world: &World<'_>,
     terms: &[Term],
@@ -75,7 +74,6 @@ fn types_of(
     Ok(types)
 }
 
-/// The type of a term.
 fn type_of_term(world: &World<'_>, term: Term, scope: &[TypeId]) -> TypeId {
     match term {
         Term::Variable(number) => scope.get(number).copied().unwrap_or(0),
@@ -110,7 +108,6 @@ fn add_joined(world: &World<'_>, found: &mut Vec<Signature>) -> Result<(), Alloc
     Ok(())
 }
 
-/// The predicate of the signature with this number.
 fn predicate_at(found: &[Signature], number: usize) -> PredicateId {
     match found.get(number) {
         Some(signature) => signature.predicate,

@@ -52,7 +52,6 @@ pub(crate) fn part_of(
     })
 }
 
-/// What stands at a place.
 fn slot_at(place: usize, type_id: TypeId, counted: usize) -> Slot {
     if place == counted {
         Slot::Counted(type_id)

@@ -41,7 +41,6 @@ pub fn push_invariant(
     push_section(out, domain, &formula)
 }
 
-/// Appends the section with a formula.
 fn push_section(out: &mut Vec<u8>, domain: &Domain, formula: &Formula) -> Result<(), AllocError>
     ensures { OnOk result (out.new.items
         ≡ out.old.items ++ section_text (names_of domain.now) (formula_value formula.now)) }
@@ -133,7 +132,6 @@ fn push_row(
     Ok(())
 }
 
-/// Appends an atom.
 fn push_atom(
     out: &mut Vec<u8>,
     domain: &Domain,
@@ -236,7 +234,6 @@ fn push_with_type(
     out.extend_from_slice(type_name(domain, type_id))
 }
 
-/// The name of a type.
 fn type_name(domain: &Domain, type_id: TypeId) -> &[u8]
     ensures { result.now ≡ name_at (names_of domain.now).types type_id }
 {
@@ -246,7 +243,6 @@ fn type_name(domain: &Domain, type_id: TypeId) -> &[u8]
     }
 }
 
-/// The name of a predicate.
 fn predicate_name(domain: &Domain, predicate: PredicateId) -> &[u8]
     ensures { result.now ≡ name_at (names_of domain.now).predicates predicate }
 {
@@ -256,7 +252,6 @@ fn predicate_name(domain: &Domain, predicate: PredicateId) -> &[u8]
     }
 }
 
-/// The name of a constant.
 fn constant_name(domain: &Domain, object: ObjectId) -> &[u8]
     ensures { result.now ≡ name_at (names_of domain.now).constants object }
 {

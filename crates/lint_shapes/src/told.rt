@@ -13,7 +13,6 @@ pub(crate) fn is_told(members: &State, found: &[OneOf]) -> bool {
     false
 }
 
-/// Whether a group has all members of one of these.
 fn has_one_of(members: &State, groups: &[State]) -> bool {
     for group in groups {
         if has_all(members, group) {

@@ -14,7 +14,6 @@ pub(crate) fn is_under(parents: &[TypeId], type_id: TypeId, other: TypeId) -> bo
     ancestor == other
 }
 
-/// The parent of a type.
 fn parent_of(parents: &[TypeId], type_id: TypeId) -> TypeId {
     parents.get(type_id).copied().unwrap_or(0)
 }

@@ -54,7 +54,6 @@ fn type_in(domain: &Domain, problem: &Problem, object: ObjectId) -> TypeId {
     }
 }
 
-/// The type of an object of the problem.
 fn later_type(problem: &Problem, number: usize) -> TypeId {
     match problem.objects.get(number) {
         Some(named) => named.type_id,
@@ -76,7 +75,6 @@ pub(crate) fn fluent_atoms(
     Ok(atoms)
 }
 
-/// The atom of a name.
 fn atom_of(
     alloc: Global,
     domain: &Domain,
@@ -96,7 +94,6 @@ fn atom_of(
     Ok(Atom { predicate, objects })
 }
 
-/// The number of the predicate of this name.
 fn predicate_named(domain: &Domain, name: &[u8]) -> PredicateId {
     for (number, predicate) in domain.predicates.iter().enumerate() {
         if predicate.name.is(name) {
@@ -106,7 +103,6 @@ fn predicate_named(domain: &Domain, name: &[u8]) -> PredicateId {
     domain.predicates.len()
 }
 
-/// The number of the object of this name.
 fn object_named(domain: &Domain, problem: &Problem, name: &[u8]) -> ObjectId {
     let constants = domain.constants.len();
     for (number, object) in domain.constants.iter().enumerate() {
@@ -154,7 +150,6 @@ fn add_constant(
     Ok(())
 }
 
-/// Whether some fluent is an atom of the predicate.
 fn is_changed(fluents: &[Atom], predicate: PredicateId) -> bool {
     for atom in fluents {
         if atom.predicate == predicate {

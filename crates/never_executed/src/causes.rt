@@ -91,7 +91,6 @@ pub(crate) fn part_count(formula: &Formula) -> usize {
     }
 }
 
-/// Whether the task has an instance of the action of this name.
 fn has_instance(task: &Task, name: &Text) -> bool
     ensures { result ≡ list_any (is_of name.now) task.now.actions.items }
 {

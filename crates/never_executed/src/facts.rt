@@ -88,7 +88,6 @@ fn false_part(all: &Bindings<'_>, schema: &Schema) -> Result<Option<usize>, Allo
     Ok(None)
 }
 
-/// Whether the part of a formula with this number is false for all bindings.
 fn is_false_part(all: &Bindings<'_>, formula: &Formula, part: usize) -> Result<bool, AllocError>
     requires { all.now.count
         ≡ binding_count (setting_in all.now.setting.now).objects all.now.types.now }
@@ -101,7 +100,6 @@ fn is_false_part(all: &Bindings<'_>, formula: &Formula, part: usize) -> Result<b
     }
 }
 
-/// The part of a formula with this number.
 fn part_at(formula: &Formula, part: usize) -> Option<&Formula>
     ensures { IfSome result (λ found. slice_get (formula_parts (formula_value formula.now)) part
         ≡ Some (formula_value found.now)) }
@@ -120,7 +118,6 @@ fn alone(formula: &Formula, part: usize) -> Option<&Formula>
     if part == 0 { Some(formula) } else { None }
 }
 
-/// The parts of a conjunction.
 fn parts_of(formula: &Formula) -> Option<&[Formula]>
     ensures some { IfSome result
         (λ parts. map formula_value parts.now ≡ formula_parts (formula_value formula.now)) }
@@ -133,7 +130,6 @@ fn parts_of(formula: &Formula) -> Option<&[Formula]>
     }
 }
 
-/// Whether a formula is false for all bindings.
 fn is_false_for_all(all: &Bindings<'_>, formula: &Formula) -> Result<bool, AllocError>
     requires { all.now.count
         ≡ binding_count (setting_in all.now.setting.now).objects all.now.types.now }
@@ -149,7 +145,6 @@ fn is_false_for_all(all: &Bindings<'_>, formula: &Formula) -> Result<bool, Alloc
     Ok(true)
 }
 
-/// Whether a formula is false for the binding with this number.
 fn is_false_for(all: &Bindings<'_>, formula: &Formula, number: usize) -> Result<bool, AllocError>
     requires count { all.now.count
         ≡ binding_count (setting_in all.now.setting.now).objects all.now.types.now }
@@ -164,7 +159,6 @@ fn is_false_for(all: &Bindings<'_>, formula: &Formula, number: usize) -> Result<
     Ok(is_no(value))
 }
 
-/// Whether a value is false.
 fn is_no(value: Value) -> bool
     ensures { result ≡ not (may_hold (known_value value)) }
 {

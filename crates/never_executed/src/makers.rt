@@ -105,7 +105,6 @@ fn names(outcome: &Outcome, lit: Lit) -> bool
     false
 }
 
-/// Whether a change names the literal.
 fn names_literal(change: &Change, lit: Lit) -> bool
     ensures { result ≡ change_names lit change.now }
 {

@@ -72,7 +72,6 @@ fn add_lacks(
     Ok(())
 }
 
-/// The literal at a place.
 fn lit_at(lits: &[Lit], place: usize) -> Option<Lit> {
     lits.get(place).copied()
 }

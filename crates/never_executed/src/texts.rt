@@ -58,7 +58,6 @@ fn push_reason(
     push_makers(alloc, out, relaxed, lit, &makers)
 }
 
-/// Appends a literal.
 fn push_literal(out: &mut String, task: &Task, lit: Lit) -> Result<(), AllocError>
     ensures { OnOk result (string_bytes out.new ≡ string_bytes out.old
         ++ literal_text (fluent_names task.now) lit) }

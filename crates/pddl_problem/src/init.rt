@@ -170,7 +170,6 @@ fn read_parts(alloc: Global, known: &Known, row: &[Form]) -> Result<Vec<InitialL
     Ok(literals)
 }
 
-/// The literals of an alternative: of `()`, of `(and PART ..)`, or of one part.
 fn read_alternative(
     alloc: Global,
     known: &Known,
@@ -206,7 +205,6 @@ fn read_alternative(
     }
 }
 
-/// The alternatives of a `oneof`.
 fn read_alternatives(
     alloc: Global,
     known: &Known,
@@ -242,7 +240,6 @@ fn copy_of(alloc: Global, atom: &GroundAtom) -> Result<GroundAtom, AllocError>
     })
 }
 
-/// The alternative that is this literal alone.
 fn alone(alloc: Global, literal: InitialLiteral) -> Result<Vec<InitialLiteral>, AllocError>
     ensures { IfOk result (λ v. values.alternative_value v ≡ literal_value literal ∷ []) }
 {

@@ -57,7 +57,6 @@ pub(crate) fn heading_of(word: &Text) -> Heading
     }
 }
 
-/// Whether there is exactly one form, a name.
 fn is_one_name(row: &[Form]) -> bool
     ensures { result ≡ sections.is_one_name (forest_of row.now) }
 {

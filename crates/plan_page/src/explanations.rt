@@ -69,7 +69,6 @@ pub fn read_explanation(alloc: Global, bytes: &[u8]) -> Result<Explanation, Read
     }
 }
 
-/// The explanation that a value tells.
 fn explanation_in(alloc: Global, value: &Value) -> Result<Explanation, ReadErr>
     ensures told { IfOk result (λ explanation.
         explanation_told (view value.now) ≡ Some (explanation_value explanation)) }
@@ -94,7 +93,6 @@ fn shown_in(alloc: Global, value: &Value) -> Result<Option<ShownRun>, ReadErr>
     Ok(Some(shown_run_in(alloc, value)?))
 }
 
-/// A run with its sentence.
 fn shown_run_in(alloc: Global, value: &Value) -> Result<ShownRun, ReadErr>
     ensures told { IfOk result (λ shown. shown_run_told (view value.now) ≡ Some (shown_value shown)) }
     ensures form { IfErr result IsBadForm }
@@ -105,7 +103,6 @@ fn shown_run_in(alloc: Global, value: &Value) -> Result<ShownRun, ReadErr>
     Ok(ShownRun { run, sentence })
 }
 
-/// A run.
 fn run_in(alloc: Global, value: &Value) -> Result<Run, ReadErr>
     ensures told { IfOk result (λ run. run_told (view value.now) ≡ Some (run_value run)) }
     ensures form { IfErr result IsBadForm }
@@ -121,7 +118,6 @@ fn run_in(alloc: Global, value: &Value) -> Result<Run, ReadErr>
     })
 }
 
-/// The moves of a run.
 fn moves_at(alloc: Global, value: &Value) -> Result<Vec<Move>, ReadErr>
     ensures told { IfOk result (λ moves. moves_told (view value.now) ≡ Some (map move_value moves.items)) }
     ensures form { IfErr result IsBadForm }
@@ -132,7 +128,6 @@ fn moves_at(alloc: Global, value: &Value) -> Result<Vec<Move>, ReadErr>
     moves_of(alloc, &rules, &outcomes)
 }
 
-/// A rule and an outcome a move.
 fn moves_of(alloc: Global, rules: &[u64], outcomes: &[u64]) -> Result<Vec<Move>, ReadErr>
     ensures told { IfOk result (λ moves. moves_by rules.now outcomes.now ≡ Some (map move_value moves.items)) }
     ensures form { IfErr result IsBadForm }
@@ -151,7 +146,6 @@ fn moves_of(alloc: Global, rules: &[u64], outcomes: &[u64]) -> Result<Vec<Move>,
     Ok(moves)
 }
 
-/// The text of a member.
 fn text_at(alloc: Global, value: &Value, key: &str) -> Result<String, ReadErr>
     ensures told { IfOk result (λ text. text_of_member key.now (view value.now) ≡ Some (string_bytes text)) }
     ensures form { IfErr result IsBadForm }
@@ -163,7 +157,6 @@ fn text_at(alloc: Global, value: &Value, key: &str) -> Result<String, ReadErr>
     }
 }
 
-/// Whether a member is null.
 fn is_null_at(value: &Value, key: &str) -> bool
     ensures { result ≡ is_null_member key.now (view value.now) }
 {
@@ -206,7 +199,6 @@ fn counts_at(alloc: Global, value: &Value, key: &str) -> Result<Vec<u64>, ReadEr
     }
 }
 
-/// The numbers that items are.
 fn counts_in(alloc: Global, items: &[Value]) -> Result<Vec<u64>, ReadErr>
     ensures told { IfOk result (λ counts. counts_of_items (items_view items.now) ≡ Some counts.items) }
     ensures form { IfErr result IsBadForm }

@@ -45,7 +45,6 @@ pub fn page_text(
     framed(alloc, data.as_bytes(), handed.as_bytes())
 }
 
-/// The text of the data of a page.
 fn page_text_of_data(
     alloc: Global,
     task: &Task,
@@ -60,7 +59,6 @@ fn page_text_of_data(
     value.to_string(alloc)
 }
 
-/// The text of what a page is handed.
 fn handed_text(alloc: Global, explanation: Option<&Explanation>) -> Result<String, AllocError>
     ensures { IfOk result (λ text. string_bytes text
         ≡ compact_text (handed_data (option_map (λ some. explanation_value some.now) explanation.entry))) }
@@ -82,7 +80,6 @@ fn framed(alloc: Global, json: &[u8], handed: &[u8]) -> Result<Vec<u8>, AllocErr
     Ok(out)
 }
 
-/// The data of a page.
 fn page_value(
     alloc: Global,
     task: &Task,

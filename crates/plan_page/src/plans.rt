@@ -57,7 +57,6 @@ pub(crate) fn plan_values(alloc: Global, plan: &Plan) -> Result<PlanValues, Allo
     }
 }
 
-/// The rules of a table.
 fn table_rules(alloc: Global, rules: &[Rule]) -> Result<Value, AllocError>
     ensures { IfOk result
         (λ value. view value ≡ list_data table_rule_data (map rule_of rules.now)) }
@@ -69,7 +68,6 @@ fn table_rules(alloc: Global, rules: &[Rule]) -> Result<Value, AllocError>
     Ok(Value::from(list))
 }
 
-/// A rule of a table.
 fn table_rule(alloc: Global, rule: &Rule) -> Result<Value, AllocError>
     ensures { IfOk result (λ value. view value ≡ table_rule_data (rule_of rule.now)) }
 {
@@ -77,7 +75,6 @@ fn table_rule(alloc: Global, rule: &Rule) -> Result<Value, AllocError>
     rule_object(alloc, rule.action, 1, literals, count_value(1))
 }
 
-/// The rules of a plan with contexts.
 fn context_rules(alloc: Global, rules: &[AutoRule]) -> Result<Value, AllocError>
     ensures { IfOk result
         (λ value. view value ≡ list_data context_rule_data (map context_rule_of rules.now)) }
@@ -89,7 +86,6 @@ fn context_rules(alloc: Global, rules: &[AutoRule]) -> Result<Value, AllocError>
     Ok(Value::from(list))
 }
 
-/// A rule of a plan with contexts.
 fn context_rule(alloc: Global, rule: &AutoRule) -> Result<Value, AllocError>
     ensures { IfOk result (λ value. view value ≡ context_rule_data (context_rule_of rule.now)) }
 {

@@ -36,7 +36,6 @@ pub(crate) fn handed_value(
     }
 }
 
-/// The data of an explanation.
 fn told_value(alloc: Global, explanation: &Explanation) -> Result<Value, AllocError>
     ensures { IfOk result (λ value. view value ≡ explanation_data (explanation_value explanation.now)) }
 {
@@ -85,7 +84,6 @@ struct Members {
     sentence: Value,
 }
 
-/// The object with these members and a verdict.
 fn object(alloc: Global, members: Members, verdict: &str) -> Result<Value, AllocError>
     ensures { IfOk result (λ value. view value ≡ object_of (view members.cycle_from)
         (view members.initial) (view members.outcomes) (view members.rules) (view members.sentence)
@@ -106,7 +104,6 @@ fn object(alloc: Global, members: Members, verdict: &str) -> Result<Value, Alloc
     Ok(Value::from(map))
 }
 
-/// A number, or null.
 fn count_or_null(count: Option<u64>) -> Value
     ensures { view result ≡ count_or_null_data count }
 {
@@ -116,7 +113,6 @@ fn count_or_null(count: Option<u64>) -> Value
     }
 }
 
-/// The numbers of the rules of moves.
 fn rule_counts(alloc: Global, moves: &[Move]) -> Result<Value, AllocError>
     ensures { IfOk result (λ value. view value ≡ rule_data (map move_value moves.now)) }
 {
@@ -127,7 +123,6 @@ fn rule_counts(alloc: Global, moves: &[Move]) -> Result<Value, AllocError>
     Ok(Value::from(counts))
 }
 
-/// The numbers of the outcomes of moves.
 fn outcome_counts(alloc: Global, moves: &[Move]) -> Result<Value, AllocError>
     ensures { IfOk result (λ value. view value ≡ outcome_data (map move_value moves.now)) }
 {

@@ -55,7 +55,6 @@ pub(crate) fn cube_value(alloc: Global, cube: &[Lit]) -> Result<Value, AllocErro
     Ok(Value::from(literals))
 }
 
-/// A literal.
 fn literal_value(alloc: Global, literal: &Lit) -> Result<Value, AllocError>
     ensures { IfOk result (λ value. view value ≡ literal_data literal.now) }
 {
@@ -86,7 +85,6 @@ pub(crate) fn node_values(alloc: Global, task: &Task, nodes: &[Node]) -> Result<
     Ok(Value::from(values))
 }
 
-/// A node.
 fn one_node(alloc: Global, task: &Task, node: &Node) -> Result<Value, AllocError>
     ensures { let n = fluent_count task.now in IfOk result (λ value. view value
         ≡ node_data n (node_value n node.now)) }
@@ -102,7 +100,6 @@ fn one_node(alloc: Global, task: &Task, node: &Node) -> Result<Value, AllocError
     Ok(Value::from(members))
 }
 
-/// The numbers of the true fluents of a state.
 fn true_fluents(alloc: Global, task: &Task, state: &State) -> Result<Value, AllocError>
     ensures { let n = fluent_count task.now in IfOk result (λ value. view value
         ≡ list_data count_data (true_below (vector n state.now) n)) }
@@ -125,7 +122,6 @@ fn push_if(numbers: &mut Vec<Value>, number: u32, is_wanted: bool) -> Result<(),
     Ok(())
 }
 
-/// The steps from a node.
 fn step_values(alloc: Global, steps: &[Step]) -> Result<Value, AllocError>
     ensures { IfOk result (λ value. view value ≡ list_data step_data (map step_value steps.now)) }
 {
@@ -136,7 +132,6 @@ fn step_values(alloc: Global, steps: &[Step]) -> Result<Value, AllocError>
     Ok(Value::from(values))
 }
 
-/// A step.
 fn one_step(alloc: Global, step: &Step) -> Result<Value, AllocError>
     ensures { IfOk result (λ value. view value ≡ step_data (step_value step.now)) }
 {

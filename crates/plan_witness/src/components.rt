@@ -45,7 +45,6 @@ pub(crate) fn find_components<L: Ledger>(
     Ok(search)
 }
 
-/// A search that has met nothing.
 fn nothing_met(alloc: Global, graph: &Graph) -> Result<Components, AllocError> {
     Ok(Components {
         met: zeros(alloc, graph)?,
@@ -60,7 +59,6 @@ fn nothing_met(alloc: Global, graph: &Graph) -> Result<Components, AllocError> {
     })
 }
 
-/// A zero for each number.
 fn zeros(alloc: Global, graph: &Graph) -> Result<Vec<u32>, AllocError> {
     let mut numbers = Vec::new(alloc);
     for _i in 0..graph.len() {

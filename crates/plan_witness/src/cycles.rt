@@ -198,7 +198,6 @@ fn round_at<L: Ledger>(
     shortest_way(alloc, graph, &followers, &only, steps)
 }
 
-/// A mark for each number that follows one.
 fn follower_marks<L: Ledger>(
     alloc: Global,
     graph: &Graph,
@@ -245,7 +244,6 @@ pub fn only_mark(alloc: Global, graph: &Graph, number: u32) -> Result<Vec<bool>,
     Ok(marks)
 }
 
-/// Whether two numbers are the same.
 fn is_number(number: u32, other: u32) -> bool
     ensures { (result ≡ true) ↔ (number ≡ other) }
 {

@@ -55,7 +55,6 @@ pub(crate) fn heights_within<L: Ledger>(
     Ok(heights)
 }
 
-/// A zero for each configuration.
 fn zeros(alloc: Global, graph: &Graph) -> Result<Vec<u64>, AllocError>
     ensures count { IfOk result (λ heights. length heights.items ≡ graph_size graph.now) }
     ensures zeros { IfOk result (λ heights. (i : ℕ) → at heights.items i ≡ 0) }

@@ -55,7 +55,6 @@ pub fn onward_numbers<L: Ledger>(
     reached_numbers(alloc, scene.graph, &ways)
 }
 
-/// A mark for the configuration of a state and a context.
 fn marks_of(
     alloc: Global,
     graph: &Graph,
@@ -74,7 +73,6 @@ fn marks_of(
     Ok(marks)
 }
 
-/// Whether the configuration of a number has this state and this context.
 fn is_place(graph: &Graph, number: u32, state: &State, context: u32) -> bool
     requires { number < graph_size graph.now }
     ensures { (n : ℕ) → IsWithinFluents n graph.now → IsWithin n state.now → (result ≡ true)
@@ -86,7 +84,6 @@ fn is_place(graph: &Graph, number: u32, state: &State, context: u32) -> bool
     has_state(graph, number, state)
 }
 
-/// Whether the configuration of a number has this context.
 fn has_context(graph: &Graph, number: u32, context: u32) -> bool
     requires { number < graph_size graph.now }
     ensures { (n : ℕ) → (result ≡ true) ↔ ((place_at n graph.now number).context ≡ context) }
@@ -94,7 +91,6 @@ fn has_context(graph: &Graph, number: u32, context: u32) -> bool
     graph.context(number) == context
 }
 
-/// Whether the configuration of a number has this state.
 fn has_state(graph: &Graph, number: u32, state: &State) -> bool
     requires { number < graph_size graph.now }
     ensures { (n : ℕ) → IsWithinFluents n graph.now → IsWithin n state.now

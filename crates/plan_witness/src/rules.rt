@@ -32,7 +32,6 @@ pub fn counting_rule(task: &Task, rules: &[AutoRule], state: &State, context: u3
     None
 }
 
-/// Whether a rule is one of a context, and matches a state.
 fn is_for(task: &Task, rule: &AutoRule, state: &State, context: u32) -> bool
     requires { let n = fluent_count task.now in let m = action_count task.now in
         IsRunRuleOf n m (context_rule_of rule.now) }

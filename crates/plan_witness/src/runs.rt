@@ -143,7 +143,6 @@ pub fn steps_along(
     Ok(steps)
 }
 
-/// The number at a place.
 fn number_at(numbers: &[u32], k: usize) -> u32
     requires { k < length numbers.now }
     ensures { result ≡ slice_index_or numbers.now k 0 }

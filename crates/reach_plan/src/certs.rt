@@ -126,7 +126,6 @@ fn certify(
     }
 }
 
-/// The certificate of a class with one set.
 fn with_set(alloc: Global, class: Class, cubes: Vec<Vec<Lit>>) -> Result<Certificate, SetErr>
     ensures made { IfOk result (λ certificate. plain_certificate certificate
         ≡ record { class = class; sets = map cube_of cubes.items ∷ [] }) }
@@ -163,7 +162,6 @@ fn states_left(
     left
 }
 
-/// The same on a board.
 fn search_and_leave(
     alloc: Global,
     enc: &mut Enc,

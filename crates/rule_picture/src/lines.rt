@@ -21,7 +21,6 @@ pub(crate) fn add_line(lines: &mut Vec<Vec<u8>>, line: Vec<u8>) -> Result<(), Al
     Ok(())
 }
 
-/// Whether a line is one of some.
 fn has_line(lines: &[Vec<u8>], line: &[u8]) -> bool
     ensures { result ≡ list_any (bytes_eq line.now) (bytes_of lines.now) }
 {
@@ -33,7 +32,6 @@ fn has_line(lines: &[Vec<u8>], line: &[u8]) -> bool
     false
 }
 
-/// Whether two lines are the same.
 fn is_same(line: &[u8], other: &[u8]) -> bool
     ensures { result ≡ bytes_eq line.now other.now }
 {

@@ -38,7 +38,6 @@ pub(crate) fn rules_of<'a>(alloc: Global, plan: &'a Plan) -> Result<Vec<Seen<'a>
     }
 }
 
-/// The rules of a table.
 fn rules_of_table<'a>(alloc: Global, rules: &'a [Rule]) -> Result<Vec<Seen<'a>>, AllocError>
     ensures { IfOk result (λ seen. seen_values seen.items
         ≡ map seen_in_table (map rule_of rules.now)) }
@@ -50,7 +49,6 @@ fn rules_of_table<'a>(alloc: Global, rules: &'a [Rule]) -> Result<Vec<Seen<'a>>,
     Ok(seen)
 }
 
-/// A rule of a table.
 fn seen_rule(rule: &Rule) -> Seen<'_>
     ensures { seen_value result ≡ seen_in_table (rule_of rule.now) }
 {
@@ -73,7 +71,6 @@ fn rules_of_automaton<'a>(alloc: Global, rules: &'a [AutoRule]) -> Result<Vec<Se
     Ok(seen)
 }
 
-/// A rule of a plan with contexts.
 fn seen_context_rule(rule: &AutoRule) -> Seen<'_>
     ensures { seen_value result ≡ seen_in_automaton (context_rule_of rule.now) }
 {
@@ -104,7 +101,6 @@ pub(crate) fn number_at(
     None
 }
 
-/// Whether a rule is for a state and a context.
 fn is_for(task: &Task, rule: &Seen<'_>, state: &State, context: u32) -> bool
     requires { IsCubeOf (fluent_count task.now) rule.now.cube.now }
     ensures { result ≡ is_rule_for

@@ -132,7 +132,6 @@ fn all_lines<'a>(
     Ok(lines)
 }
 
-/// Adds the lines for a node.
 fn add_lines_for(
     alloc: Global,
     lines: &mut Vec<Vec<u8>>,
@@ -169,7 +168,6 @@ fn add_start(
     add_line(lines, start_text(alloc, drawn, node)?)
 }
 
-/// Adds the lines of the steps from a node.
 fn add_steps(
     alloc: Global,
     lines: &mut Vec<Vec<u8>>,
@@ -190,7 +188,6 @@ fn add_steps(
     Ok(())
 }
 
-/// Adds the line of a step from a node.
 fn add_step(
     alloc: Global,
     lines: &mut Vec<Vec<u8>>,

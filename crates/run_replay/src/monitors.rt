@@ -28,7 +28,6 @@ pub trait Monitor: Drop {
         ensures weighs { (other : Step) →
             (shown self.new).weight other ≡ (shown self.old).weight other };
 
-    /// The tally.
     fn tally(&self) -> u128
         ensures { result ≡ (shown self.now).counted };
 

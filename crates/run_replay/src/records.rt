@@ -102,7 +102,6 @@ fn read_record(alloc: Global, span: Span, row: &[Form]) -> Result<Recorded, Read
     }
 }
 
-/// The numbers of a row of numerals.
 fn read_numbers(alloc: Global, row: &[Form]) -> Result<Vec<u32>, ReadErr>
     ensures sound { IfOk result (λ _. numbers_flaws (forest_of row.now) ≡ []) }
     ensures read { IfOk result (λ numbers. numbers.items ≡ numbers_of (forest_of row.now)) }

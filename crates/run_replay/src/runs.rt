@@ -107,7 +107,6 @@ pub fn execute(
     run_guide(alloc, start, &guide, world, monitors)
 }
 
-/// The same by a guide of the plan.
 fn run_guide(
     alloc: Global,
     start: &Start<'_>,
@@ -161,7 +160,6 @@ fn run_guide(
     }
 }
 
-/// The next turn of a run.
 fn next_turn(task: &Task, guide: &Guide<'_>, run: &Run, world: &mut Box<dyn World>) -> Turn
     requires guide { IsGuideOf (fluent_count task.now) (action_count task.now) guide.now }
     requires within { IsWithin (fluent_count task.now) run.now.state }

@@ -59,7 +59,6 @@ pub fn write_trace(
     Ok(out)
 }
 
-/// The lines of steps.
 fn push_steps(out: &mut String, task: &Task, steps: &[Step]) -> Result<(), AllocError>
     requires { All (IsStepOf (fluent_count task.now) (action_count task.now)) steps.now }
     ensures { OnOk result (string_bytes out.new ≡ string_bytes out.old ++ flat_map
@@ -71,7 +70,6 @@ fn push_steps(out: &mut String, task: &Task, steps: &[Step]) -> Result<(), Alloc
     Ok(())
 }
 
-/// The line of a step.
 fn push_step(out: &mut String, actions: &[GroundAction], step: &Step) -> Result<(), AllocError>
     requires { step.now.action.0 < length actions.now }
     ensures { OnOk result ((n : ℕ) →
@@ -88,7 +86,6 @@ fn push_step(out: &mut String, actions: &[GroundAction], step: &Step) -> Result<
     Ok(())
 }
 
-/// The line of an end.
 fn push_end(out: &mut String, end: End) -> Result<(), AllocError>
     ensures { OnOk result (string_bytes out.new ≡ string_bytes out.old ++ end_line (ending_of end)) }
 {
@@ -98,7 +95,6 @@ fn push_end(out: &mut String, end: End) -> Result<(), AllocError>
     Ok(())
 }
 
-/// The word for an end.
 fn word_of(end: End) -> &'static str
     ensures { result.now ≡ ending_word (ending_of end) }
 {
@@ -109,7 +105,6 @@ fn word_of(end: End) -> &'static str
     }
 }
 
-/// The lines of monitors.
 fn push_tallies(
     alloc: Global,
     out: &mut Vec<u8>,
@@ -124,7 +119,6 @@ fn push_tallies(
     Ok(())
 }
 
-/// The line of a monitor.
 fn push_tally(
     alloc: Global,
     out: &mut Vec<u8>,
@@ -141,7 +135,6 @@ fn push_tally(
     out.extend_from_slice(b"\n")
 }
 
-/// The title of a monitor.
 fn push_title(
     alloc: Global,
     out: &mut Vec<u8>,
@@ -152,7 +145,6 @@ fn push_title(
     monitor.name(alloc, out)
 }
 
-/// The tally of a monitor.
 fn tally_of(monitor: &Box<dyn Monitor>) -> u128
     ensures { result ≡ (shown monitor.now).counted }
 {

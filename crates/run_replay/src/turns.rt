@@ -61,7 +61,6 @@ pub(crate) fn take_turn(
     }
 }
 
-/// The turn in which this rule counts.
 fn follow(task: &Task, at: &Standing<'_>, rule: &GuideRule<'_>, world: &mut Box<dyn World>) -> Turn
     requires ready { IsReady (fluent_count task.now) (action_count task.now) rule.now }
     requires within { IsWithin (fluent_count task.now) at.now.state.now }

@@ -6,7 +6,6 @@ ghost use Rattle.run_replay.specs.Watching.{AreTold, IsTold};
 use crate::monitors::Monitor;
 use crate::worlds::Step;
 
-/// Tells one monitor of a step.
 fn tell_one(monitor: &mut Box<dyn Monitor>, step: &Step)
     requires small { (shown monitor.old).counted ≤ 2 ^ 127 }
     ensures { IsTold (step.now ∷ [])

@@ -264,7 +264,6 @@ fn add_pieces(
     Ok(())
 }
 
-/// The operation of a step.
 fn kind_of(step: u32) -> Kind {
     match step % 5 {
         0 => Kind::Meet,

@@ -105,7 +105,6 @@ fn worked_example_agrees(dd: &mut Dd) -> Result<bool, DdErr>
     )
 }
 
-/// The same, with the table made.
 fn worked_example_agrees_anew(alloc: Global) -> Result<bool, Fail> {
     let mut dd = Dd::new(alloc, 2, 2)?;
     Ok(worked_example_agrees(&mut dd)?)
@@ -134,7 +133,6 @@ fn is_negation(dd: &Dd, f: Ref) -> bool {
     dd.len() >= 1 && f == Ref(2) && !dd.eval(f, &[2, 0, 0, 0]) && dd.eval(f, &[1, 0, 0, 0])
 }
 
-/// Whether two nodes are made.
 fn makes_two(dd: &mut Dd) -> bool
     requires { dd.old.vars ≡ 2 }
 {
@@ -148,7 +146,6 @@ fn collects(alloc: Global, dd: &mut Dd) -> Result<bool, AllocError>
     Ok(makes_two(dd) && keeps_the_root(alloc, dd)? && is_negation(dd, Ref(2)))
 }
 
-/// The same, with the table made.
 fn collects_anew(alloc: Global) -> Result<bool, AllocError> {
     let mut dd = Dd::new(alloc, 2, 2)?;
     collects(alloc, &mut dd)

@@ -59,7 +59,6 @@ impl Operation {
     }
 }
 
-/// Whether a number is in the table.
 fn is_number(ops: &Ops, f: Ref) -> bool
     ensures { IsTrue result ↔ IsNumber ops.now.nodes f.0 }
 {
@@ -85,7 +84,6 @@ fn is_right(ops: &Ops, f: Known) -> bool {
     truth(ops, f.number) == Some(f.table)
 }
 
-/// The answer of an operation, by the operands that it has.
 fn answer(ops: &mut Ops, operation: Operation, f: Ref, g: Ref, h: Ref) -> Result<Ref, DdErr>
     requires f { IsNumber ops.old.nodes f.0 }
     requires g { IsNumber ops.old.nodes g.0 }

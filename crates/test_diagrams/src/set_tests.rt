@@ -95,7 +95,6 @@ fn copies(sets: &mut Sets, f: Known) -> Result<bool, SetErr>
     Ok(had(sets, made, f.1))
 }
 
-/// Whether a cube has a state.
 fn has_state(cube: &Cube, s: u32) -> bool {
     cube.iter().all(|lit| lit.fluent.0 < 32 && (s >> lit.fluent.0 & 1 == 1) == lit.positive)
 }
@@ -161,7 +160,6 @@ pub fn replaces(sets: &mut Sets, f: Known, g: Known, h: Known) -> Result<bool, S
     Ok(had(sets, made, table))
 }
 
-/// Whether a fluent is fixed.
 #[tactic(auto, using(dd_sets::proofs::FrameLemmas::kept_release))]
 fn fixes(sets: &mut Sets, f: Known, fluent: u32, value: bool) -> Result<bool, SetErr>
     requires f_live { IsLive sets.old f.0.0 }
@@ -213,7 +211,6 @@ fn one_state(sets: &mut Sets, s: u32) -> Result<SetId, SetErr>
     Ok(all)
 }
 
-/// A set with one state more.
 #[tactic(auto, using(dd_sets::proofs::FrameLemmas::kept_chain))]
 fn with_state(sets: &mut Sets, f: Known, s: u32) -> Result<SetId, SetErr>
     requires vars { 3 ≤ sets.old.vars }

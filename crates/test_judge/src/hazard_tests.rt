@@ -21,7 +21,6 @@ const DONE: u32 = 0;
 
 const DEAD: u32 = 1;
 
-/// The outcome that adds a fluent.
 fn adds(alloc: Global, fluent: u32) -> Result<Outcome, AllocError> {
     let lit = Lit {
         fluent: FluentId(fluent),
@@ -36,14 +35,12 @@ fn adds(alloc: Global, fluent: u32) -> Result<Outcome, AllocError> {
     })
 }
 
-/// The outcome that changes nothing.
 fn nothing(alloc: Global) -> Outcome {
     Outcome {
         changes: Vec::new(alloc),
     }
 }
 
-/// A name of one word.
 fn name(alloc: Global, word: &str) -> Result<Vec<RcStr>, AllocError> {
     Ok(vec![in alloc; RcStr::from_str(alloc, word)?]?)
 }
@@ -57,7 +54,6 @@ fn action(alloc: Global, word: &str, outcomes: Vec<Outcome>) -> Result<GroundAct
     })
 }
 
-/// The actions of the hazard.
 fn actions(alloc: Global) -> Result<Vec<GroundAction>, AllocError> {
     let wait = action(alloc, "wait", vec![in alloc; nothing(alloc)]?)?;
     let risk = action(

@@ -12,7 +12,6 @@ use plan_rules::{Plan, Rule, TablePlan};
 use std::alloc::{AllocError, Global};
 use task_core::{Class, FluentId, State, Task, in_space};
 
-/// Whether a rule matches a state.
 fn is_match(rule: &Rule, state: &State) -> bool {
     for lit in &rule.cube {
         if value_in(state, lit.fluent) != lit.positive {
@@ -90,7 +89,6 @@ fn agree_at(rules: &[Rule], state: &State) -> bool {
     true
 }
 
-/// Whether they do in each state of a graph.
 fn agree_in(rules: &[Rule], graph: &Graph) -> bool {
     for number in 0..graph.len() {
         if !agree_at(rules, graph.state(number)) {
@@ -110,7 +108,6 @@ fn counts(task: &Task, rules: &[Rule], states: &[State], number: usize) -> bool 
     false
 }
 
-/// Whether each rule is.
 fn each_counts(task: &Task, rules: &[Rule], states: &[State]) -> bool {
     for number in 0..rules.len() {
         if !counts(task, rules, states, number) {

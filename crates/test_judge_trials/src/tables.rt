@@ -30,7 +30,6 @@ pub(crate) fn cube_of(alloc: Global, state: &State, fluents: u32) -> Result<Vec<
     Ok(cube)
 }
 
-/// A class.
 fn class(dice: &mut Dice) -> Class {
     match dice.below(3) {
         0 => Class::Weak,
@@ -39,7 +38,6 @@ fn class(dice: &mut Dice) -> Class {
     }
 }
 
-/// The plan of a class.
 fn plan_of(alloc: Global, task: &Task, class: Class) -> Result<Found, SetErr>
     requires { IsSome task.now.goal }
 {
@@ -62,7 +60,6 @@ fn found_rules(alloc: Global, task: &Task, class: Class) -> Result<Vec<Rule>, Se
     }
 }
 
-/// A rule at random.
 fn random_rule(
     alloc: Global,
     dice: &mut Dice,

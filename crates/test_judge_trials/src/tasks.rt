@@ -12,7 +12,6 @@ use task_core::{
 /// The names of fluents and actions.
 const NAMES: [&str; 5] = ["a", "b", "c", "d", "e"];
 
-/// The name of a number.
 fn name(alloc: Global, number: u32) -> Result<Vec<RcStr>, AllocError> {
     let word = NAMES[number as usize % 5];
     Ok(vec![in alloc; RcStr::from_str(alloc, word)?]?)
@@ -39,7 +38,6 @@ pub(crate) fn literals(alloc: Global, dice: &mut Dice, fluents: u32) -> Result<V
     Ok(lits)
 }
 
-/// That a literal holds.
 fn holds(alloc: Global, lit: Lit) -> Result<Cond, AllocError> {
     let is = Cond::Is(lit.fluent);
     if lit.positive {

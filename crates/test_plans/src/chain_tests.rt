@@ -18,7 +18,6 @@ use task_core::{
     ActionId, Change, Cond, FluentId, GroundAction, InitSpec, Lit, Outcome, State, Task,
 };
 
-/// The outcome that sets a fluent.
 fn sets(alloc: Global, fluent: u32, positive: bool) -> Result<Outcome, AllocError> {
     let lit = Lit {
         fluent: FluentId(fluent),
@@ -33,7 +32,6 @@ fn sets(alloc: Global, fluent: u32, positive: bool) -> Result<Outcome, AllocErro
     })
 }
 
-/// A name of one word.
 fn name(alloc: Global, word: &str) -> Result<Vec<RcStr>, AllocError> {
     Ok(vec![in alloc; RcStr::from_str(alloc, word)?]?)
 }
@@ -66,7 +64,6 @@ fn lamp(alloc: Global) -> Result<Task, Fail>
     Ok(task.ok_or("these are the parts of a task")?)
 }
 
-/// That the lamp is on, or that it is off.
 fn lamp_is(alloc: Global, on: bool) -> Result<Cond, AllocError>
     ensures { IfOk result (IsConditionOver 1) }
 {
@@ -154,7 +151,6 @@ fn rules_by_turns(
 /// nothing, its action and its next context.
 type Wanted = (u32, Option<bool>, u32, u32);
 
-/// Whether a rule is as wanted.
 fn is_rule(rule: &AutoRule, (context, lit, action, next): Wanted) -> bool {
     let same_next = match rule.next {
         Next::One(context) => context == next,

@@ -19,7 +19,6 @@ const DONE: u32 = 0;
 
 const DEAD: u32 = 1;
 
-/// The outcome that adds a fluent.
 fn adds(alloc: Global, fluent: u32) -> Result<Outcome, AllocError> {
     let lit = Lit {
         fluent: FluentId(fluent),
@@ -34,14 +33,12 @@ fn adds(alloc: Global, fluent: u32) -> Result<Outcome, AllocError> {
     })
 }
 
-/// The outcome that changes nothing.
 fn nothing(alloc: Global) -> Outcome {
     Outcome {
         changes: Vec::new(alloc),
     }
 }
 
-/// A name of one word.
 fn name(alloc: Global, word: &str) -> Result<Vec<RcStr>, AllocError> {
     Ok(vec![in alloc; RcStr::from_str(alloc, word)?]?)
 }

@@ -16,7 +16,6 @@ struct Source {
 }
 
 impl Source {
-    /// A number below `end`.
     fn below(&mut self, end: u32) -> u32
         requires { 0 < end }
         ensures { result < end }

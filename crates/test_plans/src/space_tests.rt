@@ -192,7 +192,6 @@ fn plans_among_the_states(rt: HostRuntime) -> Result<(), Fail> {
     Ok(())
 }
 
-/// That `p` is false.
 fn not_p(alloc: Global) -> Result<Cond, AllocError>
     ensures { IfOk result (IsConditionOver 2) }
 {

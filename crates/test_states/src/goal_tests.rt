@@ -86,7 +86,6 @@ fn every_path(lists: &[Vec<u32>], until: &Until<'_>, number: u32, steps: u32) ->
     true
 }
 
-/// Whether some path of so many steps does.
 fn some_path(lists: &[Vec<u32>], until: &Until<'_>, number: u32, steps: u32) -> bool {
     if number as usize >= lists.len() {
         return false;
@@ -214,7 +213,6 @@ fn reading<'a>(
     Ok(marks)
 }
 
-/// Where a fluent is true.
 fn fluent_label(alloc: Global, graph: &Graph, fluent: u32) -> Result<Vec<bool>, AllocError>
     requires { fluent < 2 }
 {
@@ -231,7 +229,6 @@ fn fluent_goal(fluent: u32) -> Ctl
     Ctl::Plain(Cond::Is(FluentId(fluent)))
 }
 
-/// An operator's goal.
 fn goal_of(alloc: Global, operator: u32, left: Ctl, right: Ctl) -> Result<Ctl, AllocError>
     ensures { (n : ℕ) → NamesBelow n (ctl_value left) → NamesBelow n (ctl_value right)
         → IfOk result (λ goal. NamesBelow n (ctl_value goal)) }
@@ -253,7 +250,6 @@ fn goal_of(alloc: Global, operator: u32, left: Ctl, right: Ctl) -> Result<Ctl, A
     }
 }
 
-/// The verdict that the label of a goal gives.
 fn wanted(graph: &Graph, label: &[bool]) -> Verdict {
     if graph.unexecutable() {
         return Verdict::No(Reason::Unexecutable);
@@ -291,7 +287,6 @@ fn pair_goal(alloc: Global, pair: Pair) -> Result<Ctl, AllocError>
     )
 }
 
-/// Whether the verdict for a goal is the one that its label gives.
 fn agrees(
     alloc: Global,
     task: &Task,

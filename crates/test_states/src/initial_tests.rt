@@ -39,7 +39,6 @@ fn alternatives(alloc: Global, text: &str) -> Result<Vec<Alternative>, AllocErro
     Ok(alternatives)
 }
 
-/// Eight fluents.
 fn fluents(alloc: Global) -> Result<Vec<Vec<RcStr>>, AllocError> {
     let mut names = Vec::new(alloc);
     for word in ["h", "a", "b", "c", "d", "e", "f", "g"] {
@@ -60,7 +59,6 @@ fn task(alloc: Global, text: &str, invariant: Cond) -> Result<Task, Fail> {
     Ok(task.ok_or("no task")?)
 }
 
-/// What a number names in a list.
 fn named(states: &[State], number: usize) -> Numbered {
     match states.get(number) {
         Some(state) => Numbered::Found(*state),

@@ -96,7 +96,6 @@ impl Drop for ActionMonitor {
     }
 }
 
-/// An action of one word.
 fn action(
     alloc: Global,
     word: &str,
@@ -112,7 +111,6 @@ fn action(
     })
 }
 
-/// The outcome that gives one fluent a value.
 fn sets(alloc: Global, fluent: u32, positive: bool) -> Result<Outcome, AllocError> {
     let lit = Lit {
         fluent: FluentId(fluent),
@@ -179,7 +177,6 @@ fn switches(alloc: Global, invariant: Cond) -> Result<Option<Task>, AllocError> 
     Ok(Task::try_new(fluents, actions, init, None, invariant))
 }
 
-/// The text of a run, as a string.
 fn text_of(
     alloc: Global,
     task: &Task,
@@ -196,7 +193,6 @@ fn text_of(
     Ok(out)
 }
 
-/// A refusal in words.
 fn refusal_of(alloc: Global, refusal: RunErr) -> Result<String, Fail> {
     Ok(match refusal {
         RunErr::StrayOutcome {

@@ -18,7 +18,6 @@ fn lit(fluent: u32, positive: bool) -> Lit {
     }
 }
 
-/// The name with this word alone.
 fn name(alloc: Global, word: &str) -> Result<Vec<RcStr>, AllocError> {
     let mut words = Vec::new(alloc);
     words.push(RcStr::from_str(alloc, word)?)?;

@@ -314,7 +314,6 @@ fn uses_of(alloc: Global, line: &str, faults: Faults) -> Result<String, Fail> {
     uses_text(alloc, status, &of_world, &of_monitor)
 }
 
-/// The same from the status and the places.
 fn uses_text(
     alloc: Global,
     status: &str,

@@ -63,7 +63,6 @@ fn is_helped_anew(alloc: Global, task: &Task) -> bool {
     }
 }
 
-/// The same, for the texts' task.
 fn has_hits(alloc: Global, texts: &Generated) -> bool {
     match grounded(alloc, texts) {
         Some(grounded) => is_helped_anew(alloc, &grounded.task),

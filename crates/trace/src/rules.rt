@@ -118,7 +118,6 @@ fn table_rules(alloc: Global, rules: &[Rule]) -> Result<Vec<RunRule<'_>>, AllocE
     Ok(made)
 }
 
-/// The rules of an automaton.
 fn context_rules(alloc: Global, rules: &[AutoRule]) -> Result<Vec<RunRule<'_>>, AllocError>
     ensures { IfOk result (λ made. map run_rule_value made.items ≡ map context_rule_of rules.now) }
 {

@@ -122,7 +122,6 @@ fn run_rules(
 }
 
 impl Course {
-    /// The next turn.
     fn next_turn(&self, task: &Task, rules: &IndexedRules<'_>, words: &[u32]) -> Turn
         requires rules { AreIndexedFor (fluent_count task.now) (action_count task.now) rules.now }
         requires within { IsWithin (fluent_count task.now) self.now.state }

@@ -93,7 +93,6 @@ fn push_move(out: &mut String, source: &Source<'_>, made: &MadeStep) -> Result<(
     push_number(out, made.step.outcome)
 }
 
-/// Appends a rule and its action.
 fn push_act(
     out: &mut String,
     source: &Source<'_>,
