@@ -23,17 +23,12 @@ use ctl_syntax::{ContextGoal, Ctl, UntilChain, as_context_goal};
 use dd_sets::SetErr;
 use encode_task::Enc;
 use ground_task::Grounded;
+use plan_command::{most_parts, part_count};
 use plan_rules::Plan;
 use slot_board::Board;
 use std::alloc::Global;
 use task_core::{ActionId, Cond, Task};
 use task_sets::{SetSearch, search_in_tries};
-
-/// The most stages of an until-chain.
-const MOST_STAGES: usize = 32;
-
-/// The most visits of a patrol goal.
-const MOST_VISITS: usize = 8;
 
 /// A context of a plan for so many stages, counted from 0.
 #[derive(Clone, Copy)]
@@ -145,10 +140,11 @@ pub(crate) fn is_short(goal: &ContextGoal) -> bool
     ensures few { IsTrue result → count_of goal.now ≤ most_of goal.now }
     ensures some { IsTrue result → HasSomeVisit goal.now }
 {
-    match goal {
-        ContextGoal::Until(chain) => chain.stages.len() <= MOST_STAGES,
-        ContextGoal::Patrol(visits) => !visits.is_empty() && visits.len() <= MOST_VISITS,
-    }
+    let is_some = match goal {
+        ContextGoal::Until(_) => true,
+        ContextGoal::Patrol(visits) => !visits.is_empty(),
+    };
+    is_some && part_count(goal) <= most_parts(goal)
 }
 
 /// What the plan for a goal reaches, if there is one, over the task's sets.

@@ -3,7 +3,7 @@
 ghost use Rattle.command_base.specs.Answers.{no_memory, refused};
 ghost use Rattle.command_base.specs.Fetching.{FetchesBoth};
 ghost use Rattle.command_base.specs.Shelves.{KeepsShelf};
-ghost use Rattle.command_base.specs.Values.{answer_of, limit_of};
+ghost use Rattle.command_base.specs.Values.{answer_of};
 ghost use Rattle.command_base.specs.Words.{IsNodeLimit};
 ghost use Rattle.control_command.specs.FairControllers.{IsFairAnswer, IsTried};
 ghost use Rattle.control_command.specs.FairJudged.{most_fair_of, with_goal as grounded_with};
@@ -21,27 +21,24 @@ ghost use Rattle.pddl_ast.specs.Fits.{FitsDomain, FitsProblem};
 ghost use Rattle.pddl_ast.specs.Values.{domain_value, problem_value};
 ghost use Rattle.pddl_system.specs.CtlGoals.{ctl_goal_of, goal_value};
 ghost use Rattle.pddl_system.specs.Names.{NamesAreWords};
-ghost use Rattle.plan_command.specs.GoalConditions.{limit_of_goal};
 ghost use Rattle.plan_io.specs.Fetches.{FailedLast, FetchesNothing};
 ghost use Rattle.std.specs.Prelude.{◌≡◌, ◌≤◌, ◌⊎◌, ◌↔◌, IfNone, IfOk, IfSome, IsTrue, Some};
 ghost use Rattle.task_core.specs.Tasks.{fluent_count};
 ghost use Rattle.ctl_syntax.specs.GoalSizes.{count_of};
 
 use crate::fair_controllers::{FairTask, fair_tried};
-use command_base::{Limit, PlanKind, Refusal, Shown, check_goal, goal_in, ground_both, read_both};
+use command_base::{PlanKind, Refusal, Shown, check_goal, goal_in, ground_both, read_both};
 use control_words::FairWords;
 use ctl_syntax::{ContextGoal, Ctl, as_context_goal};
-use fair_theory::{MOST_STAGES, fair_goal};
+use fair_theory::{MOST_FAIR_STAGES, fair_goal};
 use ground_task::Grounded;
 use pddl_ast::{Domain, Problem};
 use pddl_system::grounded_goals_are_true;
+use plan_command::{most_parts, part_count, part_limit};
 use plan_io::Shelf;
 use sexpr_text::{FaultKind, InputFault};
 use std::alloc::{AllocError, Global};
 use task_core::Task;
-
-/// The most visits of a patrol goal.
-const MOST_VISITS: usize = 8;
 
 /// What is asked for, of the domain and the problem that two files hold.
 #[derive(Clone, Copy)]
@@ -181,18 +178,8 @@ fn has_few_parts(goal: &ContextGoal) -> bool
     ensures { IsTrue result ↔ count_of goal.now ≤ most_fair_of goal.now }
 {
     match goal {
-        ContextGoal::Until(chain) => chain.stages.len() <= MOST_STAGES,
-        ContextGoal::Patrol(visits) => visits.len() <= MOST_VISITS,
-    }
-}
-
-/// What must not be passed then.
-fn part_limit(goal: &ContextGoal) -> Limit
-    ensures { limit_of result ≡ limit_of_goal goal.now }
-{
-    match goal {
-        ContextGoal::Until(_) => Limit::Stages,
-        ContextGoal::Patrol(_) => Limit::Patrol,
+        ContextGoal::Until(chain) => chain.stages.len() <= MOST_FAIR_STAGES,
+        ContextGoal::Patrol(_) => part_count(goal) <= most_parts(goal),
     }
 }
 

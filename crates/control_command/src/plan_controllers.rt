@@ -31,9 +31,9 @@ use crate::sought::{Found, Sought};
 use command_base::{Limit, PlanKind, Refusal, Shown};
 use controller_rules::{serving_part, write_controller};
 use exec_graph::{Graph, GraphErr, explore};
-use heuristic_search::shorter_rules;
 use plan_command::{Planned, find_grounded};
 use plan_rules::Plan;
+use rule_shortening::shorter_rules;
 use sexpr_text::MAX_BYTES;
 use std::alloc::Global;
 

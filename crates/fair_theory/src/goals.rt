@@ -13,15 +13,16 @@ use ctl_syntax::{ContextGoal, Ctl, UntilStage, copied_condition};
 use std::alloc::{AllocError, Global};
 use task_core::Cond;
 
-/// The most stages of a goal. Each stage doubles the goal by which a plan is judged.
-pub const MOST_STAGES: usize = 12;
+/// The most stages of a goal whose actions may be tried again. Each stage doubles the goal by which a plan
+/// is judged.
+pub const MOST_FAIR_STAGES: usize = 12;
 
-/// Whether a goal has at most `MOST_STAGES` stages.
+/// Whether a goal has at most `MOST_FAIR_STAGES` stages.
 pub fn has_few_stages(goal: &ContextGoal) -> bool
     ensures { IsTrue result ↔ stage_count (tree_of_goal goal.now) ≤ most_fair_stages }
 {
     match goal {
-        ContextGoal::Until(chain) => chain.stages.len() <= MOST_STAGES,
+        ContextGoal::Until(chain) => chain.stages.len() <= MOST_FAIR_STAGES,
         ContextGoal::Patrol(_) => true,
     }
 }

@@ -10,5 +10,5 @@
 mod goals;
 mod laws;
 
-pub use goals::{MOST_STAGES, fair_goal, has_few_stages};
+pub use goals::{MOST_FAIR_STAGES, fair_goal, has_few_stages};
 pub use laws::{fair_goals_are_true, fair_runs_have_the_goal, no_fair_plan_without_cover};

@@ -1,11 +1,8 @@
 //! The pairs of a policy as rules of a table.
 
-use crate::bits::Part;
-use crate::choices::choices_of;
-use crate::cubes::cube_of;
-use crate::policy::Policy;
-use crate::world::World;
 use plan_rules::Rule;
+use search_space::{Part, choices_of, cube_of};
+use search_world::{Policy, World};
 use std::alloc::AllocError;
 use task_core::ActionId;
 

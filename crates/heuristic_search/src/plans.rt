@@ -1,20 +1,15 @@
 //! The answers.
 
-use crate::bits::{Bits, Part};
-use crate::cyclic::{Rounds, solve_weak};
-use crate::numbers::{NONE, at, small};
 use crate::piecewise::rules_of;
-use crate::planner::Planner;
-use crate::policy::Policy;
 use crate::reach::Reach;
 use crate::refused::refused;
-use crate::shortening::shorter_rules;
-use crate::states::States;
-use crate::stops::Stop;
-use crate::strong::AndOrGraph;
-use crate::world::World;
+use cyclic_search::{Planner, Rounds, solve_weak};
 use plan_rules::Rule;
+use rule_shortening::shorter_rules;
+use search_space::{Bits, NONE, Part, States, Stop, at, small};
+use search_world::{Policy, World};
 use std::alloc::{AllocError, Global};
+use strong_search::AndOrGraph;
 use task_core::{ActionId, Class, Cond, Lit, State, Task};
 
 /// How many states a policy may reach whose states are listed.
@@ -22,15 +17,6 @@ const MOST_LISTED: u32 = 262_144;
 
 /// How many states a strong cyclic policy may reach at first.
 const FEW_LISTED: u32 = 6_000;
-
-/// How much a search may do: counts, never clocks.
-#[derive(Clone, Copy, Debug)]
-pub struct Allowance {
-    /// How many states may be gone on from or estimated.
-    pub expanded: u32,
-    /// How many states may be kept.
-    pub states: u32,
-}
 
 /// A plan for the states that it reaches: what is taken in each.
 #[derive(Drop)]

@@ -1,9 +1,7 @@
 //! What a policy reaches.
 
-use crate::numbers::{NONE, at, put};
-use crate::policy::Policy;
-use crate::stops::Stop;
-use crate::world::World;
+use search_space::{NONE, Stop, at, put};
+use search_world::{Policy, World};
 use std::alloc::{AllocError, Global};
 
 /// What a policy reaches.

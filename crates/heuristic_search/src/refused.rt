@@ -1,10 +1,8 @@
 //! That there is no plan, as sets of cubes.
 
-use crate::bits::Part;
-use crate::cubes::cube_of;
 use crate::plans::GuidedAnswer;
-use crate::stops::Stop;
-use crate::world::World;
+use search_space::{Part, Stop, cube_of};
+use search_world::World;
 use std::alloc::{AllocError, Global};
 use task_core::{Class, Lit};
 

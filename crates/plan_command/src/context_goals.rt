@@ -15,7 +15,7 @@ const MOST_STAGES: usize = 32;
 const MOST_VISITS: usize = 8;
 
 /// How many stages a goal has, or how many visits.
-pub(crate) fn part_count(goal: &ContextGoal) -> usize
+pub fn part_count(goal: &ContextGoal) -> usize
     ensures { result ≡ count_of goal.now }
 {
     match goal {
@@ -24,8 +24,8 @@ pub(crate) fn part_count(goal: &ContextGoal) -> usize
     }
 }
 
-/// How many it may have.
-pub(crate) fn most_parts(goal: &ContextGoal) -> usize
+/// How many stages or visits it may have.
+pub fn most_parts(goal: &ContextGoal) -> usize
     ensures { result ≡ most_of goal.now }
 {
     match goal {
@@ -34,8 +34,8 @@ pub(crate) fn most_parts(goal: &ContextGoal) -> usize
     }
 }
 
-/// What must not be passed then.
-pub(crate) fn part_limit(goal: &ContextGoal) -> Limit
+/// What is passed where it has more.
+pub fn part_limit(goal: &ContextGoal) -> Limit
     ensures { limit_of result ≡ limit_of_goal goal.now }
 {
     match goal {
