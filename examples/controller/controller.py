@@ -1,6 +1,6 @@
 """Runs a plan for examples/courier in a simulated world: python3 controller.py PLAN [SEED]
 
-PLAN is a text of `mbp` or `mbp_controller`, or a document of `mbp_controller --json`. A real robot puts its sensors into
+PLAN is a text of `mbp` or `pulgazer`, or a document of `pulgazer control --json`. A real robot puts its sensors into
 `observe` and its motors into `act`."""
 import random
 import sys

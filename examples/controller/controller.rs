@@ -1,6 +1,6 @@
 //! Runs a plan for examples/courier in a simulated world: `rustc -O controller.rs; ./controller PLAN [SEED]`
 //!
-//! PLAN is a text of `mbp` or `mbp_controller`. A real robot puts its sensors into `observe` and its
+//! PLAN is a text of `mbp` or `pulgazer`. A real robot puts its sensors into `observe` and its
 //! motors into `act`.
 use std::{collections::BTreeSet, env, fs};
 

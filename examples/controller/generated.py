@@ -1,6 +1,6 @@
 """Runs a generated program for examples/courier in a simulated world: python3 generated.py PROGRAM [SEED]
 
-PROGRAM is what `mbp_controller --code python` printed. It needs no planner and no library."""
+PROGRAM is what `pulgazer control --code python` printed. It needs no planner and no library."""
 import importlib.util
 import random
 import sys

@@ -1,7 +1,7 @@
 //! Runs a generated program for examples/courier in a simulated world:
 //! `PLAN=$PWD/plan.rs rustc --edition 2021 -O generated.rs; ./generated [SEED]`
 //!
-//! PLAN is the file that `mbp_controller --code rust` printed. It needs no planner and no library.
+//! PLAN is the file that `pulgazer control --code rust` printed. It needs no planner and no library.
 use std::env;
 
 mod plan {

@@ -1,6 +1,6 @@
 """Runs a plan of Pulgazer: what to do in each state. One file, Python's standard library alone.
 
-    controller = Controller.load(text)   what `mbp_controller --json` printed, or the text of a plan
+    controller = Controller.load(text)   what `pulgazer control --json` printed, or the text of a plan
     action = controller.act(state)       the action to take, or None where the plan ends
     controller.observe(state)            the state after the action: goes on to the next context, and tells whether the
                                          action may lead there; if not, the world has left the model

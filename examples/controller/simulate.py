@@ -1,9 +1,9 @@
 """Runs a plan many times in the world that its domain describes, with outcomes drawn by chance.
 
-    python3 simulate.py DOMAIN PROBLEM PLAN [--runs K] [--seed N] [--steps M] [--picture COMMAND]
+    python3 simulate.py DOMAIN PROBLEM PLAN [--runs K] [--seed N] [--steps M] [--pulgazer COMMAND]
 
 Every outcome of an action is as likely as the others, and so is every initial state. The world is read from the picture
-of the plan (`mbp_picture`), so the plan may reach at most 400 states. COMMAND runs mbp_picture; ./mbp_picture without it.
+of the plan (`pulgazer draw`), so the plan may reach at most 400 states. COMMAND runs pulgazer; ./pulgazer without it.
 """
 import argparse
 import random
@@ -56,9 +56,9 @@ def main():
     parser.add_argument("--runs", type=int, default=1000)
     parser.add_argument("--seed", type=int, default=1)
     parser.add_argument("--steps", type=int, default=10000)
-    parser.add_argument("--picture", default="./mbp_picture")
+    parser.add_argument("--pulgazer", metavar="COMMAND", default="./pulgazer")
     words = parser.parse_args()
-    done = subprocess.run([words.picture, *words.files], stdout=subprocess.PIPE, text=True)
+    done = subprocess.run([words.pulgazer, "draw", *words.files], stdout=subprocess.PIPE, text=True)
     if done.returncode:
         return done.returncode
     world, chance = World(done.stdout), random.Random(words.seed)

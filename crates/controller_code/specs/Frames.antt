@@ -6,11 +6,11 @@ use Rattle.controller_code.specs.declared.texts.Language.TheVariants.{C, Python,
 -- what stands before the fluents
 unfoldable pub fluents_head_text : Language → List ℕ
 fluents_head_text C =
-    codes "/* A controller, written by mbp_controller. It needs no library.\n *\n * decide(state, context) says what to do. state[f] is 0 where the fluent of number f is false. The\n * first context is 1. The action is -1 where there is nothing to do. */\n\nstruct decision {\n    int action; /* its place in action_names */\n    int next;   /* the context in which to go on */\n};\n\nconst char *const fluent_names[] = {\n"
+    codes "/* A controller, written by pulgazer control. It needs no library.\n *\n * decide(state, context) says what to do. state[f] is 0 where the fluent of number f is false. The\n * first context is 1. The action is -1 where there is nothing to do. */\n\nstruct decision {\n    int action; /* its place in action_names */\n    int next;   /* the context in which to go on */\n};\n\nconst char *const fluent_names[] = {\n"
 fluents_head_text Rust =
-    codes "// A controller, written by mbp_controller. It needs no library.\n//\n// decide(state, context) says what to do. state[f] is the value of the fluent of number f. The first\n// context is 1. The answer is the place of the action in ACTION_NAMES and the context in which to go\n// on, or None where there is nothing to do.\n\npub const FLUENT_NAMES: &[&str] = &[\n"
+    codes "// A controller, written by pulgazer control. It needs no library.\n//\n// decide(state, context) says what to do. state[f] is the value of the fluent of number f. The first\n// context is 1. The answer is the place of the action in ACTION_NAMES and the context in which to go\n// on, or None where there is nothing to do.\n\npub const FLUENT_NAMES: &[&str] = &[\n"
 fluents_head_text Python =
-    codes "\"\"\"A controller, written by mbp_controller. It needs no library.\n\ndecide(state, context) says what to do. state[f] is the value of the fluent of number f. The first\ncontext is 1. The answer is the place of the action in ACTION_NAMES and the context in which to go on,\nor None where there is nothing to do.\n\"\"\"\n\nFLUENT_NAMES = [\n"
+    codes "\"\"\"A controller, written by pulgazer control. It needs no library.\n\ndecide(state, context) says what to do. state[f] is the value of the fluent of number f. The first\ncontext is 1. The answer is the place of the action in ACTION_NAMES and the context in which to go on,\nor None where there is nothing to do.\n\"\"\"\n\nFLUENT_NAMES = [\n"
 
 -- what stands before the actions
 unfoldable pub actions_head_text : Language → List ℕ

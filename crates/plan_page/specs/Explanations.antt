@@ -1,4 +1,4 @@
--- What `mbp_explain .. --json` prints: a verdict on a plan, and a run that shows it. Which bytes tell
+-- What `pulgazer explain --json` prints: a verdict on a plan, and a run that shows it. Which bytes tell
 -- one, and the data by which it is told.
 --
 -- Example: {"cycle_from":null,"initial":0,"outcomes":[1],"rules":[0],"sentence":"..","verdict":"no cycle"}

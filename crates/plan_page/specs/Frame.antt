@@ -4,7 +4,7 @@ use Rattle.std.specs.Prelude.{ℕ, List, codes}
 -- the head, up to the element of the data
 unfoldable pub head_text : List ℕ
 head_text =
-    codes "<!doctype html>\n<html lang=\"en\">\n<head>\n<meta charset=\"utf-8\">\n<meta name=\"viewport\" content=\"width=device-width, initial-scale=1\">\n<meta http-equiv=\"Content-Security-Policy\" content=\"default-src 'none'; script-src 'unsafe-inline'; style-src 'unsafe-inline'\">\n<title>A plan to step through</title>\n<style>\n:root {\n  color-scheme: light dark;\n  --paper: #ffffff;\n  --ink: #1b1f24;\n  --soft: #57606a;\n  --line: #c4ccd4;\n  --panel: #f5f7f9;\n  --accent: #0a58ca;\n  --lit: #d7e6ff;\n  --good: #116329;\n  --bad: #b3121f;\n  --witness: #8a4b00;\n}\n@media (prefers-color-scheme: dark) {\n  :root {\n    --paper: #14181d;\n    --ink: #e6eaee;\n    --soft: #a3adb8;\n    --line: #3d4650;\n    --panel: #1c2229;\n    --accent: #7ab7ff;\n    --lit: #1f3a5f;\n    --good: #6fdd8b;\n    --bad: #ff8b86;\n    --witness: #ffb454;\n  }\n}\n* {\n  box-sizing: border-box;\n}\nbody {\n  margin: 0 auto;\n  max-width: 80rem;\n  padding: 0.75rem;\n  background: var(--paper);\n  color: var(--ink);\n  font: 1rem/1.45 system-ui, sans-serif;\n}\nh1 {\n  margin: 0;\n  font-size: 1.35rem;\n}\nh2 {\n  margin: 0 0 0.4rem;\n  font-size: 1.1rem;\n}\nh3 {\n  margin: 0.6rem 0 0.1rem;\n  font-size: 0.95rem;\n  color: var(--soft);\n}\np {\n  margin: 0.35rem 0;\n}\nmain {\n  display: grid;\n  grid-template-columns: repeat(auto-fit, minmax(min(100%, 22rem), 1fr));\n  gap: 0.75rem;\n}\nsection {\n  min-width: 0;\n  padding: 0.75rem;\n  border: 1px solid var(--line);\n  border-radius: 0.5rem;\n  background: var(--panel);\n}\n#map {\n  grid-column: 1 / -1;\n  order: 1;\n}\n#search {\n  order: 2;\n  grid-column: 1 / -1;\n}\n#news {\n  min-height: 1.45em;\n  color: var(--soft);\n}\ncode,\n.name,\n.rules li,\n#record {\n  font-family: ui-monospace, monospace;\n  font-size: 0.92em;\n  overflow-wrap: anywhere;\n}\nul,\nol {\n  margin: 0.2rem 0;\n  padding-left: 1.4rem;\n}\n#fluents ul,\n#gone ul,\n#found,\n#rules ul {\n  list-style: none;\n  padding-left: 0.3rem;\n}\n#sentence {\n  white-space: pre-line;\n}\n#steps {\n  padding-left: 2.6rem;\n  max-height: 16rem;\n  overflow: auto;\n}\n.added {\n  color: var(--good);\n  font-weight: 600;\n}\n.removed,\n.bad {\n  color: var(--bad);\n  font-weight: 600;\n}\n.soft {\n  color: var(--soft);\n}\n.rule {\n  margin: 0.4rem 0;\n  padding: 0.4rem 0.6rem;\n  border-left: 3px solid var(--accent);\n  background: var(--paper);\n}\nbutton,\ninput,\nselect {\n  max-width: 100%;\n  padding: 0.35rem 0.6rem;\n  border: 1px solid var(--line);\n  border-radius: 0.35rem;\n  background: var(--paper);\n  color: var(--ink);\n  font: inherit;\n}\nbutton {\n  cursor: pointer;\n  text-align: left;\n}\nbutton:disabled {\n  cursor: default;\n  color: var(--soft);\n}\nbutton:focus-visible,\ninput:focus-visible,\nselect:focus-visible,\nsummary:focus-visible,\nsvg [tabindex]:focus-visible {\n  outline: 3px solid var(--accent);\n  outline-offset: 1px;\n}\n.outcome,\n.plain {\n  width: 100%;\n  margin: 0.15rem 0;\n}\n.here {\n  border-color: var(--accent);\n  border-width: 2px;\n}\n.witness {\n  border-left: 4px solid var(--witness);\n}\n.key {\n  display: inline-block;\n  min-width: 1.5em;\n  margin-right: 0.4em;\n  border: 1px solid var(--line);\n  border-radius: 0.25rem;\n  text-align: center;\n}\n.buttons {\n  display: flex;\n  flex-wrap: wrap;\n  gap: 0.35rem;\n}\n#record,\n#query {\n  flex: 1 1 12rem;\n  width: 100%;\n  min-width: 0;\n}\n#drawing {\n  display: block;\n  width: 100%;\n  height: 24rem;\n  border: 1px solid var(--line);\n  border-radius: 0.35rem;\n  background: var(--paper);\n  cursor: grab;\n  touch-action: none;\n}\n#drawing text {\n  fill: var(--ink);\n  font-size: 13px;\n  text-anchor: middle;\n  pointer-events: none;\n}\n#drawing .node {\n  cursor: pointer;\n}\n#drawing .shape {\n  fill: var(--paper);\n  stroke: var(--ink);\n  stroke-width: 1.2;\n}\n#drawing .inner {\n  fill: none;\n  stroke: var(--ink);\n}\n#drawing .lit .shape {\n  fill: var(--lit);\n}\n#drawing .current .shape {\n  stroke: var(--accent);\n  stroke-width: 4;\n}\n#drawing .stopped .shape {\n  stroke: var(--bad);\n  stroke-width: 2.5;\n  stroke-dasharray: 5 3;\n}\n#drawing .stopped text {\n  fill: var(--bad);\n  font-weight: 700;\n}\n#drawing .edge {\n  fill: none;\n  stroke: var(--soft);\n  stroke-width: 1.3;\n}\n#drawing .edge.onward {\n  stroke: var(--accent);\n  stroke-width: 2.2;\n}\n#drawing .edge.witness {\n  stroke: var(--witness);\n  stroke-width: 3.5;\n  stroke-dasharray: 9 4;\n}\nmarker path {\n  fill: context-stroke;\n}\n#start {\n  width: 7rem;\n}\n.legend,\n.keys {\n  color: var(--soft);\n  font-size: 0.88rem;\n}\n.hidden {\n  position: absolute;\n  width: 1px;\n  height: 1px;\n  overflow: hidden;\n  clip-path: inset(50%);\n}\n</style>\n</head>\n<body>\n<header>\n<h1>A plan to step through</h1>\n<p id=\"counts\"></p>\n<details id=\"unused\"><summary id=\"unused-count\"></summary><ul id=\"unused-rules\" class=\"rules\"></ul></details>\n</header>\n<noscript><p>This page needs JavaScript. It loads nothing from elsewhere.</p></noscript>\n<p id=\"news\" role=\"status\" aria-live=\"polite\"></p>\n<main>\n<section id=\"state\" aria-labelledby=\"state-title\">\n<h2 id=\"state-title\">State</h2>\n<p id=\"place\"></p>\n<div id=\"fluents\"></div>\n<div id=\"gone\"></div>\n</section>\n<section id=\"choice\" aria-labelledby=\"choice-title\">\n<h2 id=\"choice-title\">What the plan does here</h2>\n<p id=\"verdict\" class=\"bad\"></p>\n<div id=\"rules\"></div>\n</section>\n<section id=\"run\" aria-labelledby=\"run-title\">\n<h2 id=\"run-title\">Run</h2>\n<p><label for=\"start\">Begin in initial state</label> <input id=\"start\" type=\"number\" min=\"0\"> <span id=\"start-last\"></span></p>\n<p class=\"buttons\">\n<button type=\"button\" id=\"back\" aria-keyshortcuts=\"Backspace\">Back</button>\n<button type=\"button\" id=\"restart\">Restart</button>\n<button type=\"button\" id=\"random\">Random run</button>\n<button type=\"button\" id=\"goal\">Shortest run to the goal</button>\n</p>\n<ol id=\"steps\" start=\"0\"></ol>\n<p><label for=\"record\">Record of this run, for <code>mbp replay</code></label></p>\n<p class=\"buttons\"><input id=\"record\" readonly spellcheck=\"false\"> <button type=\"button\" id=\"copy\">Copy</button></p>\n<p id=\"record-note\"></p>\n<details>\n<summary>Play a run from a file</summary>\n<p><label for=\"witness\">Explanation as <code>mbp_explain --json</code> prints it</label> <input type=\"file\" id=\"witness\" accept=\".json,application/json\"></p>\n</details>\n<p id=\"sentence\"></p>\n</section>\n<section id=\"map\" aria-labelledby=\"map-title\">\n<h2 id=\"map-title\">Map</h2>\n<p class=\"buttons\">\n<button type=\"button\" id=\"zoom-in\" aria-label=\"Zoom in\">+</button>\n<button type=\"button\" id=\"zoom-out\" aria-label=\"Zoom out\">&minus;</button>\n<button type=\"button\" id=\"zoom-reset\">Whole map</button>\n</p>\n<svg class=\"hidden\" aria-hidden=\"true\"><marker id=\"arrow\" refX=\"7\" refY=\"4\" markerWidth=\"9\" markerHeight=\"9\" markerUnits=\"userSpaceOnUse\" orient=\"auto\"><path d=\"M0 0L8 4L0 8z\"/></marker></svg>\n<svg id=\"drawing\" role=\"group\" aria-label=\"Configurations within two steps\"></svg>\n<p class=\"legend\">Thick border: here. Box: initial. Double border: goal. Filled: on this run. Thick dashed arrow: on the run that was loaded, which &ldquo;&#9670;&rdquo; marks in the lists. Dashed with &ldquo;!&rdquo;: stuck. Dashed with &ldquo;&times;&rdquo;: the action can't be executed. Drag to move, turn the wheel to zoom.</p>\n</section>\n<section id=\"search\" aria-labelledby=\"search-title\">\n<h2 id=\"search-title\">Search</h2>\n<p><label for=\"query\">Fluents and actions, such as <code>(spilled)</code> or <code>-(at kitchen)</code></label></p>\n<p><input id=\"query\" type=\"search\" list=\"names\" autocomplete=\"off\" spellcheck=\"false\"></p>\n<datalist id=\"names\"></datalist>\n<p id=\"found-count\" role=\"status\"></p>\n<ul id=\"found\"></ul>\n</section>\n</main>\n<p class=\"keys\">Keys: 1 to 9 take an outcome, Backspace goes back.</p>\n<script type=\"application/json\" id=\"data\">"
+    codes "<!doctype html>\n<html lang=\"en\">\n<head>\n<meta charset=\"utf-8\">\n<meta name=\"viewport\" content=\"width=device-width, initial-scale=1\">\n<meta http-equiv=\"Content-Security-Policy\" content=\"default-src 'none'; script-src 'unsafe-inline'; style-src 'unsafe-inline'\">\n<title>A plan to step through</title>\n<style>\n:root {\n  color-scheme: light dark;\n  --paper: #ffffff;\n  --ink: #1b1f24;\n  --soft: #57606a;\n  --line: #c4ccd4;\n  --panel: #f5f7f9;\n  --accent: #0a58ca;\n  --lit: #d7e6ff;\n  --good: #116329;\n  --bad: #b3121f;\n  --witness: #8a4b00;\n}\n@media (prefers-color-scheme: dark) {\n  :root {\n    --paper: #14181d;\n    --ink: #e6eaee;\n    --soft: #a3adb8;\n    --line: #3d4650;\n    --panel: #1c2229;\n    --accent: #7ab7ff;\n    --lit: #1f3a5f;\n    --good: #6fdd8b;\n    --bad: #ff8b86;\n    --witness: #ffb454;\n  }\n}\n* {\n  box-sizing: border-box;\n}\nbody {\n  margin: 0 auto;\n  max-width: 80rem;\n  padding: 0.75rem;\n  background: var(--paper);\n  color: var(--ink);\n  font: 1rem/1.45 system-ui, sans-serif;\n}\nh1 {\n  margin: 0;\n  font-size: 1.35rem;\n}\nh2 {\n  margin: 0 0 0.4rem;\n  font-size: 1.1rem;\n}\nh3 {\n  margin: 0.6rem 0 0.1rem;\n  font-size: 0.95rem;\n  color: var(--soft);\n}\np {\n  margin: 0.35rem 0;\n}\nmain {\n  display: grid;\n  grid-template-columns: repeat(auto-fit, minmax(min(100%, 22rem), 1fr));\n  gap: 0.75rem;\n}\nsection {\n  min-width: 0;\n  padding: 0.75rem;\n  border: 1px solid var(--line);\n  border-radius: 0.5rem;\n  background: var(--panel);\n}\n#map {\n  grid-column: 1 / -1;\n  order: 1;\n}\n#search {\n  order: 2;\n  grid-column: 1 / -1;\n}\n#news {\n  min-height: 1.45em;\n  color: var(--soft);\n}\ncode,\n.name,\n.rules li,\n#record {\n  font-family: ui-monospace, monospace;\n  font-size: 0.92em;\n  overflow-wrap: anywhere;\n}\nul,\nol {\n  margin: 0.2rem 0;\n  padding-left: 1.4rem;\n}\n#fluents ul,\n#gone ul,\n#found,\n#rules ul {\n  list-style: none;\n  padding-left: 0.3rem;\n}\n#sentence {\n  white-space: pre-line;\n}\n#steps {\n  padding-left: 2.6rem;\n  max-height: 16rem;\n  overflow: auto;\n}\n.added {\n  color: var(--good);\n  font-weight: 600;\n}\n.removed,\n.bad {\n  color: var(--bad);\n  font-weight: 600;\n}\n.soft {\n  color: var(--soft);\n}\n.rule {\n  margin: 0.4rem 0;\n  padding: 0.4rem 0.6rem;\n  border-left: 3px solid var(--accent);\n  background: var(--paper);\n}\nbutton,\ninput,\nselect {\n  max-width: 100%;\n  padding: 0.35rem 0.6rem;\n  border: 1px solid var(--line);\n  border-radius: 0.35rem;\n  background: var(--paper);\n  color: var(--ink);\n  font: inherit;\n}\nbutton {\n  cursor: pointer;\n  text-align: left;\n}\nbutton:disabled {\n  cursor: default;\n  color: var(--soft);\n}\nbutton:focus-visible,\ninput:focus-visible,\nselect:focus-visible,\nsummary:focus-visible,\nsvg [tabindex]:focus-visible {\n  outline: 3px solid var(--accent);\n  outline-offset: 1px;\n}\n.outcome,\n.plain {\n  width: 100%;\n  margin: 0.15rem 0;\n}\n.here {\n  border-color: var(--accent);\n  border-width: 2px;\n}\n.witness {\n  border-left: 4px solid var(--witness);\n}\n.key {\n  display: inline-block;\n  min-width: 1.5em;\n  margin-right: 0.4em;\n  border: 1px solid var(--line);\n  border-radius: 0.25rem;\n  text-align: center;\n}\n.buttons {\n  display: flex;\n  flex-wrap: wrap;\n  gap: 0.35rem;\n}\n#record,\n#query {\n  flex: 1 1 12rem;\n  width: 100%;\n  min-width: 0;\n}\n#drawing {\n  display: block;\n  width: 100%;\n  height: 24rem;\n  border: 1px solid var(--line);\n  border-radius: 0.35rem;\n  background: var(--paper);\n  cursor: grab;\n  touch-action: none;\n}\n#drawing text {\n  fill: var(--ink);\n  font-size: 13px;\n  text-anchor: middle;\n  pointer-events: none;\n}\n#drawing .node {\n  cursor: pointer;\n}\n#drawing .shape {\n  fill: var(--paper);\n  stroke: var(--ink);\n  stroke-width: 1.2;\n}\n#drawing .inner {\n  fill: none;\n  stroke: var(--ink);\n}\n#drawing .lit .shape {\n  fill: var(--lit);\n}\n#drawing .current .shape {\n  stroke: var(--accent);\n  stroke-width: 4;\n}\n#drawing .stopped .shape {\n  stroke: var(--bad);\n  stroke-width: 2.5;\n  stroke-dasharray: 5 3;\n}\n#drawing .stopped text {\n  fill: var(--bad);\n  font-weight: 700;\n}\n#drawing .edge {\n  fill: none;\n  stroke: var(--soft);\n  stroke-width: 1.3;\n}\n#drawing .edge.onward {\n  stroke: var(--accent);\n  stroke-width: 2.2;\n}\n#drawing .edge.witness {\n  stroke: var(--witness);\n  stroke-width: 3.5;\n  stroke-dasharray: 9 4;\n}\nmarker path {\n  fill: context-stroke;\n}\n#start {\n  width: 7rem;\n}\n.legend,\n.keys {\n  color: var(--soft);\n  font-size: 0.88rem;\n}\n.hidden {\n  position: absolute;\n  width: 1px;\n  height: 1px;\n  overflow: hidden;\n  clip-path: inset(50%);\n}\n</style>\n</head>\n<body>\n<header>\n<h1>A plan to step through</h1>\n<p id=\"counts\"></p>\n<details id=\"unused\"><summary id=\"unused-count\"></summary><ul id=\"unused-rules\" class=\"rules\"></ul></details>\n</header>\n<noscript><p>This page needs JavaScript. It loads nothing from elsewhere.</p></noscript>\n<p id=\"news\" role=\"status\" aria-live=\"polite\"></p>\n<main>\n<section id=\"state\" aria-labelledby=\"state-title\">\n<h2 id=\"state-title\">State</h2>\n<p id=\"place\"></p>\n<div id=\"fluents\"></div>\n<div id=\"gone\"></div>\n</section>\n<section id=\"choice\" aria-labelledby=\"choice-title\">\n<h2 id=\"choice-title\">What the plan does here</h2>\n<p id=\"verdict\" class=\"bad\"></p>\n<div id=\"rules\"></div>\n</section>\n<section id=\"run\" aria-labelledby=\"run-title\">\n<h2 id=\"run-title\">Run</h2>\n<p><label for=\"start\">Begin in initial state</label> <input id=\"start\" type=\"number\" min=\"0\"> <span id=\"start-last\"></span></p>\n<p class=\"buttons\">\n<button type=\"button\" id=\"back\" aria-keyshortcuts=\"Backspace\">Back</button>\n<button type=\"button\" id=\"restart\">Restart</button>\n<button type=\"button\" id=\"random\">Random run</button>\n<button type=\"button\" id=\"goal\">Shortest run to the goal</button>\n</p>\n<ol id=\"steps\" start=\"0\"></ol>\n<p><label for=\"record\">Record of this run, for <code>mbp replay</code></label></p>\n<p class=\"buttons\"><input id=\"record\" readonly spellcheck=\"false\"> <button type=\"button\" id=\"copy\">Copy</button></p>\n<p id=\"record-note\"></p>\n<details>\n<summary>Play a run from a file</summary>\n<p><label for=\"witness\">Explanation as <code>pulgazer explain --json</code> prints it</label> <input type=\"file\" id=\"witness\" accept=\".json,application/json\"></p>\n</details>\n<p id=\"sentence\"></p>\n</section>\n<section id=\"map\" aria-labelledby=\"map-title\">\n<h2 id=\"map-title\">Map</h2>\n<p class=\"buttons\">\n<button type=\"button\" id=\"zoom-in\" aria-label=\"Zoom in\">+</button>\n<button type=\"button\" id=\"zoom-out\" aria-label=\"Zoom out\">&minus;</button>\n<button type=\"button\" id=\"zoom-reset\">Whole map</button>\n</p>\n<svg class=\"hidden\" aria-hidden=\"true\"><marker id=\"arrow\" refX=\"7\" refY=\"4\" markerWidth=\"9\" markerHeight=\"9\" markerUnits=\"userSpaceOnUse\" orient=\"auto\"><path d=\"M0 0L8 4L0 8z\"/></marker></svg>\n<svg id=\"drawing\" role=\"group\" aria-label=\"Configurations within two steps\"></svg>\n<p class=\"legend\">Thick border: here. Box: initial. Double border: goal. Filled: on this run. Thick dashed arrow: on the run that was loaded, which &ldquo;&#9670;&rdquo; marks in the lists. Dashed with &ldquo;!&rdquo;: stuck. Dashed with &ldquo;&times;&rdquo;: the action can't be executed. Drag to move, turn the wheel to zoom.</p>\n</section>\n<section id=\"search\" aria-labelledby=\"search-title\">\n<h2 id=\"search-title\">Search</h2>\n<p><label for=\"query\">Fluents and actions, such as <code>(spilled)</code> or <code>-(at kitchen)</code></label></p>\n<p><input id=\"query\" type=\"search\" list=\"names\" autocomplete=\"off\" spellcheck=\"false\"></p>\n<datalist id=\"names\"></datalist>\n<p id=\"found-count\" role=\"status\"></p>\n<ul id=\"found\"></ul>\n</section>\n</main>\n<p class=\"keys\">Keys: 1 to 9 take an outcome, Backspace goes back.</p>\n<script type=\"application/json\" id=\"data\">"
 
 -- the end of that element, and the one of the run
 unfoldable pub middle_text : List ℕ

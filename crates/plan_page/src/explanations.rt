@@ -1,4 +1,4 @@
-//! Explanations of verdicts, as `mbp_explain .. --json` prints them: read from bytes.
+//! Explanations of verdicts, as `pulgazer explain --json` prints them: read from bytes.
 
 ghost use Rattle.plan_page.specs.ExplanationValues.{explanation_value, shown_value};
 ghost use Rattle.plan_page.specs.Explanations.{

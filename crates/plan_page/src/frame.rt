@@ -307,7 +307,7 @@ marker path {
 <p id="record-note"></p>
 <details>
 <summary>Play a run from a file</summary>
-<p><label for="witness">Explanation as <code>mbp_explain --json</code> prints it</label> <input type="file" id="witness" accept=".json,application/json"></p>
+<p><label for="witness">Explanation as <code>pulgazer explain --json</code> prints it</label> <input type="file" id="witness" accept=".json,application/json"></p>
 </details>
 <p id="sentence"></p>
 </section>
