@@ -13,7 +13,6 @@ use Rattle.command_base.specs.Words.{Bytes}
 use Rattle.command_base.specs.declared.answers.Refusal.{Refusal as CodeRefusal}
 use Rattle.command_base.specs.declared.answers.Refusal.TheVariants.{NoCommand, TextFault, OverLimit, ReadFault, NoMemory, Full, StrayOutcome, Unexecutable}
 use Rattle.answer_help.specs.Helped.{IsHelpFor, IsHelpedDelivery, IsRefusalHelp, IsPut}
-use Rattle.answer_help.specs.WrongWords.{WrongWords}
 
 append_known-append : (known : Option (List ℕ)) (first second : List ℕ) → append_known (append_known known first) second ≡ append_known known (first ++ second)
 append_known-append None first second = refl
@@ -60,9 +59,6 @@ put_next first second s between after false one put = part_after first second s 
 pub put_went : (first second : List ℕ) (s between after : Seen) (r t : Bool) → r ≡ true → IsPut first s between r → IsPut second between after t → IsPut (first ++ second) s after t
 put_went first second s between after r t went put next = put_next first second s between after t (subst (IsPut first s between) went put) next
 
-pub words_text : (line quote word colon why end : Bytes) → ((line ++ quote) ++ word) ++ ((colon ++ why) ++ end) ≡ line ++ ((((quote ++ word) ++ colon) ++ why) ++ end)
-words_text line quote word colon why end = simp append_assoc
-
 -- a refusal was written with its help, or a part of that
 pub refused_whole : (help : Bytes) (a : Answer) (text : Bytes) (out err err' : Seen) (status : ℕ) (r : Bool) → text ≡ text_of a ++ help → is_shown a ≡ false → status ≡ status_of a → r ≡ true
     → IsPut text err err' r → IsHelpedDelivery help a out out err err' status
@@ -76,29 +72,11 @@ refused_part help a text out err err' r is unshown stopped put =
     let errors : TakesPart text err err' = subst (IsPut text err err') stopped put in
     inr (refl, inr (record { unshown = unshown; output = refl; errors = subst (λ (t : Bytes). TakesPart t err err') is errors }))
 
--- the line about words, with the word that is wrong, was written in two pieces
-word_pieces : (line quote word l w : Bytes) (s after : Seen) (r : Bool) → l ≡ line → w ≡ word → IsPut ((l ++ quote) ++ w) s after r → IsPut ((line ++ quote) ++ word) s after r
-word_pieces line quote word l w s after r line_is word_is put =
-    subst (λ (x : Bytes). IsPut ((x ++ quote) ++ word) s after r) line_is (subst (λ (x : Bytes). IsPut ((l ++ quote) ++ x) s after r) word_is put)
-
-pub word_stopped : (line quote word colon why end l w : Bytes) (s after : Seen) (r : Bool) → l ≡ line → w ≡ word → r ≡ false → IsPut ((l ++ quote) ++ w) s after r
-    → IsPut (line ++ ((((quote ++ word) ++ colon) ++ why) ++ end)) s after false
-word_stopped line quote word colon why end l w s after r line_is word_is stopped put =
-    subst (λ (t : Bytes). IsPut t s after false) (words_text line quote word colon why end)
-    (put_stopped ((line ++ quote) ++ word) ((colon ++ why) ++ end) s after r stopped (word_pieces line quote word l w s after r line_is word_is put))
-
-pub word_went : (line quote word colon why end l w y : Bytes) (s between after : Seen) (r t : Bool) → l ≡ line → w ≡ word → y ≡ why → r ≡ true → IsPut ((l ++ quote) ++ w) s between r
-    → IsPut ((colon ++ y) ++ end) between after t → IsPut (line ++ ((((quote ++ word) ++ colon) ++ why) ++ end)) s after t
-word_went line quote word colon why end l w y s between after r t line_is word_is why_is went put next =
-    let rest = subst (λ (x : Bytes). IsPut ((colon ++ x) ++ end) between after t) why_is next in
-    subst (λ (text : Bytes). IsPut text s after t) (words_text line quote word colon why end)
-    (put_went ((line ++ quote) ++ word) ((colon ++ why) ++ end) s between after r t went (word_pieces line quote word l w s between r line_is word_is put) rest)
-
 -- the help for an answer that was given without any
-pub helped_given : (held : Bytes → Held) (words : WrongWords) (a given : Answer) → IsHelpFor held words a [] → (given ≡ a) ⊎ ((given ≡ refused no_memory) × (a ≢ refused no_command))
-    → IsHelpFor held words given []
-helped_given held words a given none (inl is) = subst (λ (b : Answer). IsHelpFor held words b []) (sym is) none
-helped_given held words a given none (inr (is, said)) = subst (λ (b : Answer). IsHelpFor held words b []) (sym is) refl
+pub helped_given : (held : Bytes → Held) (a given : Answer) → IsHelpFor held a [] → (given ≡ a) ⊎ ((given ≡ refused no_memory) × (a ≢ refused no_command))
+    → IsHelpFor held given []
+helped_given held a given none (inl is) = subst (λ (b : Answer). IsHelpFor held b []) (sym is) none
+helped_given held a given none (inr (is, said)) = subst (λ (b : Answer). IsHelpFor held b []) (sym is) refl
 
 pub not_command : (name : Bytes) (fault : InputFault) → refused (text_fault name fault) ≢ refused no_command
 not_command name fault same = cc same
@@ -125,32 +103,32 @@ helped_status help a out out' err err' status (inl (code, way)) other = code
 helped_status help a out out' err err' status (inr (code, way)) other = absurd (other code)
 
 -- there is no help for a refusal of another kind
-pub no_help : (held : Bytes → Held) (words : WrongWords) (r : CodeRefusal) → (r ≡ NoCommand → ⊥) → ((file : _) (fault : _) → r ≡ TextFault file fault → ⊥)
-    → IsRefusalHelp held words (refusal_of r) []
-no_help held words NoCommand command text = absurd (command refl)
-no_help held words (TextFault file fault) command text = absurd (text file fault refl)
-no_help held words (OverLimit limit) command text = refl
-no_help held words (ReadFault file) command text = refl
-no_help held words NoMemory command text = refl
-no_help held words (Full nodes) command text = refl
-no_help held words (StrayOutcome step word outcomes) command text = refl
-no_help held words (Unexecutable step) command text = refl
+pub no_help : (held : Bytes → Held) (r : CodeRefusal) → ((file : _) (fault : _) → r ≡ TextFault file fault → ⊥)
+    → IsRefusalHelp held (refusal_of r) []
+no_help held NoCommand text = refl
+no_help held (TextFault file fault) text = absurd (text file fault refl)
+no_help held (OverLimit limit) text = refl
+no_help held (ReadFault file) text = refl
+no_help held NoMemory text = refl
+no_help held (Full nodes) text = refl
+no_help held (StrayOutcome step word outcomes) text = refl
+no_help held (Unexecutable step) text = refl
 
 -- what is held stays, so help stays help
-help_as_refusal : (held held' : Bytes → Held) (words : WrongWords) (r : Refusal) (help : Bytes) → ((file : Bytes) → held' file ≡ held file) → IsRefusalHelp held' words r help → IsRefusalHelp held words r help
-help_as_refusal held held' words no_command help same is = is
-help_as_refusal held held' words (text_fault name fault) help same is = (is.0, subst (λ (h : Held). Gives h is.0) (same name) is.1, is.2)
-help_as_refusal held held' words (over_limit name) help same is = is
-help_as_refusal held held' words (read_fault name) help same is = is
-help_as_refusal held held' words no_memory help same is = is
-help_as_refusal held held' words (full nodes) help same is = is
-help_as_refusal held held' words (stray_outcome step word outcomes) help same is = is
-help_as_refusal held held' words (unexecutable step) help same is = is
+help_as_refusal : (held held' : Bytes → Held) (r : Refusal) (help : Bytes) → ((file : Bytes) → held' file ≡ held file) → IsRefusalHelp held' r help → IsRefusalHelp held r help
+help_as_refusal held held' no_command help same is = is
+help_as_refusal held held' (text_fault name fault) help same is = (is.0, subst (λ (h : Held). Gives h is.0) (same name) is.1, is.2)
+help_as_refusal held held' (over_limit name) help same is = is
+help_as_refusal held held' (read_fault name) help same is = is
+help_as_refusal held held' no_memory help same is = is
+help_as_refusal held held' (full nodes) help same is = is
+help_as_refusal held held' (stray_outcome step word outcomes) help same is = is
+help_as_refusal held held' (unexecutable step) help same is = is
 
-pub help_as : (held held' : Bytes → Held) (words : WrongWords) (a : Answer) (help : Bytes) → ((file : Bytes) → held' file ≡ held file) → IsHelpFor held' words a help → IsHelpFor held words a help
-help_as held held' words (affirmed text) help same is = is
-help_as held held' words (denied text) help same is = is
-help_as held held' words (refused r) help same is = help_as_refusal held held' words r help same is
+pub help_as : (held held' : Bytes → Held) (a : Answer) (help : Bytes) → ((file : Bytes) → held' file ≡ held file) → IsHelpFor held' a help → IsHelpFor held a help
+help_as held held' (affirmed text) help same is = is
+help_as held held' (denied text) help same is = is
+help_as held held' (refused r) help same is = help_as_refusal held held' r help same is
 
 -- an answer about a fault, or want of memory in its place
 pub fault_same : (a given : Answer) (r : Refusal) (name : Bytes) (fault : InputFault) → a ≡ refused r → r ≡ text_fault name fault → (given ≡ refused r) ⊎ (given ≡ refused no_memory)

@@ -1,4 +1,3 @@
-pub mod CommonWords
 pub mod Deliveries
-pub mod HelpedFrames
 pub mod Kept
+pub mod Told

@@ -8,25 +8,24 @@ use Rattle.command_base.specs.Answers.{write_fault_status}
 use Rattle.command_base.specs.Delivery.{CutOutput, IsUntouched, Seen, Showed, Takes, TakesPart}
 use Rattle.command_base.specs.Words.{Bytes}
 use Rattle.answer_help.specs.FaultHelp.{fault_help}
-use Rattle.answer_help.specs.WrongWords.{WrongWords, wrong_text}
 
--- the help for a refusal: for words that are no command, which word is wrong; for a fault of a file,
--- where it stands in the file's bytes, and what it means; otherwise nothing
-abbrev pub IsRefusalHelp : (Bytes → Held) → WrongWords → Refusal → Bytes → Type 0
-IsRefusalHelp held words no_command help = help ≡ wrong_text words
-IsRefusalHelp held words (text_fault name fault) help =
+-- the help for a refusal: for a fault of a file, where it stands in the file's bytes, and what it means;
+-- otherwise nothing
+abbrev pub IsRefusalHelp : (Bytes → Held) → Refusal → Bytes → Type 0
+IsRefusalHelp held no_command help = help ≡ []
+IsRefusalHelp held (text_fault name fault) help =
     (bytes : Bytes) × Gives (held name) bytes × (help ≡ fault_help bytes fault)
-IsRefusalHelp held words (over_limit name) help = help ≡ []
-IsRefusalHelp held words (read_fault name) help = help ≡ []
-IsRefusalHelp held words no_memory help = help ≡ []
-IsRefusalHelp held words (full nodes) help = help ≡ []
-IsRefusalHelp held words (stray_outcome step word outcomes) help = help ≡ []
-IsRefusalHelp held words (unexecutable step) help = help ≡ []
+IsRefusalHelp held (over_limit name) help = help ≡ []
+IsRefusalHelp held (read_fault name) help = help ≡ []
+IsRefusalHelp held no_memory help = help ≡ []
+IsRefusalHelp held (full nodes) help = help ≡ []
+IsRefusalHelp held (stray_outcome step word outcomes) help = help ≡ []
+IsRefusalHelp held (unexecutable step) help = help ≡ []
 
-abbrev pub IsHelpFor : (Bytes → Held) → WrongWords → Answer → Bytes → Type 0
-IsHelpFor held words (affirmed text) help = help ≡ []
-IsHelpFor held words (denied text) help = help ≡ []
-IsHelpFor held words (refused refusal) help = IsRefusalHelp held words refusal help
+abbrev pub IsHelpFor : (Bytes → Held) → Answer → Bytes → Type 0
+IsHelpFor held (affirmed text) help = help ≡ []
+IsHelpFor held (denied text) help = help ≡ []
+IsHelpFor held (refused refusal) help = IsRefusalHelp held refusal help
 
 -- Private: the whole text was written, or only a part of it
 abbrev pub IsPut : Bytes → Seen → Seen → Bool → Type 0

@@ -3,8 +3,6 @@
 ghost use Rattle.answer_help.specs.FaultHelp.{fault_help as help_of};
 ghost use Rattle.answer_help.specs.Helped.{IsHelpedDelivery, IsHelpFor, IsPut};
 ghost use Rattle.answer_help.specs.Keeping.{AreToldAs, held_by, kept_in};
-ghost use Rattle.answer_help.specs.Values.{wrong_of};
-ghost use Rattle.answer_help.specs.WrongWords.{WrongWords as Wrongs, wrong, wrong_text};
 ghost use Rattle.command_base.specs.Answers.{
   Answer,
   no_command,
@@ -31,7 +29,6 @@ ghost use Rattle.std.specs.Prelude.{
 
 use crate::fault_texts::fault_help;
 use crate::keeping::KeepingShelf;
-use crate::wrong_words::WrongWords;
 use command_base::{NO_MEMORY, Refusal, Shown, deliver};
 use plan_io::{Shelf, Sink, put_all};
 use sexpr_text::InputFault;
@@ -39,12 +36,6 @@ use std::alloc::{AllocError, Global};
 
 /// The exit status where the text of an answer can't be written whole.
 const WRITE_FAULT: u8 = 7;
-
-/// The exit status where the words are no command.
-const NO_COMMAND: u8 = 2;
-
-/// The line about that.
-const NO_COMMAND_LINE: &str = "mbp: the words are none of the command forms\n";
 
 /// The line about want of memory.
 const NO_MEMORY_LINE: &str = "no memory\n";
@@ -71,44 +62,20 @@ fn put_two<E: Sink>(sink: &mut E, first: &[u8], second: &[u8]) -> bool
     put_one(sink, second)
 }
 
-/// Whether three texts were.
-fn put_three<E: Sink>(sink: &mut E, first: &[u8], second: &[u8], third: &[u8]) -> bool
-    ensures { IsPut (first.now ++ second.now ++ third.now)
-        (seen (E.written sink.old) (E.faults sink.old))
-        (seen (E.written sink.new) (E.faults sink.new)) result }
-{
-    if !put_two(sink, first, second) {
-        return false;
-    }
-    put_one(sink, third)
-}
-
-/// What help is made from: the files that were read, and what is wrong with the words.
-pub struct HelpSource<'a, S> {
-    pub shelf: &'a KeepingShelf<S>,
-    pub words: WrongWords<'a>,
-}
-
-impl<S> Drop for HelpSource<'_, S> {
-    fn drop(self) {
-        let HelpSource { shelf: _, words: _ } = self;
-    }
-}
-
 /// Writes an answer where it belongs, with help below the line of a refusal, and gives the exit
 /// status that comes of it. Where there is no memory for that, this is the answer.
 pub fn deliver_helped<S: Shelf, O: Sink, E: Sink>(
     alloc: Global,
     answer: &Result<Shown, Refusal>,
-    source: &HelpSource<'_, S>,
+    shelf: &KeepingShelf<S>,
     out: &mut O,
     err: &mut E,
 ) -> u8
-    ensures { AreToldAs (held_by S.held source.now.shelf.now) (kept_in source.now.shelf.now)
+    ensures { AreToldAs (held_by S.held shelf.now) (kept_in shelf.now)
         → (given : Answer) × (help : Bytes)
         × ((given ≡ answer_of answer.now)
         ⊎ ((given ≡ refused no_memory) × (answer_of answer.now ≢ refused no_command)))
-        × IsHelpFor (held_by S.held source.now.shelf.now) (wrong_of source.now.words) given help
+        × IsHelpFor (held_by S.held shelf.now) given help
         × IsHelpedDelivery help given
         (seen (O.written out.old) (O.faults out.old)) (seen (O.written out.new) (O.faults out.new))
         (seen (E.written err.old) (E.faults err.old))
@@ -117,50 +84,12 @@ pub fn deliver_helped<S: Shelf, O: Sink, E: Sink>(
     match answer {
         Ok(_) => deliver(alloc, answer, out, err),
         Err(refusal) => match refusal {
-            Refusal::NoCommand => refuse_words(&source.words, err),
             Refusal::TextFault(file, fault) => {
-                refuse_fault(alloc, source.shelf, refusal, &FaultIn { file, fault }, err)
+                refuse_fault(alloc, shelf, refusal, &FaultIn { file, fault }, err)
             }
             _ => deliver(alloc, answer, out, err),
         },
     }
-}
-
-/// Says that the words are no command, and what is wrong with them.
-fn refuse_words<E: Sink>(words: &WrongWords<'_>, err: &mut E) -> u8
-    ensures { (out : Seen) → IsHelpedDelivery (wrong_text (wrong_of words.now)) (refused no_command)
-        out out (seen (E.written err.old) (E.faults err.old))
-        (seen (E.written err.new) (E.faults err.new)) result }
-{
-    if put_words(words, err) {
-        NO_COMMAND
-    } else {
-        WRITE_FAULT
-    }
-}
-
-/// Whether the line about words that are no command was written, with what is wrong with them.
-fn put_words<E: Sink>(words: &WrongWords<'_>, err: &mut E) -> bool
-    ensures { IsPut (text_of (refused no_command) ++ wrong_text (wrong_of words.now))
-        (seen (E.written err.old) (E.faults err.old)) (seen (E.written err.new) (E.faults err.new))
-        result }
-{
-    match words {
-        WrongWords::TooFew => put_two(err, NO_COMMAND_LINE.as_bytes(), b"too few words\n"),
-        WrongWords::Word { word, why } => put_word(err, word, why),
-    }
-}
-
-/// Whether that line was written, with the word that is wrong, and why.
-fn put_word<E: Sink>(err: &mut E, word: &str, why: &str) -> bool
-    ensures { IsPut (text_of (refused no_command) ++ wrong_text (wrong word.now why.now))
-        (seen (E.written err.old) (E.faults err.old)) (seen (E.written err.new) (E.faults err.new))
-        result }
-{
-    if !put_three(err, NO_COMMAND_LINE.as_bytes(), b"`", word.as_bytes()) {
-        return false;
-    }
-    put_three(err, b"`: ", why.as_bytes(), b"\n")
 }
 
 /// A fault in the file of this name.
@@ -180,9 +109,9 @@ fn refuse_fault<S: Shelf, E: Sink>(
 ) -> u8
     requires { refusal_of refusal.now ≡ text_fault found.now.file.now found.now.fault.now }
     ensures { AreToldAs (held_by S.held shelf.now) (kept_in shelf.now)
-        → (out : Seen) (words : Wrongs) → (given : Answer) × (help : Bytes)
+        → (out : Seen) → (given : Answer) × (help : Bytes)
         × ((given ≡ refused (refusal_of refusal.now)) ⊎ (given ≡ refused no_memory))
-        × IsHelpFor (held_by S.held shelf.now) words given help
+        × IsHelpFor (held_by S.held shelf.now) given help
         × IsHelpedDelivery help given out out (seen (E.written err.old) (E.faults err.old))
         (seen (E.written err.new) (E.faults err.new)) result }
 {

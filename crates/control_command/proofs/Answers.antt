@@ -18,7 +18,7 @@ use Rattle.command_base.specs.declared.answers.Refusal.{Refusal as CodeRefusal}
 use Rattle.command_base.specs.declared.answers.Shown.{Shown}
 use Rattle.control_command.specs.Controllers.{AffirmsNothing, ControlThen, IsControlAnswer, IsControlled, IsControllerShown, IsRefuted}
 use Rattle.control_command.specs.Judged.{IsControlRefusal}
-use Rattle.control_words.specs.Words.{ControlWords}
+use Rattle.control_command.specs.Words.{ControlWords}
 
 -- one of the files is refused
 pub before_control : (held : Bytes → Held) (failed : Bytes → Type 0) (asked : ControlWords) (a : Answer)

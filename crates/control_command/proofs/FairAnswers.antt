@@ -57,8 +57,8 @@ use Rattle.plan_command.proofs.ContextAnswers.{shallow_within}
 use Rattle.control_command.specs.FairControllers.{FairThen, HasLongFairText, IsFairAnswer, IsFairController, IsFairResult, IsFairShown, IsTried, MeetsFairly, fair_goal_of, fair_sets, most_fair_parts}
 use Rattle.control_command.specs.FairJudged.{HasLongFairly, IsFairlyFound, IsFairlyMade, IsFairlyRefused, IsFairlyShown, IsTranslated, LacksFairRoom, most_fair_of, with_goal}
 use Rattle.control_command.specs.FairSought.{FollowsFairly, IsFairGoal, IsFairMadeRefusal, IsFairShownFor, IsFairTask, wanted_fairly}
-use Rattle.control_words.specs.FairWords.{FairWords}
-use Rattle.control_words.specs.Values.{fair_words_of}
+use Rattle.control_command.specs.Words.{FairWords}
+use Rattle.control_command.specs.Values.{fair_words_of}
 use Rattle.control_command.specs.declared.fair.FairSought.{FairSought}
 use Rattle.control_command.specs.declared.fair_controllers.FairTask.{FairTask}
 use Rattle.control_command.specs.declared.made.Wanted.{Wanted}

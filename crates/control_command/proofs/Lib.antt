@@ -1,11 +1,11 @@
+pub mod AnswerLaws
 pub mod Answers
 pub mod FairAnswers
 pub mod FairGoalParts
-pub mod FairRunLaws
+pub mod FairAnswerLaws
 pub mod FoundPlans
 pub mod Limits
 pub mod NoPlans
-pub mod RunLaws
 pub mod ServedParts
 pub mod Tables
 pub mod Yes

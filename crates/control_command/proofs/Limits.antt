@@ -19,7 +19,7 @@ use Rattle.command_base.proofs.TooMany.{too_many}
 use Rattle.command_base.proofs.TaskNames.{same_actions, same_fluents}
 use Rattle.control_command.specs.Controllers.{IsTooMuchToList, ReachesTooMany}
 use Rattle.control_command.specs.Judged.{HasNoGraph, IsControlRefusal, IsTooLarge}
-use Rattle.control_words.specs.Words.{ControlWords}
+use Rattle.control_command.specs.Words.{ControlWords}
 
 -- what has no graph is too much to be listed
 pub too_much : (d : DomainTree) (p : ProblemTree) (task : Task) (plan : PlainPlan) → IsTaskOf d p task → HasNoGraph task plan → IsTooMuchToList d p plan

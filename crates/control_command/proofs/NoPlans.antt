@@ -22,7 +22,7 @@ use Rattle.std.specs.declared.alloc.AllocError.{AllocError}
 use Rattle.plan_command.proofs.Meetings.{no_table, AcceptedMeansNone}
 use Rattle.control_command.specs.Controllers.{IsNoPlanShown, IsRefuted}
 use Rattle.control_command.specs.Judged.{IsNoPlanTold}
-use Rattle.control_words.specs.Words.{ControlWords}
+use Rattle.control_command.specs.Words.{ControlWords}
 
 -- what is told of a task is told of the problem
 told_of : (certified : Bool) (kind : PlanKind) (d : DomainTree) (p : ProblemTree) (certificate : PlainCertificate) (text : Text) → kind ≡ of_class certificate.class

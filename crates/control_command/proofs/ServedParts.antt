@@ -58,8 +58,8 @@ use Rattle.command_base.specs.declared.answers.Limit.{Limit}
 use Rattle.command_base.specs.declared.answers.Refusal.{Refusal as CodeRefusal}
 use Rattle.command_base.specs.declared.answers.Refusal.TheVariants.{OverLimit}
 use Rattle.command_base.specs.declared.answers.Shown.{Shown}
-use Rattle.control_words.specs.Values.{control_words_of}
-use Rattle.control_words.specs.Words.{ControlWords}
+use Rattle.control_command.specs.Values.{control_words_of}
+use Rattle.control_command.specs.Words.{ControlWords}
 use Rattle.control_command.specs.Controllers.{HasNoIdleRule, IsController, IsTooMuchToList}
 use Rattle.control_command.specs.Judged.{IsGuardedOver, IsTextRefusal, IsTextShown, IsTooLarge}
 use Rattle.control_command.specs.Sought.{IsControllerFor, IsFoundFor, IsReady, IsRefusedFor, IsShownFor, IsTextFound, text_found, wanted_for}

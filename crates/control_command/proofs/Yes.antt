@@ -42,11 +42,11 @@ use Rattle.control_command.specs.Controllers.{IsController, IsControllerShown, I
 use Rattle.control_command.specs.Judged.{CanBeJudged, HasNoGraph, IsFoundGood, IsGoodAlong, HasTextTooLong, IsJudged, IsJudgedShown, IsMadeRefusal, IsTableGoodOnSets, IsAffirmedAs, IsGuardedOver, IsShownOver, IsTextRefusal, IsTextShown, text_over}
 use Rattle.control_command.proofs.Limits.{too_much}
 use Rattle.control_command.specs.Sought.{IsReady, IsShownFor, JudgedPlansControl, wanted_for}
-use Rattle.control_words.specs.Values.{control_words_of}
-use Rattle.control_words.specs.Words.{ControlWords}
-use Rattle.control_words.specs.declared.shapes.Form.{Form}
-use Rattle.control_words.specs.declared.shapes.Form.TheVariants.{Code, Json, Text as AsText}
-use Rattle.control_words.specs.declared.shapes.Shape.{Shape}
+use Rattle.control_command.specs.Values.{control_words_of}
+use Rattle.control_command.specs.Words.{ControlWords}
+use Rattle.control_command.specs.declared.words.Form.{Form}
+use Rattle.control_command.specs.declared.words.Form.TheVariants.{Code, Json, Text as AsText}
+use Rattle.control_command.specs.declared.words.Shape.{Shape}
 use Rattle.controller_code.specs.declared.texts.Language.{Language}
 use Rattle.task_core.specs.declared.tasks.Task.{Task}
 use Rattle.control_command.specs.declared.made.Wanted.{Wanted}

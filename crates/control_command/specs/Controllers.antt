@@ -34,9 +34,9 @@ use Rattle.command_base.specs.PddlTexts.{ReadBoth}
 use Rattle.plan_command.specs.PlanCommand.{HasNoPlan, IsWrittenFor, MayRunOut, PlanThen, no_plan_text}
 use Rattle.command_base.specs.Reading.{file_limit}
 use Rattle.command_base.specs.Words.{Bytes, PlanKind, of_class, with_contexts}
-use Rattle.control_words.specs.Words.{ControlWords}
-use Rattle.control_words.specs.declared.shapes.Form.{Form}
-use Rattle.control_words.specs.declared.shapes.Form.TheVariants.{Code, Json, Text as AsText}
+use Rattle.control_command.specs.Words.{ControlWords}
+use Rattle.control_command.specs.declared.words.Form.{Form}
+use Rattle.control_command.specs.declared.words.Form.TheVariants.{Code, Json, Text as AsText}
 
 -- what a plan means as it is run: of a table the pairs of the first rule that matches each state, of
 -- an automaton its plan with contexts, in which the first rule counts anyway

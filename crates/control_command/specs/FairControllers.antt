@@ -27,7 +27,7 @@ use Rattle.plan_command.specs.ContextGoals.{context_goal, part_count, part_limit
 use Rattle.plan_command.specs.GoalSets.{GoalSets, goal_sets, of_patrol, of_until}
 use Rattle.plan_command.specs.PlanCommand.{no_plan_text}
 use Rattle.control_command.specs.Controllers.{IsGuardedFor, IsShownAs, text_for}
-use Rattle.control_words.specs.FairWords.{FairWords}
+use Rattle.control_command.specs.Words.{FairWords}
 use Rattle.ctl_syntax.specs.GoalSizes.{most_visits}
 
 -- the sets of states of a goal, as one whose actions may be tried again

@@ -23,7 +23,7 @@ use Rattle.task_core.specs.declared.tasks.Task.{Task}
 use Rattle.command_base.specs.Answers.{Answer, Refusal, no_memory, over_limit}
 use Rattle.command_base.specs.Words.{with_contexts}
 use Rattle.control_command.specs.Judged.{HasLongJudged, IsJudgedShown}
-use Rattle.control_words.specs.declared.shapes.Shape.{Shape}
+use Rattle.control_command.specs.declared.words.Shape.{Shape}
 use Rattle.ctl_syntax.specs.GoalSizes.{most_visits}
 
 -- how many stages or visits a goal may have

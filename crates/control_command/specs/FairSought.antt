@@ -21,8 +21,8 @@ use Rattle.plan_command.specs.FoundGoals.{StandsForGoal}
 use Rattle.control_command.specs.FairControllers.{FairThen}
 use Rattle.control_command.specs.FairJudged.{IsFairlyMade, IsFairlyRefused, IsFairlyShown, IsTranslated}
 use Rattle.control_command.specs.FairJudged.{most_fair_of, with_goal}
-use Rattle.control_words.specs.FairWords.{FairWords}
-use Rattle.control_words.specs.Values.{fair_words_of}
+use Rattle.control_command.specs.Words.{FairWords}
+use Rattle.control_command.specs.Values.{fair_words_of}
 use Rattle.control_command.specs.declared.fair.FairSought.{FairSought}
 use Rattle.control_command.specs.declared.fair_controllers.FairTask.{FairTask}
 use Rattle.control_command.specs.declared.made.Wanted.{Wanted}

@@ -35,10 +35,10 @@ use Rattle.command_base.specs.declared.answers.Text.{Text}
 use Rattle.command_base.specs.Reading.{file_limit}
 use Rattle.command_base.specs.Words.{Bytes, IsNodeLimit, PlanKind, of_class, with_contexts}
 use Rattle.control_command.specs.Controllers.{IsLimitPassed, IsProgramOf}
-use Rattle.control_words.specs.Words.{ControlWords}
-use Rattle.control_words.specs.declared.shapes.Form.{Form}
-use Rattle.control_words.specs.declared.shapes.Form.TheVariants.{Code, Json, Text as AsText}
-use Rattle.control_words.specs.declared.shapes.Shape.{Shape}
+use Rattle.control_command.specs.Words.{ControlWords}
+use Rattle.control_command.specs.declared.words.Form.{Form}
+use Rattle.control_command.specs.declared.words.Form.TheVariants.{Code, Json, Text as AsText}
+use Rattle.control_command.specs.declared.words.Shape.{Shape}
 use Rattle.task_core.specs.Initials.{HasTooManyInitial}
 
 -- the verdict on a plan of a task is yes

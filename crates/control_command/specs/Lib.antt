@@ -1,3 +1,4 @@
+pub mod Answers
 pub mod Controllers
 pub mod FairControllers
 pub mod FairJudged
@@ -5,5 +6,6 @@ pub mod FairSought
 pub mod Followed
 pub mod Judged
 pub mod Laws
-pub mod Runs
 pub mod Sought
+pub mod Values
+pub mod Words

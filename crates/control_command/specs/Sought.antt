@@ -19,8 +19,8 @@ use Rattle.plan_rules.specs.declared.rules.Plan.{Plan}
 use Rattle.control_command.specs.Controllers.{ControlThen, IsController, IsControllerShown, IsRefuted}
 use Rattle.command_base.specs.Reading.{file_limit}
 use Rattle.control_command.specs.Judged.{IsControlRefusal, IsJudged, text_over}
-use Rattle.control_words.specs.Values.{control_words_of}
-use Rattle.control_words.specs.Words.{ControlWords}
+use Rattle.control_command.specs.Values.{control_words_of}
+use Rattle.control_command.specs.Words.{ControlWords}
 use Rattle.control_command.specs.declared.made.Wanted.{Wanted}
 use Rattle.control_command.specs.declared.sought.Found.{Found}
 use Rattle.control_command.specs.declared.sought.Sought.{Sought}

@@ -1,17 +1,11 @@
-//! From the words to the answer.
+//! From what is asked to the answer.
 
 ghost use Rattle.command_base.specs.Shelves.{KeepsShelf};
 ghost use Rattle.control_command.specs.Controllers.{IsControlAnswer, IsControlled};
-ghost use Rattle.control_command.specs.Runs.{HasControlCause};
+ghost use Rattle.control_command.specs.Answers.{IsRequestAnswer};
 ghost use Rattle.control_command.specs.Sought.{FollowsFor, IsAnswerFor, IsAnswerIn, IsReady};
-ghost use Rattle.control_words.specs.Values.{control_words_of};
-ghost use Rattle.control_words.specs.FairWords.{
-  AskNothing,
-  ControlRequest as AskedControl,
-  SaysRequest,
-  domain_of,
-  problem_of,
-};
+ghost use Rattle.control_command.specs.Values.{HasRoom, control_words_of, request_value};
+ghost use Rattle.control_command.specs.Words.{domain_of, problem_of};
 ghost use Rattle.command_base.specs.Answers.{no_memory, refused};
 ghost use Rattle.command_base.specs.Fetching.{FetchesBoth};
 ghost use Rattle.command_base.specs.Values.{answer_of, refusal_of};
@@ -20,38 +14,44 @@ ghost use Rattle.pddl_ast.specs.Fits.{FitsDomain, FitsProblem};
 ghost use Rattle.pddl_ast.specs.Values.{domain_value, problem_value};
 ghost use Rattle.pddl_system.specs.Names.{NamesAreWords};
 ghost use Rattle.plan_io.specs.Fetches.{FailedLast, FetchesNothing};
-ghost use Rattle.std.specs.Prelude.{◌≡◌, ◌⊎◌, IfErr, IfOk, IfSome, map, string_bytes};
+ghost use Rattle.std.specs.Prelude.{◌≡◌, ◌⊎◌, IfErr, IfOk, IfSome};
 
 use crate::fair::fair_files;
 use crate::plan_controllers::without_controller;
 use crate::search_controllers::shown_sought;
 use crate::searches::Effort;
 use crate::sought::Sought;
+use crate::words::{ControlRequest, ControlWords};
 use command_base::{Refusal, Shown, check_goal, ground_both, read_both};
-use control_words::{ControlRequest, ControlWords, read_request};
 use pddl_ast::{Domain, Problem};
 use plan_io::Shelf;
 use std::alloc::Global;
 
-/// Does what the words say, and gives the answer.
-pub(crate) fn answer<S: Shelf>(
+/// The controller for the domain and the problem in two files, or that there is no plan of the kind.
+///
+/// The answer is yes with a controller: a plan of the kind that meets the problem, with rules for the states
+/// alone that it reaches, as text, as a JSON document or as a program. It is no where there is no plan; where
+/// it is wanted a certificate of that stands below. The limits are those of `mbp plan`, or: the text would be
+/// longer than 1,048,576 bytes; of a plan with contexts, there are more than 262,144 initial states, or more
+/// than 262,144 configurations are reached. Where `mbp plan` finds a plan, one of these limits is the only
+/// reason why no controller is shown, but for want of memory.
+pub fn controller<S: Shelf>(
     alloc: Global,
-    words: &[String],
     shelf: &mut S,
+    asked: &ControlRequest,
 ) -> Result<Shown, Refusal>
-    ensures cause { let failed = FailedLast S.fetched S.faults shelf.old shelf.new in
-        HasControlCause (S.held shelf.old) failed (map string_bytes words.now)
-        (answer_of result) }
-    ensures fetches { (asked : AskedControl) → SaysRequest (map string_bytes words.now) asked
-        → FetchesBoth (S.held shelf.old) S.fetched (domain_of asked) (problem_of asked)
+    requires room { HasRoom asked.now }
+    ensures answer { let failed = FailedLast S.fetched S.faults shelf.old shelf.new in
+        (answer_of result ≡ refused no_memory)
+        ⊎ IsRequestAnswer (S.held shelf.old) failed (request_value asked.now) (answer_of result) }
+    ensures fetches { let asked = request_value asked.now in
+        FetchesBoth (S.held shelf.old) S.fetched (domain_of asked) (problem_of asked)
         FetchesNothing shelf.old shelf.new }
-    ensures no_fetch { AskNothing (map string_bytes words.now) → shelf.new ≡ shelf.old }
     ensures shelf { KeepsShelf S.held S.faults (answer_of result) shelf.old shelf.new }
 {
-    match read_request(words) {
-        ControlRequest::Plan(asked) => control_files(alloc, shelf, &asked),
-        ControlRequest::Fair(asked) => fair_files(alloc, shelf, &asked),
-        ControlRequest::Nothing => Err(Refusal::NoCommand),
+    match asked {
+        ControlRequest::Plan(asked) => control_files(alloc, shelf, asked),
+        ControlRequest::Fair(asked) => fair_files(alloc, shelf, asked),
     }
 }
 

@@ -14,7 +14,7 @@ ghost use Rattle.control_command.specs.FairSought.{
   StandsFor,
   StandsForNone,
 };
-ghost use Rattle.control_words.specs.Values.{fair_words_of};
+ghost use Rattle.control_command.specs.Values.{fair_words_of};
 ghost use Rattle.ctl_syntax.specs.GoalValues.{GoalIsAtMostDeep, GoalNamesBelow};
 ghost use Rattle.ctl_syntax.specs.Values.{IsAtMostDeep, NamesBelow, ctl_value};
 ghost use Rattle.pddl_ast.specs.Fits.{FitsDomain, FitsProblem};
@@ -27,8 +27,8 @@ ghost use Rattle.task_core.specs.Tasks.{fluent_count};
 ghost use Rattle.ctl_syntax.specs.GoalSizes.{count_of};
 
 use crate::fair_controllers::{FairTask, fair_tried};
+use crate::words::FairWords;
 use command_base::{PlanKind, Refusal, Shown, check_goal, goal_in, ground_both, read_both};
-use control_words::FairWords;
 use ctl_syntax::{ContextGoal, Ctl, as_context_goal};
 use fair_theory::{MOST_FAIR_STAGES, fair_goal};
 use ground_task::Grounded;

@@ -1,7 +1,7 @@
 //! A controller: the plan of `plan_command` for the states alone that it reaches, with few and short
 //! rules, as a text that plans are read from, as a JSON document or as a program.
 //!
-//! `control` finds the plan with the planners of `plan_command`, as sets of states, follows it from the
+//! `controller` finds the plan with the planners of `plan_command`, as sets of states, follows it from the
 //! initial states (`followed`, `searches`, `context_searches`), and makes rules of what it does there
 //! (`rules`, `plans`). None of that is trusted: the plan is judged by the proved checker, and what isn't
 //! found to be a controller isn't shown (`made`, `judged`, and `controller_rules` for what its rules are
@@ -13,8 +13,8 @@
 //! A controller for a goal with stages whose actions may be tried again (`fair`) is found by `fair_plan`,
 //! and judged by the goal that `fair_theory` puts in the place of the problem's.
 //!
-//! `control_words` reads the words. `specs/` says what the call answers: `Controllers` and
-//! `FairControllers` the answer, `Runs` a run with its cause, and `Laws` what follows of each run.
+//! `specs/` says what the call answers: `Words` which controller may be wanted, `Controllers` and
+//! `FairControllers` the answer, and `Laws` what follows of each answer.
 #![tactic(auto)]
 
 mod allowances;
@@ -42,9 +42,8 @@ mod set_outcomes;
 mod sought;
 mod staged;
 mod state_plans;
-mod top;
+mod words;
 
-pub use laws::{
-    controllers_meet, fair_controllers_have_the_goal, no_fair_plan_is_there, no_plan_is_there,
-};
-pub use top::control;
+pub use commands::controller;
+pub use laws::{controllers_meet, no_plan_is_there};
+pub use words::{ControlRequest, ControlWords, FairWords, Form, Shape};

@@ -4,7 +4,7 @@ ghost use Rattle.control_command.specs.Sought.{JudgedPlansControl, wanted_for};
 ghost use Rattle.std.specs.Prelude.{◌≡◌};
 
 use crate::made::Wanted;
-use control_words::ControlWords;
+use crate::words::ControlWords;
 use controller_rules::good_rules_control;
 use ground_task::Grounded;
 use pddl_ast::{Domain, Problem};

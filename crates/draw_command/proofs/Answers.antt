@@ -1,4 +1,4 @@
--- From what follows the reading of both files to the answer, and from the answer to a run.
+-- From what follows the reading of both files to the answer.
 use Rattle.std.proofs.Common.{◌≡◌, ◌≢◌, ◌⊎◌, List, [], ◌∷◌, Contains, get_or, length, map, inl, inr, refl, sym, subst, ap, ◌∙◌, arith, None, drop}
 use Rattle.exec_graph.specs.Executions.{ReachesMoreThan}
 use Rattle.exec_graph.proofs.Reaching.{begins, reached_first}
@@ -28,7 +28,7 @@ use Rattle.command_base.proofs.Later.{read_over}
 use Rattle.command_base.proofs.TaskNames.{same_actions, same_fluents}
 use Rattle.command_base.proofs.WhatFollows.{then_map}
 use Rattle.draw_command.specs.Pictures.{DrawnOf, DrawnThen, IsFaultyExplanation, IsPictured, RunThen, ShowsPicture, TaskThen, most_for}
-use Rattle.draw_command.specs.Words.{PictureForm, PictureWords, SaysPicture, as_graph, as_graph_with, as_page, as_page_with, as_rules, form_said}
+use Rattle.draw_command.specs.Words.{PictureForm, PictureWords, as_graph, as_graph_with, as_page, as_page_with, as_rules}
 use Rattle.plan_page.specs.Explanations.{PlainExplanation, TellsExplanation}
 use Rattle.std.specs.Prelude.{Option, Some}
 use Rattle.std.proofs.lemmas.Option.{same_Some}
@@ -135,14 +135,3 @@ no_nodes f (x ∷ xs) none = absurd (omega (arith, none))
 pub some_nodes : {X Y : Type 0} (f : X → Y) (xs : List X) → (length xs ≡ 0 → ⊥) → map f xs ≢ []
 some_nodes f [] some none = some refl
 some_nodes f (x ∷ xs) some none = cc none
-
--- the words ask for one picture at most
-pub one_asked : (words : List Bytes) (v w : PictureWords) → SaysPicture words v → SaysPicture words w → v ≡ w
-one_asked words v w says says' =
-    let both = sym says.begins ∙ says'.begins in
-    let domains : v.domain ≡ w.domain = ap (λ (ws : List Bytes). get_or ws 0 []) both in
-    let problems : v.problem ≡ w.problem = ap (λ (ws : List Bytes). get_or ws 1 []) both in
-    let plans : v.plan ≡ w.plan = ap (λ (ws : List Bytes). get_or ws 2 []) both in
-    let rests : says.rest ≡ says'.rest = ap (drop 3) both in
-    let forms : v.form ≡ w.form = same_Some v.form w.form (sym says.ends ∙ ap form_said rests ∙ says'.ends) in
-    λ i. record { domain = domains i; problem = problems i; plan = plans i; form = forms i }

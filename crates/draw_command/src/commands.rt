@@ -1,4 +1,4 @@
-//! From the words to the answer.
+//! From what is asked to the answer.
 
 ghost use Rattle.command_base.specs.Answers.{no_memory, refused};
 ghost use Rattle.command_base.specs.Fetching.{HoldsSomePlan, RefusesPlan, Stops};
@@ -31,9 +31,7 @@ ghost use Rattle.draw_command.specs.Pictures.{
   most_for,
   shown_text as text_of,
 };
-ghost use Rattle.draw_command.specs.Runs.{HasPictureCause};
 ghost use Rattle.draw_command.specs.Values.{form_value, picture_words_of};
-ghost use Rattle.draw_command.specs.Words.{AskNothing, PictureWords as AskedPicture, SaysPicture};
 ghost use Rattle.plan_io.specs.Fetches.{FailedLast, Fetches};
 ghost use Rattle.plan_page.specs.ExplanationValues.{explanation_value, shown_value};
 ghost use Rattle.plan_page.specs.Pages.{page_of as page_for};
@@ -69,7 +67,7 @@ ghost use Rattle.task_core.specs.Tasks.{
 };
 
 use crate::run_files::read_explanation_file;
-use crate::words::{PictureForm, PictureWords, read_words};
+use crate::words::{PictureForm, PictureWords};
 use command_base::{Limit, Refusal, Shown, Text, grounded, no_initial, read_both, read_plan_file};
 use pddl_ast::{Domain, Problem};
 use plan_io::Shelf;
@@ -86,30 +84,12 @@ use task_core::Task;
 /// How many configurations a page may show.
 const MAX_PAGE_NODES: u32 = 20_000;
 
-/// Does what the words say, and gives the answer.
-pub(crate) fn answer<S: Shelf>(
-    alloc: Global,
-    words: &[String],
-    shelf: &mut S,
-) -> Result<Shown, Refusal>
-    ensures cause { let failed = FailedLast S.fetched S.faults shelf.old shelf.new in
-        HasPictureCause (S.held shelf.old) failed (map string_bytes words.now)
-        (answer_of result) }
-    ensures fetches { let failed = FailedLast S.fetched S.faults shelf.old shelf.new in
-        (asked : AskedPicture) → SaysPicture (map string_bytes words.now) asked
-        → FetchesToPicture (S.held shelf.old) failed S.fetched asked (answer_of result)
-        shelf.old shelf.new }
-    ensures no_fetch { AskNothing (map string_bytes words.now) → shelf.new ≡ shelf.old }
-    ensures shelf { KeepsShelf S.held S.faults (answer_of result) shelf.old shelf.new }
-{
-    match read_words(words) {
-        Some(asked) => picture_files(alloc, shelf, &asked),
-        None => Err(Refusal::NoCommand),
-    }
-}
-
 /// The picture of the plan in a file, for the domain and the problem in two files.
-fn picture_files<S: Shelf>(
+///
+/// The plan may be of either kind, and no goal is asked for. The limits are those of `mbp check`, or: the plan
+/// may reach more than 400 configurations, for a page more than 20,000; or the text has more than 67,108,864
+/// bytes, or, state by state, a name of more than 4,096.
+pub fn picture_files<S: Shelf>(
     alloc: Global,
     shelf: &mut S,
     asked: &PictureWords,

@@ -2,13 +2,12 @@
 //! that the plan in a file may reach, and an edge for each step that it may take there. Or as pages
 //! to step through the plan in a browser. The run of an explanation may be shown in both.
 //!
-//! `specs/` says what the call answers: `Words` which words say what
-//! is wanted, `Pictures` the answer, and `Runs` a run with its cause.
+//! `specs/` says what the call answers: `Words` which picture is wanted, and `Pictures` the answer.
 #![tactic(auto)]
 
 mod commands;
 mod run_files;
-mod top;
 mod words;
 
-pub use top::picture;
+pub use commands::picture_files;
+pub use words::{PictureForm, PictureWords};

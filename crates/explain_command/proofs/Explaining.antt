@@ -30,7 +30,9 @@ use Rattle.command_base.proofs.WhatFollows.{goal_map, ground_map, kind_map}
 use Rattle.check_command.specs.CheckCommand.{ExploreThen}
 use Rattle.check_command.proofs.CheckAnswers.{explored}
 use Rattle.command_base.proofs.TooMany.{too_many, too_many_back}
-use Rattle.explain_command.specs.Explained.{Explains, ExplainsIn, ExplainedThen, FollowedThen, IsExplained, PlanThen}
+use Rattle.explain_command.specs.declared.words.ShownAs.{ShownAs}
+use Rattle.explain_command.specs.declared.words.ShownAs.TheVariants.{Document, Run, Verdict}
+use Rattle.explain_command.specs.Explained.{Explains, ExplainsIn, Judges, JudgesIn, Shows, ShowsIn, ExplainedThen, FollowedThen, IsExplained, PlanThen}
 use Rattle.explain_command.specs.Fairly.{FairThen, GoalForThen, IsGoalFor, IsGoalRefusal}
 use Rattle.explain_command.specs.Lined.{LinedPlan, SpellsLined}
 use Rattle.explain_command.specs.Words.{ExplainWords}
@@ -72,6 +74,17 @@ explains_for law fair_law asked d p t given judged lined a contexts is same stan
   shown = explains.shown;
 }
 
+shows_for : GroundedGoalsAreTrue → FairGoalsAreTrue → (shown : ShownAs) (asked : ExplainWords) (d : DomainTree) (p : ProblemTree) (t : Task) (given judged : Option Ctl) (lined : LinedPlan) (a : Answer)
+    → (asked.fair ≡ true → asked.check.kind ≡ with_contexts) → task_value t ≡ task_of d p → system_of t ≡ system d p → option_map goal_value given ≡ ctl_goal_of d p
+    → IsGoalFor asked.fair given judged → ShowsIn shown asked t lined judged a → Shows shown asked d p lined a
+shows_for law fair_law Verdict asked d p t given judged lined a contexts is same stands for judges = record {
+  verdict = judges.verdict;
+  judged = judged_as law fair_law asked.fair asked.check.kind d p t given judged lined.placed.plan judges.verdict contexts same stands for judges.judged;
+  shown = judges.shown;
+}
+shows_for law fair_law Run asked d p t given judged lined a contexts is same stands for explains = explains_for law fair_law asked d p t given judged lined a contexts is same stands for explains
+shows_for law fair_law Document asked d p t given judged lined a contexts is same stands for explains = explains_for law fair_law asked d p t given judged lined a contexts is same stands for explains
+
 -- the file of the plan is refused
 pub plan_refused : (held : Bytes → Held) (failed : Bytes → Type 0) (asked : ExplainWords) (d : DomainTree) (p : ProblemTree) (t : Task) (r : Refusal)
     → task_value t ≡ task_of d p → first_passed d p ≡ None → has_goal_for asked.check.kind p ≡ true
@@ -98,7 +111,7 @@ pub explained_answer : GroundedGoalsAreTrue → FairGoalsAreTrue → (held : Byt
     → Holds held (SpellsLined (names_of_fluents t) (names_of_actions t)) asked.check.plan lined
     → (a ≡ refused no_memory) ⊎ KindThen asked.check.kind asked.check.plan lined.placed.place lined.placed.plan
     (GoalForThen asked.fair asked.check.problem p.ctl_place given (λ judged. ExploreThen (HasTooManyInitial t most_followed) (system_of t) lined.placed.plan
-    (InitialThen (empty_init asked.check.problem p) (initial_states t) (ExplainsIn asked t lined judged)))) a
+    (InitialThen (empty_init asked.check.problem p) (initial_states t) (ShowsIn asked.shown asked t lined judged)))) a
     → (a ≡ refused no_memory) ⊎ IsExplained held failed asked d p a
 explained_answer law fair_law held failed asked d p t given lined a contexts is system_is stands within some holds (inl memory) = inl memory
 explained_answer law fair_law held failed asked d p t given lined a contexts is system_is stands within some holds (inr then) =
@@ -106,8 +119,8 @@ explained_answer law fair_law held failed asked d p t given lined a contexts is 
     let named = subst (λ (ns : List Name). Holds held (SpellsLined (fluent_names d p) ns) asked.check.plan lined) (same_actions d p t is) fluents_named in
     let plan = lined.placed.plan in
     let empty = empty_init asked.check.problem p in
-    let Of : Option Ctl → Answer → Type 0 = ExplainsIn asked t lined in
-    let Of' : Answer → Type 0 = Explains asked d p lined in
+    let Of : Option Ctl → Answer → Type 0 = ShowsIn asked.shown asked t lined in
+    let Of' : Answer → Type 0 = Shows asked.shown asked d p lined in
     let Before : Option Ctl → Answer → Type 0 = λ judged. InitialThen empty (initial_states t) (Of judged) in
     let Then : Option Ctl → Answer → Type 0 = λ judged. ExploreThen (HasTooManyInitial t most_followed) (system_of t) plan (Before judged) in
     let Then' : Answer → Type 0 = ExploreThen (HasTooManyStates d p) (system d p) plan (ExplainedThen asked d p lined) in
@@ -115,7 +128,7 @@ explained_answer law fair_law held failed asked d p t given lined a contexts is 
     explored (HasTooManyInitial t most_followed) (HasTooManyStates d p) (system_of t) (system d p) plan (Before judged) (ExplainedThen asked d p lined) a
     (too_many d p t is) (too_many_back d p t is) system_is
     (initial_over empty (initial_states t) (system d p).initial (Of judged) Of' a (ap (λ (s : System). s.initial) system_is)
-    (explains_for law fair_law asked d p t given judged lined a contexts is system_is stands for)) in
+    (shows_for law fair_law asked.shown asked d p t given judged lined a contexts is system_is stands for)) in
     inr (inr (
       some,
       inr (
@@ -133,7 +146,7 @@ explained_answer law fair_law held failed asked d p t given lined a contexts is 
 module _ (asked : ExplainWords) (p : ProblemTree) (lined : LinedPlan) (t : Task) (given : Option Ctl) (is_kind : is_of_kind asked.check.kind lined.placed.plan ≡ true) where
   abbrev JudgedThen : Task → Option Ctl → Answer → Type 0
   JudgedThen task judged = ExploreThen (HasTooManyInitial task most_followed) (system_of task) lined.placed.plan
-      (InitialThen (empty_init asked.check.problem p) (initial_states task) (ExplainsIn asked task lined judged))
+      (InitialThen (empty_init asked.check.problem p) (initial_states task) (ShowsIn asked.shown asked task lined judged))
 
   abbrev GoalThenJudged : Answer → Type 0
   GoalThenJudged = KindThen asked.check.kind asked.check.plan lined.placed.place lined.placed.plan (GoalForThen asked.fair asked.check.problem p.ctl_place given (JudgedThen t))

@@ -38,7 +38,7 @@ use Rattle.explain_command.proofs.Affirmed.{comes_back, ends_inside, has_bound}
 use Rattle.explain_command.specs.Explained.{ExplainsIn, shown_answer, source_in}
 use Rattle.explain_command.specs.Findings.{HasLongestFor, IsFindingFor, IsMissing, IsShownFor, IsTold, misses_goal}
 use Rattle.explain_command.specs.Lined.{LinedPlan}
-use Rattle.explain_command.specs.Words.{ExplainWords}
+use Rattle.explain_command.specs.Words.{ExplainWords, is_document}
 
 -- what was found of a goal that is missed
 only_run : (n : ℕ) (fair : Bool) (task : Task) (goal : Option Ctl) (by : Ctl) (plan : PlainPlan) (run : Option Found) → goal ≡ Some by
@@ -204,7 +204,7 @@ shown_for law fair kind task goal plan graph verdict finding followed some judge
 pub explained_so : {E : Type 0} (r : Result Shown E) → RunsShow → (asked : ExplainWords) (task : Task) (lined : LinedPlan) (goal : Option Ctl) (graph : PlainGraph) (verdict : Verdict) (finding : PlainFinding)
     → IsGraphOf (system_of task) lined.placed.plan graph → graph.size ≢ 0
     → IsTaskVerdict asked.check.kind task goal lined.placed.plan verdict → IsFindingFor asked.fair asked.check.kind task goal lined.placed.plan verdict finding
-    → IfOk r (λ shown. shown_of shown ≡ shown_answer asked.json (source_in task lined.placed.plan lined.lines) verdict finding)
+    → IfOk r (λ shown. shown_of shown ≡ shown_answer (is_document asked.shown) (source_in task lined.placed.plan lined.lines) verdict finding)
     → IfOk r (λ shown. ExplainsIn asked task lined goal (shown_of shown))
 explained_so (Ok shown) law asked task lined goal graph verdict finding followed some judged found e = record {
   verdict = verdict;

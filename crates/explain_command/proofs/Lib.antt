@@ -1,8 +1,6 @@
 mod Affirmed
-mod Answers
 mod Explaining
 mod Fairness
 mod Finding
-mod Said
 mod Changed
 mod NoFloats

@@ -7,7 +7,7 @@ use Rattle.explain_command.specs.declared.words.ExplainWords.{ExplainWords as Co
 
 abbrev pub explain_words_of : CodeExplainWords → ExplainWords
 explain_words_of asked =
-    record { check = check_words_of asked.check; fair = asked.fair; json = asked.json }
+    record { check = check_words_of asked.check; fair = asked.fair; shown = asked.shown }
 
 abbrev pub lined_of : CodeLined → LinedPlan
 lined_of lined = record { placed = placed_of lined.read; lines = lined.lines.items }

@@ -1,5 +1,6 @@
-//! From the words to the answer.
+//! From what is asked to the answer.
 
+ghost use Rattle.check_command.specs.CheckCommand.{FetchesToCheck};
 ghost use Rattle.command_base.specs.Answers.{no_memory, refused};
 ghost use Rattle.command_base.specs.Fetching.{Stops};
 ghost use Rattle.command_base.specs.Grounding.{GoalThen, GroundThen, has_goal_for};
@@ -7,19 +8,17 @@ ghost use Rattle.command_base.specs.Shelves.{KeepsShelf};
 ghost use Rattle.command_base.specs.Values.{answer_of, kind_of};
 ghost use Rattle.command_base.specs.Words.{with_contexts};
 ghost use Rattle.explain_command.specs.Explained.{IsExplainAnswer, IsExplained};
-ghost use Rattle.explain_command.specs.Runs.{FetchesToExplain, HasExplainCause};
 ghost use Rattle.explain_command.specs.Values.{explain_words_of};
-ghost use Rattle.explain_command.specs.Words.{AskNothing, ExplainWords as AskedWords, SaysExplain};
 ghost use Rattle.pddl_ast.specs.Fits.{FitsDomain, FitsProblem};
 ghost use Rattle.pddl_ast.specs.Values.{domain_value, problem_value};
 ghost use Rattle.pddl_system.specs.Names.{NamesAreWords};
 ghost use Rattle.pddl_system.specs.Sizes.{first_passed};
 ghost use Rattle.plan_io.specs.Fetches.{FailedLast, Fetches};
-ghost use Rattle.std.specs.Prelude.{◌≡◌, ◌⊎◌, [], ◌∷◌, None, map, string_bytes, true};
+ghost use Rattle.std.specs.Prelude.{◌≡◌, ◌⊎◌, [], ◌∷◌, None, true};
 
 use crate::lined::read_lined;
 use crate::verdicts::explain_read;
-use crate::words::{ExplainWords, read_words};
+use crate::words::ExplainWords;
 use command_base::{Refusal, Shown, check_goal, ground_both, read_both};
 use fair_theory::fair_goals_are_true;
 use pddl_ast::{Domain, Problem};
@@ -27,30 +26,12 @@ use pddl_system::grounded_goals_are_true;
 use plan_io::Shelf;
 use std::alloc::Global;
 
-/// Does what the words say, and gives the answer.
-pub(crate) fn answer<S: Shelf>(
-    alloc: Global,
-    words: &[String],
-    shelf: &mut S,
-) -> Result<Shown, Refusal>
-    ensures cause { let failed = FailedLast S.fetched S.faults shelf.old shelf.new in
-        HasExplainCause (S.held shelf.old) failed (map string_bytes words.now)
-        (answer_of result) }
-    ensures fetches { let failed = FailedLast S.fetched S.faults shelf.old shelf.new in
-        (asked : AskedWords) → SaysExplain (map string_bytes words.now) asked
-        → FetchesToExplain (S.held shelf.old) failed S.fetched asked (answer_of result)
-        shelf.old shelf.new }
-    ensures no_fetch { AskNothing (map string_bytes words.now) → shelf.new ≡ shelf.old }
-    ensures shelf { KeepsShelf S.held S.faults (answer_of result) shelf.old shelf.new }
-{
-    match read_words(words) {
-        Some(asked) => explain_files(alloc, shelf, &asked),
-        None => Err(Refusal::NoCommand),
-    }
-}
-
-/// The verdict on the plan in a file, explained, for the domain and the problem in two files.
-fn explain_files<S: Shelf>(
+/// The verdict on the plan in a file, for the domain and the problem in two files: its line alone, or with a
+/// run that shows it, or a JSON document of both.
+///
+/// The verdict is that of `mbp check`, word for word. Where actions may be tried again, the plan is judged by
+/// the goal that stands in the place of the problem's.
+pub fn explain_files<S: Shelf>(
     alloc: Global,
     shelf: &mut S,
     asked: &ExplainWords,
@@ -60,7 +41,7 @@ fn explain_files<S: Shelf>(
         (answer_of result ≡ refused no_memory)
         ⊎ IsExplainAnswer (S.held shelf.old) failed (explain_words_of asked.now) (answer_of result) }
     ensures fetches { let failed = FailedLast S.fetched S.faults shelf.old shelf.new in
-        FetchesToExplain (S.held shelf.old) failed S.fetched (explain_words_of asked.now)
+        FetchesToCheck (S.held shelf.old) failed S.fetched (explain_words_of asked.now).check
         (answer_of result) shelf.old shelf.new }
     ensures shelf { KeepsShelf S.held S.faults (answer_of result) shelf.old shelf.new }
 {

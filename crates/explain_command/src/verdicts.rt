@@ -11,7 +11,7 @@ ghost use Rattle.command_base.specs.Words.{with_contexts};
 ghost use Rattle.ctl_syntax.specs.Values.{NamesBelow, ctl_value};
 ghost use Rattle.exec_graph.specs.Graphs.{IsGraphOf};
 ghost use Rattle.exec_graph.specs.Values.{IsWithinFluents, graph_size};
-ghost use Rattle.explain_command.specs.Explained.{ExplainsIn};
+ghost use Rattle.explain_command.specs.Explained.{ExplainsIn, JudgesIn, ShowsIn};
 ghost use Rattle.explain_command.specs.Fairly.{GoalForThen};
 ghost use Rattle.explain_command.specs.Values.{explain_words_of, lined_of};
 ghost use Rattle.pddl_ast.specs.Values.{problem_value};
@@ -33,8 +33,8 @@ use crate::fairly::goal_for;
 use crate::findings::{Followed, Judge, finding_for};
 use crate::lined::Lined;
 use crate::shown::shown_as;
-use crate::words::ExplainWords;
-use check_command::verdict_on;
+use crate::words::{ExplainWords, ShownAs, is_document};
+use check_command::{show_verdict, verdict_on};
 use command_base::{Limit, PlanKind, Refusal, Shown, no_initial};
 use counterexamples::{Source, context_plans_never_end, failures_are_shown};
 use exec_graph::{Graph, GraphErr, explore};
@@ -68,7 +68,7 @@ pub(crate) fn explain_read(
         placed.plan
         (InitialThen (empty_init words.check.problem (problem_value problem.now))
         (initial_states grounded.task)
-        (ExplainsIn words grounded.task (lined_of lined.now) judged))))
+        (ShowsIn words.shown words grounded.task (lined_of lined.now) judged))))
         (answer_of result) }
 {
     if !is_plan_of_kind(asked.check.kind, &lined.read.plan) {
@@ -81,7 +81,7 @@ pub(crate) fn explain_read(
         ));
     }
     let judged_by = goal_for(alloc, asked, problem, grounded)?;
-    explain_command(alloc, asked, problem, &judged_by, lined)
+    explain_followed(alloc, asked, problem, &judged_by, lined)
 }
 
 /// Whether the plan is of the kind.
@@ -96,7 +96,7 @@ fn is_plan_of_kind(kind: PlanKind, plan: &Plan) -> bool
 }
 
 /// The verdict on a plan of the kind, explained, for the goal by which it is judged.
-fn explain_command(
+fn explain_followed(
     alloc: Global,
     asked: &ExplainWords,
     problem: &Problem,
@@ -117,7 +117,7 @@ fn explain_command(
         (system_of task) (plain_of lined.now.read.plan)
         (InitialThen (empty_init words.check.problem (problem_value problem.now))
         (initial_states task)
-        (ExplainsIn words task (lined_of lined.now) grounded.now.ctl))
+        (ShowsIn words.shown words task (lined_of lined.now) grounded.now.ctl))
         (answer_of result) }
 {
     match explore(alloc, &grounded.task, &lined.read.plan) {
@@ -125,12 +125,66 @@ fn explain_command(
             if graph.len() == 0 {
                 return Err(no_initial(alloc, asked.check.problem, problem)?);
             }
-            Ok(explain_graph(alloc, asked, grounded, lined, &graph)?)
+            Ok(shown_graph(alloc, asked, grounded, lined, &graph)?)
         }
         Err(GraphErr::Initial) => Err(Refusal::OverLimit(Limit::Initial)),
         Err(GraphErr::TooLarge) => Err(Refusal::OverLimit(Limit::Configurations)),
         Err(GraphErr::Memory) => Err(Refusal::NoMemory),
     }
+}
+
+/// What is shown of the verdict on a plan of the kind with this graph.
+fn shown_graph(
+    alloc: Global,
+    asked: &ExplainWords,
+    grounded: &Grounded,
+    lined: &Lined,
+    graph: &Graph,
+) -> Result<Shown, AllocError>
+    requires goal { HasGoalIn (kind_of asked.now.check.kind) grounded.now.task grounded.now.ctl }
+    requires goal_names { IfSome grounded.now.ctl
+        (λ goal. NamesBelow (fluent_count grounded.now.task) (ctl_value goal)) }
+    requires in_task { IsPlanOf (fluent_count grounded.now.task) (action_count grounded.now.task)
+        lined.now.read.plan }
+    requires of_kind { is_of_kind (kind_of asked.now.check.kind) (plain_of lined.now.read.plan)
+        ≡ true }
+    requires graph { IsGraphIn grounded.now.task lined.now.read.plan graph.now }
+    requires some { graph_size graph.now ≢ 0 }
+    requires inside { IsWithinFluents (fluent_count grounded.now.task) graph.now }
+    ensures { let words = explain_words_of asked.now in IfOk result (λ shown.
+        ShowsIn words.shown words grounded.now.task (lined_of lined.now) grounded.now.ctl
+        (shown_of shown)) }
+{
+    match asked.shown {
+        ShownAs::Verdict => judge_graph(alloc, asked, grounded, lined, graph),
+        ShownAs::Run => explain_graph(alloc, asked, grounded, lined, graph),
+        ShownAs::Document => explain_graph(alloc, asked, grounded, lined, graph),
+    }
+}
+
+/// The verdict on a plan of the kind with this graph.
+fn judge_graph(
+    alloc: Global,
+    asked: &ExplainWords,
+    grounded: &Grounded,
+    lined: &Lined,
+    graph: &Graph,
+) -> Result<Shown, AllocError>
+    requires goal { HasGoalIn (kind_of asked.now.check.kind) grounded.now.task grounded.now.ctl }
+    requires goal_names { IfSome grounded.now.ctl
+        (λ goal. NamesBelow (fluent_count grounded.now.task) (ctl_value goal)) }
+    requires in_task { IsPlanOf (fluent_count grounded.now.task) (action_count grounded.now.task)
+        lined.now.read.plan }
+    requires of_kind { is_of_kind (kind_of asked.now.check.kind) (plain_of lined.now.read.plan)
+        ≡ true }
+    requires graph { IsGraphIn grounded.now.task lined.now.read.plan graph.now }
+    requires some { graph_size graph.now ≢ 0 }
+    requires inside { IsWithinFluents (fluent_count grounded.now.task) graph.now }
+    ensures { IfOk result (λ shown. JudgesIn (explain_words_of asked.now) grounded.now.task
+        (lined_of lined.now) grounded.now.ctl (shown_of shown)) }
+{
+    let verdict = verdict_on(alloc, asked.check.kind, grounded, graph)?;
+    show_verdict(alloc, &verdict)
 }
 
 /// The verdict on a plan of the kind with this graph, explained.
@@ -173,5 +227,5 @@ fn explain_graph(
         plan: &lined.read.plan,
         lines: &lined.lines,
     };
-    shown_as(alloc, asked.json, &source, &verdict, &finding)
+    shown_as(alloc, is_document(asked.shown), &source, &verdict, &finding)
 }

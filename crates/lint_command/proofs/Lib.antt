@@ -3,4 +3,3 @@ mod AfterReading
 mod Hinted
 mod Kept
 mod Reports
-mod Said

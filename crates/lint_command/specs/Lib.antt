@@ -1,7 +1,6 @@
 pub mod Limited
 pub mod Mistakes
 pub mod ReadValues
-pub mod Runs
 pub mod TaskTold
 pub mod Values
 pub mod Words

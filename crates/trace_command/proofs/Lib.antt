@@ -1,4 +1,2 @@
-mod Answers
 mod AfterFiles
-mod Said
 mod ToldEnds

@@ -1,4 +1,2 @@
-pub mod Runs
 pub mod Told
 pub mod Values
-pub mod Words

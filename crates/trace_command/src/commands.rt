@@ -1,4 +1,4 @@
-//! From the words to the answer.
+//! From what is asked to the answer.
 
 ghost use Rattle.command_base.specs.Answers.{no_memory, refused};
 ghost use Rattle.command_base.specs.Fetching.{HoldsSomePlan, RefusesPlan, Stops};
@@ -6,11 +6,8 @@ ghost use Rattle.command_base.specs.Grounding.{GroundThen};
 ghost use Rattle.command_base.specs.InitialStates.{empty_init};
 ghost use Rattle.command_base.specs.Shelves.{KeepsShelf};
 ghost use Rattle.command_base.specs.Values.{answer_of, replay_words_of};
-ghost use Rattle.command_base.specs.Words.{ReplayWords as AskedReplay};
 ghost use Rattle.explain_command.specs.Values.{lined_of};
-ghost use Rattle.trace_command.specs.Runs.{HasToldCause};
 ghost use Rattle.trace_command.specs.Told.{IsTold, IsToldAnswer, RecordThen, TaskThen};
-ghost use Rattle.trace_command.specs.Words.{AskNothing, SaysRun};
 ghost use Rattle.pddl_ast.specs.Fits.{FitsDomain, FitsProblem};
 ghost use Rattle.pddl_ast.specs.Values.{domain_value, problem_value};
 ghost use Rattle.pddl_system.specs.Names.{NamesAreWords};
@@ -22,11 +19,10 @@ ghost use Rattle.pddl_system.specs.Systems.{
 ghost use Rattle.plan_io.specs.Fetches.{FailedLast, Fetches};
 ghost use Rattle.plan_rules.specs.Plans.{IsPlanOf};
 ghost use Rattle.replay_command.specs.RunFetches.{FetchRecord, FetchesToReplay};
-ghost use Rattle.std.specs.Prelude.{◌≡◌, ◌⊎◌, [], ◌∷◌, None, map, string_bytes};
+ghost use Rattle.std.specs.Prelude.{◌≡◌, ◌⊎◌, [], ◌∷◌, None};
 ghost use Rattle.task_core.specs.Tasks.{action_count, action_names, fluent_count, fluent_names};
 
 use crate::shown::show_record;
-use crate::words::read_words;
 use command_base::{Refusal, ReplayWords, Shown, grounded, read_both};
 use explain_command::{Lined, read_lined};
 use pddl_ast::Problem;
@@ -44,29 +40,14 @@ pub(crate) struct RunRequest<'a> {
     pub(crate) lined: &'a Lined,
 }
 
-/// Does what the words say, and gives the answer.
-pub(crate) fn answer<S: Shelf>(
-    alloc: Global,
-    words: &[String],
-    shelf: &mut S,
-) -> Result<Shown, Refusal>
-    ensures cause { let failed = FailedLast S.fetched S.faults shelf.old shelf.new in
-        HasToldCause (S.held shelf.old) failed (map string_bytes words.now) (answer_of result) }
-    ensures fetches { let failed = FailedLast S.fetched S.faults shelf.old shelf.new in
-        (asked : AskedReplay) → SaysRun (map string_bytes words.now) asked
-        → FetchesToReplay (S.held shelf.old) failed S.fetched asked (answer_of result)
-        shelf.old shelf.new }
-    ensures no_fetch { AskNothing (map string_bytes words.now) → shelf.new ≡ shelf.old }
-    ensures shelf { KeepsShelf S.held S.faults (answer_of result) shelf.old shelf.new }
-{
-    match read_words(words) {
-        Some(asked) => tell_files(alloc, shelf, &asked),
-        None => Err(Refusal::NoCommand),
-    }
-}
-
 /// The run of the plan under the record, told, for the domain and the problem, all in files.
-fn tell_files<S: Shelf>(alloc: Global, shelf: &mut S, asked: &ReplayWords) -> Result<Shown, Refusal>
+///
+/// The answer is yes where `replay` shows the run, and no where it refuses it.
+pub fn trace_files<S: Shelf>(
+    alloc: Global,
+    shelf: &mut S,
+    asked: &ReplayWords,
+) -> Result<Shown, Refusal>
     ensures answer { let failed = FailedLast S.fetched S.faults shelf.old shelf.new in
         (answer_of result ≡ refused no_memory)
         ⊎ IsToldAnswer (S.held shelf.old) failed (replay_words_of asked.now) (answer_of result) }
@@ -81,11 +62,11 @@ fn tell_files<S: Shelf>(alloc: Global, shelf: &mut S, asked: &ReplayWords) -> Re
         domain: &domain,
         problem: &problem,
     };
-    tell_problem(alloc, shelf, &sought)
+    trace_problem(alloc, shelf, &sought)
 }
 
 /// The run, told, for a domain and a problem.
-fn tell_problem<S: Shelf>(
+fn trace_problem<S: Shelf>(
     alloc: Global,
     shelf: &mut S,
     sought: &ReplayProblem<'_>,
@@ -125,11 +106,11 @@ fn tell_problem<S: Shelf>(
         problem,
         task: &task,
     };
-    tell_task(alloc, shelf, &request)
+    trace_task(alloc, shelf, &request)
 }
 
 /// The run, told, for a task.
-fn tell_task<S: Shelf>(
+fn trace_task<S: Shelf>(
     alloc: Global,
     shelf: &mut S,
     request: &ReplayRequest<'_>,
@@ -157,11 +138,11 @@ fn tell_task<S: Shelf>(
         task: request.task,
         lined: &lined,
     };
-    tell_plan(alloc, shelf, &run)
+    trace_plan(alloc, shelf, &run)
 }
 
 /// The run of a plan of the task, told, under the record in its file.
-fn tell_plan<S: Shelf>(
+fn trace_plan<S: Shelf>(
     alloc: Global,
     shelf: &mut S,
     request: &RunRequest<'_>,

@@ -1,4 +1,2 @@
-mod Answers
-mod Asked
 mod TaskGoals
 mod Whys

@@ -1,4 +1,4 @@
-//! From the words to the answer.
+//! From what is asked to the answer.
 
 ghost use Rattle.command_base.specs.Answers.{full, no_memory, refused};
 ghost use Rattle.command_base.specs.Fetching.{FetchesBoth};
@@ -6,21 +6,18 @@ ghost use Rattle.command_base.specs.Grounded.{IsGroundedOf};
 ghost use Rattle.command_base.specs.Grounding.{has_goal_for};
 ghost use Rattle.command_base.specs.Shelves.{KeepsShelf};
 ghost use Rattle.command_base.specs.Values.{answer_of, kind_of, plan_words_of};
-ghost use Rattle.command_base.specs.Words.{IsNodeLimit, PlanWords as AskedPlan, of_class};
+ghost use Rattle.command_base.specs.Words.{IsNodeLimit, of_class};
 ghost use Rattle.pddl_ast.specs.Fits.{FitsDomain, FitsProblem};
 ghost use Rattle.pddl_ast.specs.Values.{domain_value, problem_value};
 ghost use Rattle.pddl_system.specs.Names.{NamesAreWords};
 ghost use Rattle.plan_command.specs.PlanCommand.{MayBeTooFew};
 ghost use Rattle.plan_io.specs.Fetches.{FailedLast, FetchesNothing};
-ghost use Rattle.std.specs.Prelude.{◌≡◌, ◌⊎◌, map, string_bytes, true};
-ghost use Rattle.why_command.specs.Runs.{HasWhyCause};
+ghost use Rattle.std.specs.Prelude.{◌≡◌, ◌⊎◌, true};
 ghost use Rattle.why_command.specs.Whys.{IsWhy, IsWhyAnswer, WhyThen};
-ghost use Rattle.why_command.specs.Words.{AskNothing, SaysWhy};
 
 use crate::never::never_reached;
 use crate::planned::{Read, said_for};
 use crate::told_runs::with_run;
-use crate::words::read_words;
 use command_base::{PlanKind, PlanWords, Refusal, Shown, Text, check_goal, ground_both, read_both};
 use ground_task::Grounded;
 use pddl_ast::{Domain, Problem};
@@ -28,28 +25,15 @@ use plan_io::Shelf;
 use relaxed_reach::goals_that_cannot_hold_are_never_reached;
 use std::alloc::Global;
 
-/// Does what the words say, and gives the answer.
-pub(crate) fn answer<S: Shelf>(
-    alloc: Global,
-    words: &[String],
-    shelf: &mut S,
-) -> Result<Shown, Refusal>
-    ensures cause { let failed = FailedLast S.fetched S.faults shelf.old shelf.new in
-        HasWhyCause (S.held shelf.old) failed (map string_bytes words.now) (answer_of result) }
-    ensures fetches { (asked : AskedPlan) → SaysWhy (map string_bytes words.now) asked
-        → FetchesBoth (S.held shelf.old) S.fetched asked.domain asked.problem
-        FetchesNothing shelf.old shelf.new }
-    ensures no_fetch { AskNothing (map string_bytes words.now) → shelf.new ≡ shelf.old }
-    ensures shelf { KeepsShelf S.held S.faults (answer_of result) shelf.old shelf.new }
-{
-    match read_words(words) {
-        Some(asked) => why_files(alloc, shelf, &asked),
-        None => Err(Refusal::NoCommand),
-    }
-}
-
 /// Why there is no plan for the domain and the problem in two files, or that there is one.
-fn why_files<S: Shelf>(alloc: Global, shelf: &mut S, asked: &PlanWords) -> Result<Shown, Refusal>
+///
+/// Where no reachable state is a goal state, the lines say which parts of the goal never hold, and what the
+/// outcomes lack that would make their literals true. Else the line says whether there is a plan.
+pub fn why_files<S: Shelf>(
+    alloc: Global,
+    shelf: &mut S,
+    asked: &PlanWords,
+) -> Result<Shown, Refusal>
     requires room { IsNodeLimit asked.now.options.nodes }
     ensures answer { let failed = FailedLast S.fetched S.faults shelf.old shelf.new in
         (answer_of result ≡ refused no_memory)

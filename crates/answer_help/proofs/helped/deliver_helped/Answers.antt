@@ -6,19 +6,12 @@ use Rattle.command_base.specs.Values.{answer_of, refusal_of}
 use Rattle.command_base.specs.declared.answers.Refusal.{Refusal as CodeRefusal}
 use Rattle.answer_help.specs.Helped.{IsHelpFor}
 use Rattle.answer_help.specs.Keeping.{held_by}
-use Rattle.answer_help.specs.Values.{wrong_of}
-use Rattle.answer_help.specs.WrongWords.{wrong_text}
 use Rattle.answer_help.proofs.Deliveries.{fault_same, helped_given, helped_plain, no_help}
 use Rattle.answer_help.proofs.helped.deliver_helped.Goals as goal
 
-pub returns-in-NoCommand : goal.returns-in-NoCommand
-returns-in-NoCommand g c = λ told.
-    let said : answer_of c.args.answer.now ≡ refused no_command = ap answer_of c.in-Err.is ∙ ap (λ (r : CodeRefusal). refused (refusal_of r)) c.in-NoCommand.is in
-    (refused no_command, wrong_text (wrong_of c.args.source.now.words), inl (sym said), refl, c.refuse_words.ensures _)
-
 pub returns-in-TextFault : goal.returns-in-TextFault
 returns-in-TextFault g c = λ told.
-    let given = c.refuse_fault.ensures told (seen (g.O.Sink.written c.args.out.now) (g.O.Sink.faults c.args.out.now)) (wrong_of c.args.source.now.words) in (
+    let given = c.refuse_fault.ensures told (seen (g.O.Sink.written c.args.out.now) (g.O.Sink.faults c.args.out.now)) in (
       given.0,
       given.1,
       fault_same (answer_of c.args.answer.now) given.0 (refusal_of c.in-Err.refusal) (string_bytes {Z = Global} c.in-TextFault.file) c.in-TextFault.fault (ap answer_of c.in-Err.is)
@@ -29,10 +22,9 @@ returns-in-TextFault g c = λ told.
 
 pub returns-in_default : goal.returns-in_default
 returns-in_default g c = λ told.
-    let held = held_by g.S.Shelf.held c.args.source.now.shelf.now in
-    let words = wrong_of c.args.source.now.words in
+    let held = held_by g.S.Shelf.held c.args.shelf.now in
     let answer = answer_of c.args.answer.now in
     let given = c.deliver-in_default.ensures in
-    let none : IsHelpFor held words answer [] =
-    subst (λ (a : Answer). IsHelpFor held words a []) (sym (ap answer_of c.in-Err.is)) (no_help held words c.in-Err.refusal c.in_default.not-NoCommand c.in_default.not-TextFault) in
-    (given.0, [], given.1, helped_given held words answer given.0 none given.1, helped_plain given.0 _ _ _ _ _ given.2)
+    let none : IsHelpFor held answer [] =
+    subst (λ (a : Answer). IsHelpFor held a []) (sym (ap answer_of c.in-Err.is)) (no_help held c.in-Err.refusal c.in_default.not-TextFault) in
+    (given.0, [], given.1, helped_given held answer given.0 none given.1, helped_plain given.0 _ _ _ _ _ given.2)

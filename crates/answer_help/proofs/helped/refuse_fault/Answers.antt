@@ -8,13 +8,13 @@ use Rattle.answer_help.proofs.Deliveries.{refused_part, refused_whole}
 use Rattle.answer_help.proofs.helped.refuse_fault.Goals as goal
 
 pub returns-in_default : goal.returns-in_default
-returns-in_default g c = λ told out words. (refused no_memory, [], inr refl, refl, c.refuse_memory.ensures out)
+returns-in_default g c = λ told out. (refused no_memory, [], inr refl, refl, c.refuse_memory.ensures out)
 
 pub returns-in_default-help_below : goal.returns-in_default-help_below
-returns-in_default-help_below g c = λ told out words. (refused no_memory, [], inr refl, refl, c.refuse_memory-in_default-help_below.ensures out)
+returns-in_default-help_below g c = λ told out. (refused no_memory, [], inr refl, refl, c.refuse_memory-in_default-help_below.ensures out)
 
 pub returns-then-put_two : goal.returns-then-put_two
-returns-then-put_two g c = λ told out words.
+returns-then-put_two g c = λ told out.
     let held = held_by g.S.Shelf.held c.args.shelf.now in
     let refusal = refusal_of c.args.refusal.now in
     let help = c.in-Ok-help_below.help.items in
@@ -24,12 +24,12 @@ returns-then-put_two g c = λ told out words.
       refused refusal,
       help,
       inl refl,
-      subst (λ (r : Refusal). IsRefusalHelp held words r help) (sym c.requires) found,
+      subst (λ (r : Refusal). IsRefusalHelp held r help) (sym c.requires) found,
       refused_whole help (refused refusal) (c.as_bytes.result.now ++ c.deref.result.now) out _ _ c.status.result c.put_two.result text refl c.status.ensures c.if-put_two.true c.put_two.ensures,
     )
 
 pub returns : goal.returns
-returns g c = λ told out words.
+returns g c = λ told out.
     let held = held_by g.S.Shelf.held c.args.shelf.now in
     let refusal = refusal_of c.args.refusal.now in
     let help = c.in-Ok-help_below.help.items in
@@ -39,6 +39,6 @@ returns g c = λ told out words.
       refused refusal,
       help,
       inl refl,
-      subst (λ (r : Refusal). IsRefusalHelp held words r help) (sym c.requires) found,
+      subst (λ (r : Refusal). IsRefusalHelp held r help) (sym c.requires) found,
       refused_part help (refused refusal) (c.as_bytes.result.now ++ c.deref.result.now) out _ _ c.put_two.result text refl c.if-put_two.false c.put_two.ensures,
     )

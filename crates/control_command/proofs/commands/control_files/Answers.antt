@@ -4,7 +4,7 @@ use Rattle.command_base.specs.Answers.{refused}
 use Rattle.command_base.specs.Values.{refusal_of}
 use Rattle.command_base.proofs.PddlDecides.{refused_both}
 use Rattle.control_command.specs.Controllers.{IsControlled}
-use Rattle.control_words.specs.Values.{control_words_of}
+use Rattle.control_command.specs.Values.{control_words_of}
 use Rattle.control_command.proofs.Answers.{after_control, before_control}
 use Rattle.control_command.proofs.commands.control_files.Goals as goal
 

@@ -2,7 +2,7 @@ use Rattle.std.proofs.Common.{inl}
 use Rattle.std.proofs.lemmas.Result.{err_from_is_err_and}
 use Rattle.pddl_ast.specs.Values.{domain_value, problem_value}
 use Rattle.command_base.specs.Values.{refusal_of}
-use Rattle.control_words.specs.Values.{control_words_of}
+use Rattle.control_command.specs.Values.{control_words_of}
 use Rattle.control_command.proofs.Answers.{limited}
 use Rattle.control_command.proofs.commands.control_grounded.Goals as goal
 

@@ -1,6 +1,6 @@
 use Rattle.pddl_ast.specs.Values.{domain_value, problem_value}
 use Rattle.command_base.specs.Values.{answer_of}
-use Rattle.control_words.specs.Values.{control_words_of}
+use Rattle.control_command.specs.Values.{control_words_of}
 use Rattle.control_command.proofs.Answers.{controlled_then}
 use Rattle.control_command.proofs.commands.control_problem.Goals as goal
 

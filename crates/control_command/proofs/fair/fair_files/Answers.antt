@@ -3,7 +3,7 @@ use Rattle.plan_io.specs.Fetches.{FailedLast}
 use Rattle.command_base.specs.Values.{refusal_of}
 use Rattle.command_base.proofs.PddlDecides.{refused_both}
 use Rattle.control_command.specs.FairControllers.{IsTried}
-use Rattle.control_words.specs.Values.{fair_words_of}
+use Rattle.control_command.specs.Values.{fair_words_of}
 use Rattle.control_command.proofs.FairAnswers.{after_tried}
 use Rattle.control_command.proofs.fair.fair_files.Goals as goal
 

@@ -1,6 +1,6 @@
 use Rattle.std.proofs.Common.{inr, rules}
 use Rattle.pddl_ast.specs.Values.{domain_value, problem_value}
-use Rattle.control_words.specs.Values.{fair_words_of}
+use Rattle.control_command.specs.Values.{fair_words_of}
 use Rattle.control_command.proofs.FairAnswers.{many_fairly, ready_fairly}
 use Rattle.control_command.proofs.fair.fair_parts.Goals as goal
 

@@ -1,6 +1,6 @@
 use Rattle.pddl_ast.specs.Values.{domain_value, problem_value}
 use Rattle.command_base.specs.Values.{answer_of}
-use Rattle.control_words.specs.Values.{fair_words_of}
+use Rattle.control_command.specs.Values.{fair_words_of}
 use Rattle.control_command.proofs.FairAnswers.{tried_then}
 use Rattle.control_command.proofs.fair.fair_problem.Goals as goal
 

@@ -1,6 +1,6 @@
 use Rattle.std.proofs.Common.{inr, refl}
 use Rattle.pddl_ast.specs.Values.{domain_value, problem_value}
-use Rattle.control_words.specs.Values.{fair_words_of}
+use Rattle.control_command.specs.Values.{fair_words_of}
 use Rattle.control_command.proofs.FairAnswers.{full_fairly}
 use Rattle.control_command.proofs.fair_controllers.after_full.Goals as goal
 

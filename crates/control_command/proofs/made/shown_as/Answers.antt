@@ -1,6 +1,6 @@
 use Rattle.std.proofs.Common.{refl}
 use Rattle.plan_rules.specs.Rules.{plain_of}
-use Rattle.control_words.specs.declared.shapes.Form.TheVariants.{Code, Json}
+use Rattle.control_command.specs.declared.words.Form.TheVariants.{Code, Json}
 use Rattle.control_command.proofs.Yes.{form_affirmed, text_affirmed}
 use Rattle.control_command.proofs.made.shown_as.Goals as goal
 

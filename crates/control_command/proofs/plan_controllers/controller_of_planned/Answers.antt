@@ -1,7 +1,7 @@
 use Rattle.std.proofs.Common.{subst}
 use Rattle.pddl_ast.specs.Values.{domain_value, problem_value}
 use Rattle.command_base.specs.Values.{bytes_of}
-use Rattle.control_words.specs.Values.{control_words_of}
+use Rattle.control_command.specs.Values.{control_words_of}
 use Rattle.plan_command.specs.Plannings.{IsPlannedFor, shown_planned}
 use Rattle.plan_command.specs.declared.planned.Planned.{Planned}
 use Rattle.control_command.specs.Sought.{IsAnswerFound}

@@ -1,5 +1,5 @@
 use Rattle.pddl_ast.specs.Values.{domain_value, problem_value}
-use Rattle.control_words.specs.Values.{control_words_of}
+use Rattle.control_command.specs.Values.{control_words_of}
 use Rattle.control_command.proofs.Answers.{planned_then, refusal_then}
 use Rattle.control_command.proofs.plan_controllers.without_controller.Goals as goal
 

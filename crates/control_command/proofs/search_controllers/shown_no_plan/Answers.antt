@@ -1,6 +1,6 @@
 use Rattle.pddl_ast.specs.Values.{domain_value, problem_value}
 use Rattle.plan_certs.specs.Named.{plain_certificate}
-use Rattle.control_words.specs.Values.{control_words_of}
+use Rattle.control_command.specs.Values.{control_words_of}
 use Rattle.control_command.proofs.NoPlans.{is_refuted}
 use Rattle.control_command.proofs.search_controllers.shown_no_plan.Goals as goal
 

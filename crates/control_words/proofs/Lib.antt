@@ -1,4 +1,0 @@
-pub mod OneAsked
-mod OptionLists
-mod RequestLists
-mod ShapeLists

@@ -1,0 +1,5 @@
+mod Answering
+mod FetchedFiles
+mod NodeNumbers
+mod Pushing
+mod Scanning

@@ -1,0 +1,10 @@
+pub mod Allowed
+pub mod Asked
+pub mod Help
+pub mod Mistakes
+pub mod Nearest
+pub mod Requests
+pub mod Runs
+pub mod Scans
+pub mod Table
+pub mod Values
