@@ -6,7 +6,7 @@ use Rattle.task_core.specs.Tasks.{fluent_count}
 use Rattle.trace.specs.RecordedRuns.{IsRecordedRun}
 use Rattle.trace.specs.Turns.{HasHalted}
 use Rattle.trace.specs.Values.{run_value}
-use Rattle.trace.proofs.runs.trace.Goals as goal
+use Rattle.trace.proofs.runs.recorded_run.Goals as goal
 
 pub stopped-requires : goal.stopped-requires
 stopped-requires c = c.in_ok-halted.ensures.in_task
