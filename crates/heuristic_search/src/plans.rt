@@ -7,7 +7,7 @@ use cyclic_search::{Planner, Rounds, solve_weak};
 use plan_rules::Rule;
 use rule_shortening::shorter_rules;
 use search_space::{Bits, NONE, Part, States, Stop, at, small};
-use search_world::{Policy, World};
+use search_world::{Allowance, Policy, World};
 use std::alloc::{AllocError, Global};
 use strong_search::AndOrGraph;
 use task_core::{ActionId, Class, Cond, Lit, State, Task};
