@@ -7,15 +7,15 @@ use Rattle.explain_command.proofs.verdicts.shown_graph.Goals as goal
 
 pub returns-in-Verdict : goal.returns-in-Verdict
 returns-in-Verdict c =
-    subst (λ (as : ShownAs). IfOk c.judge_graph.result (λ shown. ShowsIn as (explain_words_of c.args.asked.now) c.args.grounded.now.task (lined_of c.args.lined.now) c.args.grounded.now.ctl (shown_of shown)))
+    subst (λ (form : ShownAs). IfOk c.judge_graph.result (λ shown. ShowsIn form (explain_words_of c.args.asked.now) c.args.grounded.now.task (lined_of c.args.lined.now) c.args.grounded.now.ctl (shown_of shown)))
     (sym c.in-Verdict.is) c.judge_graph.ensures
 
 pub returns-in-Run : goal.returns-in-Run
 returns-in-Run c =
-    subst (λ (as : ShownAs). IfOk c.explain_graph.result (λ shown. ShowsIn as (explain_words_of c.args.asked.now) c.args.grounded.now.task (lined_of c.args.lined.now) c.args.grounded.now.ctl (shown_of shown)))
+    subst (λ (form : ShownAs). IfOk c.explain_graph.result (λ shown. ShowsIn form (explain_words_of c.args.asked.now) c.args.grounded.now.task (lined_of c.args.lined.now) c.args.grounded.now.ctl (shown_of shown)))
     (sym c.in-Run.is) c.explain_graph.ensures
 
 pub returns-in-Document : goal.returns-in-Document
 returns-in-Document c =
-    subst (λ (as : ShownAs). IfOk c.explain_graph-in-Document.result (λ shown. ShowsIn as (explain_words_of c.args.asked.now) c.args.grounded.now.task (lined_of c.args.lined.now) c.args.grounded.now.ctl (shown_of shown)))
+    subst (λ (form : ShownAs). IfOk c.explain_graph-in-Document.result (λ shown. ShowsIn form (explain_words_of c.args.asked.now) c.args.grounded.now.task (lined_of c.args.lined.now) c.args.grounded.now.ctl (shown_of shown)))
     (sym c.in-Document.is) c.explain_graph-in-Document.ensures
