@@ -29,7 +29,9 @@ ghost use Rattle.exec_graph.specs.Effects.{
 
 use plan_rules::Plan;
 use std::alloc::{AllocError, Global};
-use task_core::{ActionId, FluentId, Outcome, State, Task, always_holds, outcome_count, step};
+use task_core::{
+    ActionId, FluentId, Outcome, State, Task, WORDS, always_holds, outcome_count, step,
+};
 
 /// What an outcome does: it makes the fluents true that are so in `made`, and leaves those true that
 /// are so in `kept`. Each other becomes false.
@@ -60,18 +62,16 @@ impl Effects {
 
 impl Effect {
     /// The words of the state after this.
-    pub(crate) fn words_from(&self, state: &State) -> [u64; 4]
+    pub(crate) fn words_from(&self, state: &State) -> [u64; WORDS]
         ensures { (f : ℕ) → truth_in result f ≡ value_after self.now state.now f }
     {
-        let made = self.made.bits();
         let kept = self.kept.bits();
         let words = state.bits();
-        [
-            made[0] | kept[0] & words[0],
-            made[1] | kept[1] & words[1],
-            made[2] | kept[2] & words[2],
-            made[3] | kept[3] & words[3],
-        ]
+        let mut after = *self.made.bits();
+        for place in 0..WORDS {
+            after[place] = after[place] | kept[place] & words[place];
+        }
+        after
     }
 }
 

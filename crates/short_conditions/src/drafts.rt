@@ -35,7 +35,7 @@ ghost use Rattle.short_conditions.specs.Drafts.{Adds, HasPart, IsDraft, Notes, n
 use crate::comparing::{are_same, fingerprint};
 use indexmap::IndexMap;
 use std::alloc::{AllocError, Global};
-use task_core::{Cond, FluentId, Lit, State};
+use task_core::{Cond, FluentId, Lit, MAX_FLUENTS, State};
 
 /// A conjunction, or else a disjunction, that is being made.
 #[derive(Drop)]
@@ -44,7 +44,7 @@ pub(crate) struct Draft {
     // A part decides it: one that never holds a conjunction, one that always holds a disjunction.
     pub(crate) is_settled: bool,
     pub(crate) parts: Vec<Cond>,
-    // The fluents below 256 that stand among the parts, as they are and negated.
+    // The fluents below `MAX_FLUENTS` that stand among the parts, as they are and negated.
     pub(crate) plain: State,
     pub(crate) negated: State,
     // Where a part with this fingerprint was put. It is a guess, and `are_same` decides.
@@ -142,7 +142,7 @@ impl Draft {
     fn has(&self, fluent: FluentId, positive: bool) -> bool
         ensures { IsTrue result → noted self.now positive fluent.0 ≡ true }
     {
-        if fluent.0 >= 256 {
+        if fluent.0 >= MAX_FLUENTS {
             return false;
         }
         if positive {
@@ -156,7 +156,7 @@ impl Draft {
     fn note(&mut self, fluent: FluentId, positive: bool)
         ensures { Notes fluent.0 positive self.old self.new }
     {
-        if fluent.0 >= 256 {
+        if fluent.0 >= MAX_FLUENTS {
             return;
         }
         if positive {
