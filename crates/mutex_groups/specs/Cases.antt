@@ -18,7 +18,7 @@ use Rattle.mutex_groups.specs.Groups.{Group, HasOne, IsTheOne}
 abbrev pub AreIn : LiteralSet → (ℕ → Bool) → Type 0
 AreIn set value = (f : ℕ) → set f (value f) ≡ true
 
--- only the first 256 fluents may be true
+-- only the first `most_fluents` fluents may be true
 abbrev pub IsFew : (ℕ → Bool) → Type 0
 IsFew value = (f : ℕ) → most_fluents ≤ f → value f ≡ false
 

@@ -104,7 +104,7 @@ has_past a b f h false = ap not (truth_past a.certain f h ∙ sym (truth_past b.
 no_more : (a b : ℕ) → a ≡ b → b ≤ a
 no_more a b e = omega (arith, e)
 
--- sets that lack as many literals of the first 256 fluents, the one a part of the other, are the same
+-- sets that lack as many literals of the first `most_fluents` fluents, the one a part of the other, are the same
 pub same_where_no_fewer : (n : ℕ) → n ≡ most_fluents → (a b : Literals) → IsPartOf (has a) (has b) → lacking n (has b) ≡ lacking n (has a) → IsPartOf (has b) (has a)
 same_where_no_fewer n whole a b part e f value h =
     ⊎_elim (λ (below : f < most_fluents). same_below n (has a) (has b) part (no_more (lacking n (has b)) (lacking n (has a)) e) f (subst (λ k. f < k) (sym whole) below) value ∙ h)

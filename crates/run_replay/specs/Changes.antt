@@ -15,6 +15,6 @@ differences_below zero before after = 0
 differences_below (suc k) before after =
     differences_below k before after + (if differs k before after then 1 else 0)
 
--- how many of the 256 fluents have different values in two states
+-- how many fluents have different values in two states
 abbrev pub changes_between : State → State → ℕ
 changes_between = differences_below most_fluents
