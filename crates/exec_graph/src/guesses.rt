@@ -21,7 +21,6 @@ pub(crate) struct Guesses {
 }
 
 impl Guesses {
-    /// No guesses.
     pub(crate) fn new(alloc: Global) -> Guesses {
         Guesses {
             numbers: Vec::new(alloc),

@@ -47,7 +47,6 @@ pub fn plan_reached(
     }
 }
 
-/// The same for a goal.
 fn find(
     alloc: Global,
     task: &Task,
