@@ -157,7 +157,6 @@ impl Block {
         }
     }
 
-    /// The number of a test of this fluent, where there is one.
     fn test_of(&self, fluent: FluentId) -> Option<usize>
         ensures within { IfSome result (λ number. number < length self.now.tests.items) }
         ensures fluent { IfSome result (λ number.

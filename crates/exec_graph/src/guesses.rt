@@ -22,7 +22,6 @@ pub(crate) struct Guesses {
 }
 
 impl Guesses {
-    /// No guesses.
     pub(crate) fn new(alloc: Global) -> Guesses {
         Guesses {
             numbers: Vec::new(alloc),

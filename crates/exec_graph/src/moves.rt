@@ -605,7 +605,6 @@ pub(crate) fn number_of(places: &mut IndexSet<Place>, place: Place) -> Result<us
     Ok(number)
 }
 
-/// Whether an action can be executed in a state.
 fn is_executable(task: &Task, state: &State, action: ActionId) -> bool
     requires in_range { action.0 < action_count task.now }
     requires within { IsWithin (fluent_count task.now) state.now }

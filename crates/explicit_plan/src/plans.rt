@@ -48,7 +48,6 @@ pub fn plan_reached(
     }
 }
 
-/// The same for a goal.
 fn find(
     alloc: Global,
     task: &Task,

@@ -110,7 +110,6 @@ fn length_of(group: &[usize], places: &[usize]) -> usize {
     last.saturating_sub(first)
 }
 
-/// Adds to the number at a place, if there is one.
 fn add_to(numbers: &mut [usize], place: usize, more: usize) {
     if place < numbers.len() {
         numbers[place] = numbers[place].saturating_add(more);

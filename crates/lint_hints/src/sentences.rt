@@ -201,7 +201,6 @@ fn members_in(alloc: Global, count: u32, group: &State) -> Result<Vec<u32>, Allo
     Ok(members)
 }
 
-/// Appends a number, if it is wanted.
 fn push_if(members: &mut Vec<u32>, is_wanted: bool, number: u32) -> Result<(), AllocError>
     ensures { OnOk result (members.new.items ≡ members.old.items ++ alone_if is_wanted number) }
 {

@@ -13,7 +13,6 @@ pub(crate) struct Effort {
 }
 
 impl Effort {
-    /// All of it.
     pub(crate) fn for_task(task: &Task) -> Effort {
         Effort {
             left: MOST_WORK,

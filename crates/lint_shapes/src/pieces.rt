@@ -25,7 +25,6 @@ pub(crate) struct Piece {
     pub(crate) begun: State,
 }
 
-/// The pieces of some signatures.
 pub(crate) fn pieces_of(
     world: &World<'_>,
     signatures: &[Signature],

@@ -43,7 +43,6 @@ fn is_other(lit: &Lit, members: &State, target: FluentId) -> bool
     lit.positive && members.get(lit.fluent) && lit.fluent.0 != target.0
 }
 
-/// Whether one of the literals does.
 pub(crate) fn adds_other(lits: &[Lit], members: &State, target: FluentId) -> bool
     requires { list_all (lit_within most_fluents) lits.now ≡ true }
     ensures { result ≡ add_another (truth members.now) target.0 lits.now }
@@ -145,7 +144,6 @@ fn is_sure(changes: &[Change], literals: &Literals, fluent: FluentId, positive: 
     false
 }
 
-/// Whether a change does.
 fn makes_surely(change: &Change, literals: &Literals, fluent: FluentId, positive: bool) -> bool
     requires { change_within most_fluents change.now ≡ true }
     ensures { result ≡ makes_surely (has literals.now) fluent.0 positive change.now }

@@ -49,7 +49,6 @@ fn known_at_start(task: &Task, members: &State) -> Known
     known
 }
 
-/// What is known of a state.
 fn known_of(state: &State, members: &State) -> Known
     requires { IsWithin most_fluents members.now }
     ensures { Says result (truth members.now) (truth state.now) }
@@ -66,7 +65,6 @@ fn known_of(state: &State, members: &State) -> Known
     }
 }
 
-/// The first member that is true in a state.
 fn true_member(state: &State, members: &State) -> Option<FluentId>
     ensures some { IfSome result (λ f. (truth members.now f.0 ≡ true)
         × (truth state.now f.0 ≡ true)) }
@@ -96,7 +94,6 @@ fn is_only(state: &State, members: &State, fluent: FluentId) -> bool
     true
 }
 
-/// What is known after an uncertain entry.
 #[tactic(auto, using(crate::proofs::StartLemmas::all_unknown))]
 fn known_after(known: Known, entry: &[Alternative], members: &State) -> Known
     requires within { IsWithin most_fluents members.now }
@@ -114,7 +111,6 @@ fn known_after(known: Known, entry: &[Alternative], members: &State) -> Known
     Known::Unknown
 }
 
-/// Whether each alternative of an entry leads to the same.
 fn all_lead_to(known: Known, after: Known, entry: &[Alternative], members: &State) -> bool
     requires within { IsWithin most_fluents members.now }
     requires entry { list_all (λ alternative. list_all (lit_within most_fluents) alternative.lits.items) entry.now

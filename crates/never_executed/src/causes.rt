@@ -84,7 +84,6 @@ fn part_in_each(looked: &Looked<'_>, schema: &Schema) -> Option<usize>
     None
 }
 
-/// How many parts a formula has.
 pub(crate) fn part_count(formula: &Formula) -> usize {
     match formula {
         Formula::All(parts) => parts.len(),
@@ -103,7 +102,6 @@ fn has_instance(task: &Task, name: &Text) -> bool
     false
 }
 
-/// Whether an action of a task is an instance of the action of this name.
 pub(crate) fn is_instance(action: &GroundAction, name: &Text) -> bool
     ensures { result ≡ is_of name.now action.now }
 {

@@ -122,7 +122,6 @@ fn add_literal(lit: Lit, literals: &Literals, lits: &mut Vec<Lit>) -> Result<(),
     Ok(())
 }
 
-/// Whether a literal is not in the set.
 fn is_never(lit: Lit, literals: &Literals) -> bool
     ensures { IsTrue result → has literals.now lit.fluent.0 lit.positive ≡ false }
 {

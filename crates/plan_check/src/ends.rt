@@ -81,7 +81,6 @@ pub(crate) fn has_marked_starts(graph: &Graph, marks: &[bool]) -> bool
     true
 }
 
-/// Whether each configuration has a mark.
 pub(crate) fn has_all_marked(marks: &[bool]) -> bool
     ensures { MatchBool result (HasAllMarked (length marks.now) marks.now)
         (HasUnmarked (length marks.now) marks.now) }

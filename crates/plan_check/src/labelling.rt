@@ -112,7 +112,6 @@ pub(crate) fn plain_label(
     Ok(marks)
 }
 
-/// Where one, or each, of the followers has a label.
 pub(crate) fn next_label<L: Ledger>(
     alloc: Global,
     need: Need,

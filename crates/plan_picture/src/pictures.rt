@@ -112,7 +112,6 @@ pub fn picture_of(alloc: Global, task: &Task, plan: &Plan, most: u32) -> Result<
     Ok(Picture { nodes })
 }
 
-/// The nodes at all places of a graph.
 fn nodes_at(
     alloc: Global,
     task: &Task,

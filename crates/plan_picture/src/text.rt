@@ -127,7 +127,6 @@ struct Shown<'a> {
 }
 
 impl<'a> Shown<'a> {
-    /// What is shown of a plan with these labels and marks.
     fn new(labels: &'a Labels, marks: &'a IndexSet<Mark>, plan: &Plan) -> Shown<'a>
         ensures labels { result.labels.now ≡ labels.now }
         ensures marks { result.marks.now ≡ marks.now }
@@ -141,7 +140,6 @@ impl<'a> Shown<'a> {
     }
 }
 
-/// The text of nodes and their steps.
 fn shown_text(alloc: Global, shown: &Shown<'_>, nodes: &[Node]) -> Result<Vec<u8>, TextErr>
     requires few { length nodes.now ≤ 262144 }
     requires fluents { length shown.now.labels.now.fluents.items ≤ most_fluents }
@@ -270,7 +268,6 @@ fn push_marks(out: &mut Vec<u8>, node: &Node) -> Result<(), AllocError>
     push_text(out, border_words(node.is_goal, is_stuck))
 }
 
-/// Appends the label of a node.
 fn push_node_label(out: &mut Vec<u8>, shown: &Shown<'_>, node: &Node) -> Result<(), AllocError>
     requires fluents { length shown.now.labels.now.fluents.items ≤ most_fluents }
     ensures { let fluents = shown.now.labels.now.fluents.items in OnOk result (out.new.items

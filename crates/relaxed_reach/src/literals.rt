@@ -31,7 +31,6 @@ impl Literals {
         }
     }
 
-    /// The set with one more literal.
     pub(crate) fn with(&self, lit: Lit) -> Literals
         requires { lit.fluent.0 < most_fluents }
         ensures { (f : ℕ) (value : Bool) → has result f value

@@ -80,7 +80,6 @@ pub(crate) fn table_rules<'a>(
     Ok(made)
 }
 
-/// The rules of an automaton.
 pub(crate) fn context_rules<'a>(
     alloc: Global,
     rules: &'a [AutoRule],

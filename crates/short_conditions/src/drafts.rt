@@ -75,7 +75,6 @@ impl Draft {
         }
     }
 
-    /// Adds a fluent (positive), or its negation.
     pub(crate) fn add_literal(
         &mut self,
         alloc: Global,
@@ -98,7 +97,6 @@ impl Draft {
         Ok(())
     }
 
-    /// Adds a condition.
     pub(crate) fn add(&mut self, alloc: Global, cond: Cond) -> Result<(), AllocError>
         ensures { OnOk result (Adds (λ _ value. holds cond value)
             (λ n. ids_below n cond) (depth cond) self.old self.new) }
@@ -205,7 +203,6 @@ impl Draft {
         Ok(())
     }
 
-    /// The condition that this is.
     pub(crate) fn into_condition(self) -> Cond
         ensures { (means : (ℕ → Bool) → Bool) (below : ℕ → Bool) (deepest : ℕ)
             → IsDraft self.is_conjunction means below deepest self
@@ -258,7 +255,6 @@ fn constant_of(cond: &Cond) -> Option<bool>
     }
 }
 
-/// The fluent of a condition that is one.
 fn fluent_of(cond: &Cond) -> Option<FluentId>
     ensures { IfSome result (λ fluent. IsLiteral fluent.0 true cond.now) }
 {
@@ -268,7 +264,6 @@ fn fluent_of(cond: &Cond) -> Option<FluentId>
     }
 }
 
-/// The literal that a condition is, if it is one.
 fn literal_of(cond: &Cond) -> Option<Lit>
     ensures { IfSome result (λ lit. IsLiteral lit.fluent.0 lit.positive cond.now) }
 {

@@ -22,7 +22,6 @@ fn is_match(rule: &Rule, state: &State) -> bool {
     true
 }
 
-/// The number of the first rule that matches a state.
 fn first_match(rules: &[Rule], state: &State) -> Option<usize>
     ensures { IfSome result (λ number. number < length rules.now) }
 {
@@ -118,7 +117,6 @@ fn each_counts(task: &Task, rules: &[Rule], states: &[State]) -> bool {
     true
 }
 
-/// The verdict on a table, state by state.
 pub(crate) fn listed_verdict(
     alloc: Global,
     task: &Task,

@@ -14,7 +14,6 @@ use reach_plan::{plan_strong, plan_weak};
 use std::alloc::{AllocError, Global};
 use task_core::{ActionId, Class, FluentId, Lit, MAX_FLUENTS, State, Task};
 
-/// The value of a fluent in a state.
 pub(crate) fn value_in(state: &State, fluent: FluentId) -> bool {
     fluent.0 < MAX_FLUENTS && state.get(fluent)
 }

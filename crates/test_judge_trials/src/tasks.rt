@@ -17,7 +17,6 @@ fn name(alloc: Global, number: u32) -> Result<Vec<RcStr>, AllocError> {
     Ok(vec![in alloc; RcStr::from_str(alloc, word)?]?)
 }
 
-/// A literal over so many fluents.
 pub(crate) fn literal(dice: &mut Dice, fluents: u32) -> Lit
     requires { 0 < fluents }
 {
