@@ -10,7 +10,6 @@ ghost use Rattle.task_core.specs.Limits.{most_fluents};
 ghost use Rattle.mutex_groups.specs.Groups.{HasOne};
 ghost use Rattle.mutex_groups.specs.Starts.{AreAfter, KeepsOne, LeadsTo, Says};
 
-
 use crate::outcomes::{added_member, adds_other, are_paired, names};
 use task_core::{Alternative, FluentId, Lit, State, Task};
 

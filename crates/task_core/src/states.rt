@@ -27,9 +27,7 @@ impl State {
     pub fn none() -> State
         ensures all_false { (f : ℕ) → truth result f ≡ false }
     {
-        State {
-            bits: [0; WORDS],
-        }
+        State { bits: [0; WORDS] }
     }
 
     /// The value of a fluent.

@@ -6,7 +6,8 @@ use crate::dice::Dice;
 use std::alloc::{AllocError, Global};
 use std::rc::RcStr;
 use task_core::{
-    Alternative, Change, Cond, FluentId, GroundAction, InitSpec, Lit, MAX_FLUENTS, Outcome, State, Task,
+    Alternative, Change, Cond, FluentId, GroundAction, InitSpec, Lit, MAX_FLUENTS, Outcome, State,
+    Task,
 };
 
 /// The names of fluents and actions.
