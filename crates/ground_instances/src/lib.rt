@@ -9,8 +9,11 @@
 mod atoms;
 mod bindings;
 mod changed;
+mod counted;
 mod groups;
 mod instances;
+mod limits;
+mod looked_at;
 mod objects;
 mod setting;
 mod settled;
@@ -19,6 +22,7 @@ mod values;
 
 pub use atoms::{Atom, object_of};
 pub use instances::{Instance, Kept, kept_instances};
+pub use limits::{Counting, Limits};
 pub use setting::Setting;
 pub use sizes::has_few_objects;
 pub use values::Value;

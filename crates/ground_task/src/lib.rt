@@ -23,4 +23,5 @@ mod variables;
 mod walk;
 mod words;
 
-pub use grounding::{GroundErr, Grounded, ground};
+pub use ground_instances::{Counting, Limits};
+pub use grounding::{GroundErr, Grounded, ground, ground_within};
