@@ -42,7 +42,6 @@ pub fn next_conjunction(ops: &mut Ops, random: &mut Random, count: u32) -> Resul
     Ok(all)
 }
 
-/// The next clause.
 fn random_clause(ops: &mut Ops, random: &mut Random) -> Result<Ref, DdErr>
     requires { ops.old.vars ≡ 60 }
     ensures number { IfOk result (λ r. IsNumber ops.new.nodes r.0) }

@@ -28,7 +28,6 @@ pub(crate) fn measure(rt: &HostRuntime, words: &[String]) -> Result<()> {
     Ok(())
 }
 
-/// The counts of a problem.
 fn solve(alloc: Global, problem: &str, count: u32) -> Result<String> {
     match problem {
         "tasks" => shown(alloc, tasks::put_in_sets(alloc, count)?),
@@ -41,7 +40,6 @@ fn shown<T: fmt::Display + Drop>(alloc: Global, counts: T) -> Result<String> {
     Ok(format!(in alloc; "{counts}")?)
 }
 
-/// The extent of a problem's diagram.
 fn extent_of(alloc: Global, problem: &str, count: u32) -> Result<Extent> {
     match problem {
         "nodes" => Ok(chains::make_nodes(alloc, count)?),

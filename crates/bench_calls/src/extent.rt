@@ -51,7 +51,6 @@ fn count_reached(alloc: Global, dd: &Dd, f: Ref) -> Result<u32, AllocError>
     Ok(count)
 }
 
-/// Marks a number.
 fn mark(is_reached: &mut Vec<bool>, f: Ref)
     ensures { length is_reached.new.items ≡ length is_reached.old.items }
 {

@@ -34,7 +34,6 @@ fn read_domain_file<S: Shelf>(
     Ok(read.ok())
 }
 
-/// Reads the problem of a domain in a file, and adds its line.
 fn add_problem<S: Shelf>(
     alloc: Global,
     shelf: &mut S,

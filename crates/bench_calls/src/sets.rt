@@ -113,7 +113,6 @@ fn pick(ops: &Ops, sets: &[Ref], place: u32) -> Ref
     }
 }
 
-/// Whether a number is in the table.
 fn is_number(ops: &Ops, f: Ref) -> bool
     ensures { IsTrue result ↔ IsNumber ops.now.nodes f.0 }
 {

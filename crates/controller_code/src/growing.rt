@@ -53,7 +53,6 @@ pub(crate) enum Question {
 }
 
 impl Growth {
-    /// Nothing has grown.
     pub(crate) fn new(alloc: Global) -> Growth
         ensures { AreKnown result.steps.list.items result.known.items }
     {
@@ -93,7 +92,6 @@ impl Growth {
         Ok(step)
     }
 
-    /// The step of this kind.
     fn add(&mut self, step: Step) -> Result<usize, AllocError>
         requires known { AreKnown self.old.steps.list.items self.old.known.items }
         ensures kept { OnOk result (AreKept self.old.steps.list.items self.new.steps.list.items) }
@@ -216,7 +214,6 @@ fn asked_most(cube: &[Lit], rules: &[LeftRule]) -> Option<FluentId>
     Some(fluent)
 }
 
-/// How many rules ask for a fluent.
 fn count_asking(rules: &[LeftRule], fluent: FluentId) -> usize {
     let mut count = 0usize;
     for rule in rules {

@@ -42,7 +42,6 @@ pub(crate) fn of_table(alloc: Global, rules: &[Rule]) -> Result<Vec<LeftRule>, A
     Ok(left)
 }
 
-/// The rules of a context of an automaton.
 pub(crate) fn of_context(
     alloc: Global,
     rules: &[AutoRule],
@@ -63,7 +62,6 @@ pub(crate) fn of_context(
     Ok(left)
 }
 
-/// The move of a rule.
 fn move_in(rule: &AutoRule) -> Move
     ensures { result ≡ move_of (context_rule_of rule.now) }
 {
@@ -83,7 +81,6 @@ pub(crate) fn number_of(next: &Next) -> u32
     }
 }
 
-/// The literals of a cube.
 fn copy_of(alloc: Global, cube: &[Lit]) -> Result<Vec<Lit>, AllocError>
     ensures { IfOk result (λ copy. copy.items ≡ cube.now) }
 {
@@ -112,7 +109,6 @@ pub(crate) fn left_where(
     Ok(left)
 }
 
-/// Whether a cube asks for the other value of a fluent.
 fn asks_other(cube: &[Lit], fluent: FluentId, value: bool) -> bool
     ensures { IsTrue result → (v : Vector) → value_of v fluent.0 ≡ value
         → matches cube.now v ≡ false }
@@ -152,7 +148,6 @@ fn is_given(lit: &Lit, fluent: FluentId, value: bool) -> bool
     lit.fluent == fluent && lit.positive == value
 }
 
-/// Whether rules are the same.
 pub(crate) fn are_same(rules: &[LeftRule], others: &[LeftRule]) -> bool
     ensures { IsTrue result → (v : Vector) → first_move rules.now v ≡ first_move others.now v }
 {
@@ -167,7 +162,6 @@ pub(crate) fn are_same(rules: &[LeftRule], others: &[LeftRule]) -> bool
     true
 }
 
-/// Whether two rules are the same.
 fn is_same(rule: &LeftRule, other: &LeftRule) -> bool
     ensures cube { IsTrue result → rule.now.cube.items ≡ other.now.cube.items }
     ensures action { IsTrue result → rule.now.action ≡ other.now.action }

@@ -17,7 +17,6 @@ pub fn is_code_name(name: &str) -> bool
     begins_with_letter(bytes) && are_name_bytes(bytes)
 }
 
-/// Whether the first byte is a letter.
 fn begins_with_letter(bytes: &[u8]) -> bool
     ensures { result ≡ is_a_letter (slice_index_or bytes.now 0 0) }
 {
@@ -27,7 +26,6 @@ fn begins_with_letter(bytes: &[u8]) -> bool
     }
 }
 
-/// Whether each byte may stand in a name.
 fn are_name_bytes(bytes: &[u8]) -> bool
     ensures { result ≡ list_all is_code_byte bytes.now }
 {
@@ -39,7 +37,6 @@ fn are_name_bytes(bytes: &[u8]) -> bool
     true
 }
 
-/// Whether a byte is a letter.
 fn is_letter(byte: u8) -> bool
     ensures { result ≡ is_a_letter byte }
 {

@@ -54,7 +54,6 @@ pub(crate) fn push_number<I: Integer>(out: &mut Vec<u8>, number: I) -> Result<()
     push_text(out, buffer.format(number))
 }
 
-/// Appends a text.
 pub(crate) fn push_text(out: &mut Vec<u8>, text: &str) -> Result<(), AllocError>
     ensures { OnOk result (out.new.items ≡ out.old.items ++ text.now) }
 {

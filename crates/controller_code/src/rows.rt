@@ -40,7 +40,6 @@ pub(crate) fn push_goal(
     push_counted(out, &words)
 }
 
-/// The words of the goal.
 fn goal_words(alloc: Global, task: &Task, plan: &Plan) -> Result<Vec<usize>, AllocError>
     ensures { IfOk result (λ words. words.items ≡ words_of_goal task.now (plain_of plan.now)) }
 {
@@ -121,7 +120,6 @@ fn push_literals(row: &mut Vec<usize>, literals: &[Lit]) -> Result<(), AllocErro
     Ok(())
 }
 
-/// The number of a literal.
 fn literal_number(literal: Lit) -> usize
     ensures { result ≡ number_of_literal literal }
 {
@@ -222,7 +220,6 @@ pub(crate) fn push_steps(out: &mut Vec<u8>, steps: &[Step]) -> Result<(), AllocE
     Ok(())
 }
 
-/// The row of a step.
 fn row_of(step: &Step) -> [usize; 4]
     ensures { result ≡ row_of_step step.now }
 {

@@ -54,7 +54,6 @@ pub(crate) struct Steps {
 }
 
 impl Steps {
-    /// No steps.
     pub(crate) fn new(alloc: Global) -> Steps
         ensures { result.list.items ≡ [] }
     {

@@ -107,7 +107,6 @@ fn push_common(
     push_frame(out, name, functions(language))
 }
 
-/// How many contexts a plan has.
 fn contexts_in(plan: &Plan) -> u32
     ensures { result ≡ contexts_of (plain_of plan.now) }
 {
@@ -171,7 +170,6 @@ fn push_actions(
     Ok(())
 }
 
-/// Appends the line of a name.
 fn push_name_line(
     out: &mut Vec<u8>,
     alloc: Global,

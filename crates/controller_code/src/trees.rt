@@ -44,7 +44,6 @@ fn tree_of_table(alloc: Global, table: &TablePlan) -> Result<Tree, AllocError>
     })
 }
 
-/// The decision tree of an automaton.
 fn tree_of_contexts(alloc: Global, automaton: &AutoPlan) -> Result<Tree, AllocError>
     ensures { IfOk result (λ tree. DecidesAs tree (plain_of (Plan.Auto automaton.now))) }
 {

@@ -162,7 +162,6 @@ impl<'a> RunRules<'a> {
     }
 }
 
-/// The rules of a plan as they are run, in its order.
 fn rules_of(alloc: Global, plan: &Plan) -> Result<Option<Vec<RunRule<'_>>>, AllocError>
     ensures rules { IfOk result (λ found. IfSome found (λ rules.
         map run_value rules.items ≡ run_rules (plain_of plan.now))) }
@@ -212,7 +211,6 @@ fn context_rules(alloc: Global, rules: &[AutoRule]) -> Result<Option<Vec<RunRule
     Ok(Some(made))
 }
 
-/// The cubes of rules, in order.
 fn cubes_of<'a>(alloc: Global, rules: &[RunRule<'a>]) -> Result<Vec<&'a [Lit]>, AllocError>
     ensures { IfOk result (λ cubes.
         map (λ cube. cube.now) cubes.items ≡ map run_cube rules.now) }
@@ -224,7 +222,6 @@ fn cubes_of<'a>(alloc: Global, rules: &[RunRule<'a>]) -> Result<Vec<&'a [Lit]>, 
     Ok(cubes)
 }
 
-/// Whether two rules make the same move.
 fn is_same_move(rule: &RunRule<'_>, other: &RunRule<'_>) -> bool
     ensures { IsTrue result → MakeSameMove (run_value rule.now) (run_value other.now) }
 {

@@ -86,7 +86,6 @@ fn bad_context_rule(task: &Task, rules: &[AutoRule], state: &State, context: u32
     Some(chosen)
 }
 
-/// The rule that counts in a state and a context.
 pub(crate) fn context_rule(
     task: &Task,
     rules: &[AutoRule],

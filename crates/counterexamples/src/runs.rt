@@ -225,7 +225,6 @@ pub(crate) fn joined(lasso: Lasso) -> Result<Run, AllocError>
     Ok(Run { start, steps })
 }
 
-/// The state in which a run ends.
 pub(crate) fn end_state(run: &Run) -> &State
     ensures state { (n : ℕ) → vector n result.now
         ≡ (end_of (run_value n run.now).start (run_value n run.now).steps).state }
@@ -237,7 +236,6 @@ pub(crate) fn end_state(run: &Run) -> &State
     }
 }
 
-/// The context in which a run ends.
 pub(crate) fn end_context(run: &Run) -> u32
     ensures { (n : ℕ) → result
         ≡ (end_of (run_value n run.now).start (run_value n run.now).steps).context }

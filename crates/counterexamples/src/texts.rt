@@ -519,7 +519,6 @@ fn takes_first(task: &Task, rules: &[Rule], run: &Run) -> bool
     true
 }
 
-/// The number of the first rule that matches a state.
 fn first_match(task: &Task, rules: &[Rule], state: &State) -> usize
     requires { let n = fluent_count task.now in let m = action_count task.now in
         All (λ rule. IsRuleOf n m (rule_of rule)) rules.now }

@@ -40,7 +40,6 @@ pub(crate) struct Layers {
 }
 
 impl Layers {
-    /// The states of the goal that stay.
     pub(crate) fn of_goal(
         alloc: Global,
         graph: &StepGraph,

@@ -39,7 +39,6 @@ fn pair_one(enc: &mut Enc, board: &mut Board, a: ActionId) -> Result<(), SetErr>
     )
 }
 
-/// Does that for each action.
 pub(crate) fn pair_all(enc: &mut Enc, board: &mut Board, actions: u32) -> Result<(), SetErr>
     requires ready { (origin : Origin) × IsThere origin (enc.old, board.old.slots.items) }
     requires actions { actions ≡ length enc.old.actions }

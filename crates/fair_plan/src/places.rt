@@ -91,7 +91,6 @@ pub(crate) fn stage_places(actions: u32, count: u32, stage: u32) -> StagePlaces
     }
 }
 
-/// How many places there are.
 pub(crate) fn places(actions: u32, count: u32) -> usize
     requires { count ≤ most_stages }
     ensures { result ≡ place_count actions count }

@@ -93,7 +93,6 @@ fn wins(
     board.covers_initial(enc, win_at(actions, 0))
 }
 
-/// The plan, where it can.
 fn write_plan(
     alloc: Global,
     enc: &mut Enc,

@@ -24,7 +24,6 @@ pub(crate) fn begin(enc: &mut Enc, board: &mut Board) -> Result<(), SetErr>
     board.whole(enc, GUARD)
 }
 
-/// Makes steps in turn.
 pub(crate) fn make(enc: &mut Enc, board: &mut Board, steps: &[Step]) -> Result<(), SetErr>
     requires { (origin : Origin) × IsThere origin (enc.old, board.old.slots.items)
         × AreStepsOf origin steps.now }

@@ -38,7 +38,6 @@ struct Pair<'a> {
     weak: bool,
 }
 
-/// How a goal fails at the configuration of a number.
 pub(crate) fn failing_at<'a, L: Ledger>(
     alloc: Global,
     scene: &Scene<'_>,
@@ -83,7 +82,6 @@ pub(crate) fn failing_at<'a, L: Ledger>(
     }
 }
 
-/// Where a goal is true.
 pub(crate) fn label_of<L: Ledger>(
     alloc: Global,
     scene: &Scene<'_>,

@@ -15,7 +15,6 @@ use encode_task::Enc;
 use slot_board::{Board, Operation, Outcomes};
 use task_core::ActionId;
 
-/// Whether one of two things is so.
 pub(crate) fn either(a: bool, b: bool) -> bool
     ensures { result ≡ (a || b) }
 {

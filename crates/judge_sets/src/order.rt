@@ -29,7 +29,6 @@ pub(crate) fn order_of(alloc: Global, task: &Task, rules: &[Rule], actions: u32)
     Order { actions, first }
 }
 
-/// The actions of rules in that order.
 fn last_ones_first(
     alloc: Global,
     task: &Task,
@@ -124,7 +123,6 @@ impl Walk {
         }
     }
 
-    /// The last action of the way.
     fn last(&self) -> Option<ActionId> {
         match self.way.last() {
             Some(action) => Some(*action),
@@ -142,7 +140,6 @@ impl Walk {
         next
     }
 
-    /// How many of them were looked at.
     fn looked_at(&self, action: ActionId) -> usize {
         match self.looked.get(action.0 as usize) {
             Some(count) => *count,

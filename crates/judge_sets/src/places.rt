@@ -27,7 +27,6 @@ pub(crate) fn taken_at(a: ActionId) -> usize
     7 + a.0 as usize
 }
 
-/// How many places there are for so many actions.
 pub(crate) fn places(actions: u32) -> usize
     ensures { result ≡ place_count actions }
 {

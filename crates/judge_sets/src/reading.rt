@@ -196,7 +196,6 @@ fn read_rule(enc: &mut Enc, board: &mut Board, rule: &Rule) -> Result<bool, SetE
     counts(enc, board)
 }
 
-/// Whether two things are so.
 fn both(a: bool, b: bool) -> bool
     ensures { result ≡ (a && b) }
 {

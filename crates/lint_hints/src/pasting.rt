@@ -42,7 +42,6 @@ fn after(text: &[u8], start: usize) -> &[u8]
     &text[start..]
 }
 
-/// The span of the first action of a domain.
 pub(crate) fn first_action(forms: &[Form]) -> Option<Span>
     ensures { result ≡ action_in (forest_of forms.now) }
 {

@@ -37,7 +37,6 @@ impl Vocabulary<'_> {
         number_in(self.types, name).unwrap_or(0)
     }
 
-    /// The type of the constant or object of this name.
     pub(crate) fn object_type(&self, name: &Text) -> Option<TypeId>
         ensures { result ≡ type_of_object (vocabulary_value self.now) name.now }
     {

@@ -51,7 +51,6 @@ fn document_value(
     Ok(Value::from(members))
 }
 
-/// The name of the limit, where one is passed.
 fn limit_value(alloc: Global, limit: Option<LimitName>) -> Result<Value, AllocError>
     ensures { IfOk result (λ value.
         view value ≡ limit_data (option_map name_of limit)) }

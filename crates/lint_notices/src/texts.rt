@@ -126,7 +126,6 @@ fn push_place(out: &mut String, names: &FileNames<'_>, notice: &Notice) -> Resul
     out.push_str(": ")
 }
 
-/// The name of the file in which a mistake is.
 pub(crate) fn file_of<'a>(names: &FileNames<'a>, notice: &Notice) -> &'a str
     ensures { result.now ≡ file_for (names_value names.now) (notice_value notice.now) }
 {

@@ -98,7 +98,6 @@ fn is_of_shape(world: &World<'_>, shape: &Shape, binding: &[ObjectId], atom: &At
     false
 }
 
-/// Whether an atom is one of a part.
 pub(crate) fn is_of_part(
     world: &World<'_>,
     part: &Part,

@@ -227,7 +227,6 @@ pub(crate) fn after(number: usize, more: usize) -> Result<usize, AllocError>
     }
 }
 
-/// That two formulas hold.
 fn both_true(alloc: Global, left: Formula, right: Formula) -> Result<Formula, AllocError>
     ensures { IfOk result (λ f. formula_value f
         ≡ all (formula_row (formula_value left ∷ formula_value right ∷ []))) }

@@ -20,7 +20,6 @@ pub(crate) fn single(
     })
 }
 
-/// The types of the places that are free.
 pub(crate) fn free_types(
     alloc: Global,
     signature: &Signature,

@@ -27,17 +27,14 @@ pub(crate) struct World<'a> {
 }
 
 impl World<'_> {
-    /// The type that an object is declared with.
     pub(crate) fn type_of(&self, object: ObjectId) -> TypeId {
         type_in(self.domain, self.problem, object)
     }
 
-    /// Whether an object is of a type.
     pub(crate) fn is_of(&self, object: ObjectId, type_id: TypeId) -> bool {
         is_under(&self.domain.parents, self.type_of(object), type_id)
     }
 
-    /// How many objects there are.
     pub(crate) fn objects(&self) -> usize {
         self.domain
             .constants
@@ -61,7 +58,6 @@ fn later_type(problem: &Problem, number: usize) -> TypeId {
     }
 }
 
-/// The atoms of the fluents of a task.
 pub(crate) fn fluent_atoms(
     alloc: Global,
     domain: &Domain,

@@ -34,7 +34,6 @@ fn fluent_name(fluents: &[Vec<RcStr>], fluent: FluentId) -> &[RcStr]
     }
 }
 
-/// An object with one member.
 fn only_member(alloc: Global, key: &str, value: Value) -> Result<Value, AllocError>
     ensures { IfOk result (λ made. view made ≡ one_member key.now (view value)) }
 {
@@ -43,7 +42,6 @@ fn only_member(alloc: Global, key: &str, value: Value) -> Result<Value, AllocErr
     Ok(Value::from(members))
 }
 
-/// Conditions as an array.
 #[cycle(making)]
 pub(crate) fn condition_array(
     alloc: Global,
@@ -60,7 +58,6 @@ pub(crate) fn condition_array(
     Ok(Value::from(list))
 }
 
-/// A condition.
 #[cycle(making)]
 pub(crate) fn condition_value(
     alloc: Global,
@@ -131,7 +128,6 @@ fn made_array(
     Ok(Value::from(names))
 }
 
-/// A change.
 fn change_value(alloc: Global, fluents: &[Vec<RcStr>], change: &Change) -> Result<Value, AllocError>
     ensures { IfOk result (λ value. view value
         ≡ change_data (map name_bytes fluents.now) change.now) }
@@ -146,7 +142,6 @@ fn change_value(alloc: Global, fluents: &[Vec<RcStr>], change: &Change) -> Resul
     Ok(Value::from(members))
 }
 
-/// An outcome: its changes.
 fn outcome_value(
     alloc: Global,
     fluents: &[Vec<RcStr>],
@@ -162,7 +157,6 @@ fn outcome_value(
     Ok(Value::from(changes))
 }
 
-/// Outcomes.
 pub(crate) fn outcome_array(
     alloc: Global,
     fluents: &[Vec<RcStr>],

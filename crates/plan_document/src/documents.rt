@@ -31,7 +31,6 @@ pub fn plan_document(alloc: Global, plan: &Plan, task: &Task) -> Result<Vec<u8>,
     value_text(alloc, &value)
 }
 
-/// The same as a value.
 fn plan_value(alloc: Global, plan: &Plan, task: &Task) -> Result<Value, AllocError>
     requires in_task { IsPlanOf (fluent_count task.now) (action_count task.now) plan.now }
     ensures { IfOk result (λ value. view value

@@ -29,7 +29,6 @@ use std::alloc::{AllocError, Global};
 use std::rc::RcStr;
 use task_core::{ActionId, GroundAction, Lit};
 
-/// The rules of a table.
 pub(crate) fn table_rules(
     alloc: Global,
     fluents: &[Vec<RcStr>],
@@ -48,7 +47,6 @@ pub(crate) fn table_rules(
     Ok(Value::from(list))
 }
 
-/// A rule of a table.
 fn table_rule(
     alloc: Global,
     fluents: &[Vec<RcStr>],
@@ -68,7 +66,6 @@ fn table_rule(
     rule_object(alloc, fluents, action_at(actions, rule.action), told)
 }
 
-/// The rules of a plan with contexts.
 pub(crate) fn context_rules(
     alloc: Global,
     fluents: &[Vec<RcStr>],
@@ -88,7 +85,6 @@ pub(crate) fn context_rules(
     Ok(Value::from(list))
 }
 
-/// A rule of a plan with contexts.
 fn context_rule(
     alloc: Global,
     fluents: &[Vec<RcStr>],
@@ -118,7 +114,6 @@ fn next_value(next: &Next) -> Value
     }
 }
 
-/// The action of a number.
 fn action_at(actions: &[GroundAction], action: ActionId) -> &GroundAction
     requires { action.0 < length actions.now }
     ensures { slice_get actions.now action.0 ≡ Some result.now }
@@ -134,7 +129,6 @@ struct ToldRule {
     next: Value,
 }
 
-/// A rule with this action.
 fn rule_object(
     alloc: Global,
     fluents: &[Vec<RcStr>],
@@ -176,7 +170,6 @@ fn literal_object(alloc: Global, fluents: &[Vec<RcStr>], cube: &[Lit]) -> Result
     Ok(Value::from(members))
 }
 
-/// One literal more.
 fn put_literal(
     members: &mut Map<String, Value>,
     alloc: Global,

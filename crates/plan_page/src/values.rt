@@ -73,7 +73,6 @@ pub(crate) fn pair_value(alloc: Global, first: Value, second: Value) -> Result<V
     Ok(Value::from(pair))
 }
 
-/// The nodes of a picture.
 pub(crate) fn node_values(alloc: Global, task: &Task, nodes: &[Node]) -> Result<Value, AllocError>
     ensures { let n = fluent_count task.now in IfOk result (λ value. view value
         ≡ list_data (node_data n) (map (node_value n) nodes.now)) }
@@ -111,7 +110,6 @@ fn true_fluents(alloc: Global, task: &Task, state: &State) -> Result<Value, Allo
     Ok(Value::from(numbers))
 }
 
-/// Adds a number, if it is wanted.
 fn push_if(numbers: &mut Vec<Value>, number: u32, is_wanted: bool) -> Result<(), AllocError>
     ensures { OnOk result (map view numbers.new.items
         ≡ map view numbers.old.items ++ map count_data (if is_wanted then number ∷ [] else [])) }

@@ -128,7 +128,6 @@ fn marks_at(
     Ok(marks)
 }
 
-/// No marks.
 fn no_marks(alloc: Global, task: &Task) -> Result<Vec<bool>, AllocError>
     ensures count { IfOk result (λ marks. length marks.items ≡ action_count task.now) }
     ensures none { IfOk result (λ marks. (a : ℕ) → a < action_count task.now
@@ -151,7 +150,6 @@ fn mark_action(marks: &mut Vec<bool>, task: &Task, rule: &Rule, state: &State)
     }
 }
 
-/// Whether an action has a mark.
 fn is_marked(marks: &[bool], action: u32) -> bool
     requires { action < length marks.now }
     ensures { result ≡ slice_index_or marks.now action false }
@@ -180,7 +178,6 @@ fn advice_at<'a>(task: &Task, rules: &'a [AutoRule], place: &Place) -> Option<Ad
     None
 }
 
-/// The steps by what is advised, if anything is.
 fn advised_steps(
     alloc: Global,
     task: &Task,

@@ -61,7 +61,6 @@ pub(crate) fn labels_of(alloc: Global, task: &Task) -> Result<Labels, TextErr>
     Ok(Labels { fluents, actions })
 }
 
-/// The labels of fluents.
 #[tactic(auto, using(crate::proofs::Anys::any_at))]
 fn fluent_labels(alloc: Global, fluents: &[Vec<RcStr>]) -> Result<Vec<Vec<u8>>, TextErr>
     ensures labels { IfOk result
@@ -80,7 +79,6 @@ fn fluent_labels(alloc: Global, fluents: &[Vec<RcStr>]) -> Result<Vec<Vec<u8>>, 
     Ok(labels)
 }
 
-/// The labels of actions.
 #[tactic(auto, using(crate::proofs::Anys::any_at))]
 fn action_labels(alloc: Global, actions: &[GroundAction]) -> Result<Vec<Vec<u8>>, TextErr>
     ensures labels { IfOk result
@@ -114,7 +112,6 @@ fn short_label(alloc: Global, words: &[RcStr]) -> Result<Vec<u8>, TextErr>
     Ok(label)
 }
 
-/// Whether a label is too long.
 fn is_long(label: &[u8]) -> bool
     ensures { result ≡ nat_lt most_in_name (length label.now) }
 {

@@ -31,7 +31,6 @@ pub(crate) fn marks_of(alloc: Global, edges: &[Edge]) -> Result<IndexSet<Mark>, 
     Ok(marks)
 }
 
-/// Adds the mark of an edge.
 fn add_mark(marks: &mut IndexSet<Mark>, edge: &Edge) -> Result<(), AllocError>
     ensures { OnOk result ((number : ℕ) (step : PlainStep)
         → has_mark marks.new.keys number step
@@ -41,7 +40,6 @@ fn add_mark(marks: &mut IndexSet<Mark>, edge: &Edge) -> Result<(), AllocError>
     Ok(())
 }
 
-/// The mark of a step from the node of this number.
 fn mark_of(number: u64, step: &Step) -> Mark
     ensures from { result.from ≡ number }
     ensures action { result.action ≡ step.now.action.0 }
@@ -54,7 +52,6 @@ fn mark_of(number: u64, step: &Step) -> Mark
     }
 }
 
-/// Whether a step from the node of this number has a mark.
 pub(crate) fn is_marked(marks: &IndexSet<Mark>, number: u64, step: &Step) -> bool
     ensures { result ≡ has_mark marks.now.keys number (step_value step.now) }
 {

@@ -32,7 +32,6 @@ pub(crate) fn places_of(alloc: Global, graph: &Graph) -> Result<Vec<Place>, Allo
     Ok(places)
 }
 
-/// The configuration at a place.
 pub(crate) fn place_at(places: &[Place], number: u32) -> &Place
     requires { number < length places.now }
     ensures { slice_get places.now number ≡ Some result.now }

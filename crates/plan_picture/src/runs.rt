@@ -96,7 +96,6 @@ fn if_round(run: &Run, edges: Vec<Edge>) -> Option<Vec<Edge>>
     }
 }
 
-/// Whether an execution may begin at the node of this place.
 fn begins_at(task: &Task, nodes: &[Node], place: u64) -> bool
     ensures { result ≡ begins_there (map (node_value (fluent_count task.now)) nodes.now) place }
 {
@@ -132,7 +131,6 @@ fn edges_along(
     Ok(Some(edges))
 }
 
-/// The step from the node at a place by a move.
 fn step_at(task: &Task, plan: &Plan, nodes: &[Node], place: u64, next: &Move) -> Option<Step>
     ensures { option_map step_value result
         ≡ step_of_move (map (node_value (fluent_count task.now)) nodes.now)
@@ -145,7 +143,6 @@ fn step_at(task: &Task, plan: &Plan, nodes: &[Node], place: u64, next: &Move) ->
     step_by(action, next.outcome, &node.steps)
 }
 
-/// The action of the rule of a number.
 #[tactic(auto, using(crate::proofs::Taken::fused))]
 fn rule_action(plan: &Plan, number: u64) -> Option<ActionId>
     ensures { option_map (λ action. action.0) result
@@ -157,7 +154,6 @@ fn rule_action(plan: &Plan, number: u64) -> Option<ActionId>
     }
 }
 
-/// The action of the rule of a number in a table.
 fn table_action(rules: &[Rule], number: u64) -> Option<ActionId>
     ensures { option_map (λ action. action.0) result
         ≡ slice_get (map (λ rule. (rule_of rule).action) rules.now) number }
@@ -179,7 +175,6 @@ fn automaton_action(rules: &[AutoRule], number: u64) -> Option<ActionId>
     }
 }
 
-/// The step by this outcome of this action.
 fn step_by(action: ActionId, outcome: u64, steps: &[Step]) -> Option<Step>
     ensures { option_map step_value result ≡ step_among action.0 outcome (map step_value steps.now) }
 {

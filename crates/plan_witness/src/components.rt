@@ -29,7 +29,6 @@ pub(crate) struct Components {
     parts: u32,
 }
 
-/// The parts of a graph.
 pub(crate) fn find_components<L: Ledger>(
     alloc: Global,
     graph: &Graph,
@@ -158,7 +157,6 @@ impl Components {
     }
 }
 
-/// The last of some numbers.
 fn last(numbers: &[u32]) -> Option<u32> {
     match numbers.last() {
         Some(number) => Some(*number),
@@ -166,7 +164,6 @@ fn last(numbers: &[u32]) -> Option<u32> {
     }
 }
 
-/// The follower of a number at a place, where there is one.
 fn follower_at<L: Ledger>(
     graph: &Graph,
     number: u32,

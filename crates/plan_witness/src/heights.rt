@@ -66,7 +66,6 @@ fn zeros(alloc: Global, graph: &Graph) -> Result<Vec<u64>, AllocError>
     Ok(heights)
 }
 
-/// Raises configurations in this order.
 fn raise_along<L: Ledger>(
     graph: &Graph,
     bound: u64,
@@ -192,7 +191,6 @@ pub(crate) fn least_above<L: Ledger>(
     height
 }
 
-/// The height of a number.
 pub(crate) fn height_at(heights: &[u64], number: u32) -> u64
     requires { number < length heights.now }
     ensures { result ≡ at heights.now number }

@@ -113,7 +113,6 @@ fn reached_numbers(alloc: Global, graph: &Graph, ways: &Ways) -> Result<Vec<u32>
     Ok(numbers)
 }
 
-/// Adds a number, if it is wanted.
 fn push_if(numbers: &mut Vec<u32>, number: u32, wanted: bool) -> Result<(), AllocError>
     ensures { OnOk result (numbers.new.items
         ≡ (if wanted then numbers.old.items ++ number ∷ [] else numbers.old.items)) }

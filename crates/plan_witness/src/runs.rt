@@ -97,7 +97,6 @@ pub(crate) fn starts_of(alloc: Global, graph: &Graph) -> Result<Vec<bool>, Alloc
     Ok(marks)
 }
 
-/// The run along a way.
 pub(crate) fn run_along(alloc: Global, scene: &Scene<'_>, way: &Way) -> Result<Run, AllocError>
     requires scene { IsFollowed scene.now }
     requires start { way.now.start < size_in scene.now }

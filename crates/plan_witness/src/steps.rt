@@ -173,7 +173,6 @@ fn context_step(task: &Task, rules: &[AutoRule], from: &Spot<'_>, to: &Spot<'_>)
     }
 }
 
-/// The number of the rule that counts in a state and a context where one does.
 fn counting_number(task: &Task, rules: &[AutoRule], state: &State, context: u32) -> usize
     requires rules { let n = fluent_count task.now in let m = action_count task.now in
         All (λ rule. IsRunRuleOf n m (context_rule_of rule)) rules.now }

@@ -176,7 +176,6 @@ fn is_lost_at(task: &Task, rule: &AutoRule, state: &State, outcome: u32) -> bool
     has_no_next(task, rule, &after)
 }
 
-/// Whether a rule has no next context for a state.
 fn has_no_next(task: &Task, rule: &AutoRule, after: &State) -> bool
     requires { let n = fluent_count task.now in let m = action_count task.now in
         IsRunRuleOf n m (context_rule_of rule.now) }

@@ -38,7 +38,6 @@ fn is_same(line: &[u8], other: &[u8]) -> bool
     line == other
 }
 
-/// The text of lines.
 pub(crate) fn push_lines(out: &mut Vec<u8>, lines: &[Vec<u8>]) -> Result<(), AllocError>
     ensures { OnOk result (out.new.items
         ≡ out.old.items ++ flat_map (λ (line : List ℕ). line) (bytes_of lines.now)) }

@@ -93,7 +93,6 @@ fn cubes_stand_in_the_order_of_the_fluents(rt: HostRuntime) -> Result<(), Fail> 
     Ok(())
 }
 
-/// Whether some places have an order.
 fn has_order(alloc: Global, places: &[usize]) -> Result<bool, Fail> {
     Ok(Order::of_places(alloc, places)?.is_some())
 }

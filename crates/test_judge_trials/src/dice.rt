@@ -18,7 +18,6 @@ impl Dice {
         }
     }
 
-    /// A number below a count.
     pub(crate) fn below(&mut self, count: u32) -> u32
         requires { 0 < count }
         ensures { result < count }

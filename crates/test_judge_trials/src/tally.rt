@@ -15,13 +15,11 @@ pub(crate) struct Tally {
     pub(crate) each_counts: u32,
 }
 
-/// One more where something is so.
 fn more(count: u32, is: bool) -> u32 {
     count.saturating_add(u32::from(is))
 }
 
 impl Tally {
-    /// Counts the verdict on a table for a class.
     pub(crate) fn count(&mut self, class: Class, verdict: &TableVerdict) {
         match class {
             Class::Weak => {

@@ -17,7 +17,6 @@ fn goal(alloc: Global, text: &str) -> Result<Ctl, Fail> {
     Ok(parts.pop().ok_or("there is no goal")?)
 }
 
-/// The goal of a letter, over the last goals.
 fn next_goal(alloc: Global, parts: &mut Vec<Ctl>, letter: u8) -> Result<Ctl, Fail> {
     match letter {
         b'p' => Ok(Ctl::Plain(Cond::Is(FluentId(0)))),

@@ -51,7 +51,6 @@ struct ActionMonitor {
 }
 
 impl ActionMonitor {
-    /// A monitor that has seen nothing.
     fn new(action: u32, drops: Rc<Cell<u32>>) -> ActionMonitor
         ensures { result.count ≡ 0 }
     {

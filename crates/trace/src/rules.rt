@@ -91,7 +91,6 @@ impl<'a> IndexedRules<'a> {
     }
 }
 
-/// The rules of a plan as they are run, in its order.
 fn rules_of(alloc: Global, plan: &Plan) -> Result<Vec<RunRule<'_>>, AllocError>
     ensures { IfOk result (λ rules. map run_rule_value rules.items ≡ run_rules (plain_of plan.now)) }
 {
@@ -133,7 +132,6 @@ fn context_rules(alloc: Global, rules: &[AutoRule]) -> Result<Vec<RunRule<'_>>, 
     Ok(made)
 }
 
-/// The cubes of rules, in order.
 fn cubes_of<'a>(alloc: Global, rules: &[RunRule<'a>]) -> Result<Vec<&'a [Lit]>, AllocError>
     ensures { IfOk result (λ cubes.
         map (λ cube. cube.now) cubes.items ≡ map (λ rule. rule.cube.now) rules.now) }

@@ -55,7 +55,6 @@ pub(crate) struct Standing<'a> {
     pub(crate) word: Option<u32>,
 }
 
-/// The turn of a run that is there.
 pub(crate) fn take_turn(task: &Task, rules: &IndexedRules<'_>, at: &Standing<'_>) -> Turn
     requires rules { AreIndexedFor (fluent_count task.now) (action_count task.now) rules.now }
     requires within { IsWithin (fluent_count task.now) at.now.state.now }
