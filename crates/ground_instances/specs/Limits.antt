@@ -3,7 +3,8 @@ use Rattle.std.specs.Prelude.{ℕ, map}
 use Rattle.std.specs.List.{sum}
 use Rattle.pddl_ast.specs.Trees.{SchemaTree, DomainTree, ProblemTree}
 use Rattle.pddl_system.specs.Settings.{Setting, setting}
-use Rattle.pddl_system.specs.Sizes.{Limits as PlainLimits, binding_count}
+use Rattle.pddl_system.specs.Sizes.{Limits as PlainLimits, binding_count, standard_instances}
+use Rattle.task_core.specs.Limits.{most_fluents}
 use Rattle.ground_instances.specs.LookedAt.{looked_of}
 use Rattle.ground_instances.specs.declared.limits.Counting.{Counting}
 use Rattle.ground_instances.specs.declared.limits.Counting.TheVariants.{All, LookedAt}
@@ -23,4 +24,16 @@ limits_of l = record {
   instances = l.instances;
   actions = l.actions;
   fluents = l.fluents;
+}
+
+-- the limits of a program that reads large problems
+abbrev pub wide_actions : ℕ
+wide_actions = 262144
+
+abbrev pub wide : PlainLimits
+wide = record {
+  counted = counted_by LookedAt;
+  instances = standard_instances;
+  actions = wide_actions;
+  fluents = most_fluents;
 }

@@ -8,6 +8,7 @@ use Rattle.pddl_ast.specs.Trees.{DomainTree, ProblemTree}
 use Rattle.pddl_system.specs.Sizes.{Limit, Limits, object_limit, size_limit, instance_limit}
 use Rattle.pddl_system.specs.Sizes.{action_limit, outcome_limit, fluent_limit, first_passed_within}
 use Rattle.pddl_system.specs.Sizes.{keeps_within}
+use Rattle.task_core.specs.Limits.{most_fluents}
 
 abbrev pub limit_of : GroundErr → Option Limit
 limit_of Objects = Some object_limit
@@ -27,6 +28,6 @@ pub record KeepsFirst (most : Limits) (d : DomainTree) (p : ProblemTree) : Type 
 -- Private: no limit is passed, of some that a task has
 pub record FitsTask (d : DomainTree) (p : ProblemTree) : Type 0 where
   pub most : Limits
-  pub fluents : most.fluents ≤ 256
+  pub fluents : most.fluents ≤ most_fluents
   pub actions : most.actions < 2 ^ 32
   pub within : first_passed_within most d p ≡ None

@@ -33,6 +33,7 @@ ghost use Rattle.pddl_system.specs.Systems.{system};
 ghost use Rattle.pddl_system.specs.Tasks.{condition_of, task_of};
 ghost use Rattle.ctl_syntax.specs.Conditions.{condition_value};
 ghost use Rattle.pddl_system.specs.Values.{task_value};
+ghost use Rattle.task_core.specs.Limits.{most_fluents};
 ghost use Rattle.task_core.specs.Tasks.{fluent_count, system_of};
 
 use crate::actions::actions;
@@ -175,7 +176,7 @@ fn all_fluents<'a>(
         ≡ true }
     ensures fluents { IfOk result (λ found. found.fluents
         ≡ fluents_of (domain_value domain.now) (problem_value problem.now)) }
-    ensures few { IfOk result (λ found. length found.fluents ≤ 256) }
+    ensures few { IfOk result (λ found. length found.fluents ≤ most_fluents) }
     ensures drafts { IfOk result (λ found.
         map (action_tree (domain_value domain.now)) found.drafts.items
         ≡ map (drafted (setting_in setting.now))
@@ -265,7 +266,7 @@ fn build<'a>(
         (kept_by (setting_in setting.now) (domain_value domain.now)) }
     requires fluents { found.now.fluents
         ≡ fluents_of (domain_value domain.now) (problem_value problem.now) }
-    requires few { length found.now.fluents ≤ 256 }
+    requires few { length found.now.fluents ≤ most_fluents }
     ensures { IfOk result (λ task. task_value task
         ≡ task_of (domain_value domain.now) (problem_value problem.now)) }
 {

@@ -10,6 +10,7 @@ use Rattle.std.proofs.Math.Nat.{max-le}
 use Rattle.task_core.specs.Actions.{action_is_shallow, action_within, change_is_shallow, change_within, goal_is_shallow, goal_within, outcome_is_shallow, outcome_within}
 use Rattle.task_core.specs.Conditions.{depth, ids_below, is_shallow}
 use Rattle.task_core.specs.Initial.{entries_within, entry_within, lit_within}
+use Rattle.task_core.specs.Limits.{most_fluents}
 use Rattle.task_core.specs.Names.{AreActionNames, AreFluentNames, Words, name_bytes, name_of}
 use Rattle.task_core.specs.Parts.{MakesTask}
 use Rattle.task_core.specs.States.{IsWithin}
@@ -315,14 +316,14 @@ module _ (d : DomainTree) (p : ProblemTree) (fits_d : FitsDomain d) (fits_p : Fi
 
   -- all parts
 
-  module _ (most : Limits) (fluents_fit : most.fluents ≤ 256) (actions_fit : most.actions < 2 ^ 32) (words : NamesAreWords d p) (all_kept : first_passed_within most d p ≡ None) (fluent_list : List Words) (actions : List GroundAction) (init : InitSpec) (goal : Option Cond) (invariant : Cond) (parts : ArePartsOf d p fluent_list actions init goal invariant) (says : list_all action_has_literals actions ≡ true) (facts : IsWithin (length fluent_list) init.facts) where
+  module _ (most : Limits) (fluents_fit : most.fluents ≤ most_fluents) (actions_fit : most.actions < 2 ^ 32) (words : NamesAreWords d p) (all_kept : first_passed_within most d p ≡ None) (fluent_list : List Words) (actions : List GroundAction) (init : InitSpec) (goal : Option Cond) (invariant : Cond) (parts : ArePartsOf d p fluent_list actions init goal invariant) (says : list_all action_has_literals actions ≡ true) (facts : IsWithin (length fluent_list) init.facts) where
     kept_limit : (limit : Limit) → Among limit limits → keeps_within most d p limit ≡ true
     kept_limit limit h = none_found (keeps_within most d p) limits all_kept limit h
 
-    few_fluents : many ≤ 256
+    few_fluents : many ≤ most_fluents
     few_fluents = few_enough (leb-true many most.fluents (kept_limit fluent_limit (inr (inr (inr (inr (inr (inl refl))))))))
       where
-        few_enough : many ≤ most.fluents → many ≤ 256
+        few_enough : many ≤ most.fluents → many ≤ most_fluents
         few_enough h = omega (arith, fluents_fit)
 
     few_actions : length (kept_instances d p) ≤ most.actions
@@ -341,7 +342,7 @@ module _ (d : DomainTree) (p : ProblemTree) (fits_d : FitsDomain d) (fits_p : Fi
 
     makes_task : MakesTask fluent_list actions init goal invariant
     makes_task = record {
-      few_fluents = subst (λ n. n ≤ 256) (sym count_same) few_fluents;
+      few_fluents = subst (λ n. n ≤ most_fluents) (sym count_same) few_fluents;
       few_actions = (let same = actions_same in let few = few_actions in omega (arith, actions_fit));
       within = record {
         actions_within = subst (λ n. list_all (action_within n) actions ≡ true) (sym count_same)

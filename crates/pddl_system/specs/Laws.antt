@@ -33,6 +33,7 @@ use Rattle.pddl_system.specs.ThreeValues.{value}
 use Rattle.ctl_syntax.specs.Conditions.{condition_value}
 use Rattle.pddl_system.specs.Values.{ArePartsOf, action_has_literals, task_value}
 use Rattle.task_core.specs.ContextPlans.{Configuration, ContextPlan, Follows}
+use Rattle.task_core.specs.Limits.{most_fluents}
 use Rattle.task_core.specs.Names.{AreActionNames, AreFluentNames, Words}
 use Rattle.task_core.specs.Parts.{MakesTask}
 use Rattle.task_core.specs.States.{IsWithin}
@@ -106,7 +107,7 @@ abbrev pub PartsMakeTask : Type 0
 PartsMakeTask =
     (most : Limits) (d : DomainTree) (p : ProblemTree) (fluents : List Words)
     (actions : List GroundAction) (init : InitSpec) (goal : Option Cond) (invariant : Cond)
-    → most.fluents ≤ 256 → most.actions < 2 ^ 32
+    → most.fluents ≤ most_fluents → most.actions < 2 ^ 32
     → FitsDomain d → FitsProblem d p → NamesAreWords d p → first_passed_within most d p ≡ None
     → ArePartsOf d p fluents actions init goal invariant
     → list_all action_has_literals actions ≡ true → IsWithin (length fluents) init.facts

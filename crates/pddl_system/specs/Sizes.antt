@@ -123,7 +123,8 @@ most_size = 100000
 abbrev pub most_outcomes_of_one : ℕ
 most_outcomes_of_one = 64
 
--- what a program allows: how it counts instances, and the most instances, kept instances and fluents
+-- what a program allows: how it counts instances, and the most instances that count, kept instances
+-- and fluents
 pub record Limits : Type 0 where
   pub counted : DomainTree → ProblemTree → ℕ
   pub instances : ℕ
@@ -135,9 +136,22 @@ abbrev pub all_instances : DomainTree → ProblemTree → ℕ
 all_instances d p = instance_count (setting d p).objects d.actions
 
 -- the limits of a program that names no others
+abbrev pub standard_instances : ℕ
+standard_instances = 1000000
+
+abbrev pub standard_actions : ℕ
+standard_actions = 16384
+
+abbrev pub standard_fluents : ℕ
+standard_fluents = 256
+
 abbrev pub standard : Limits
-standard =
-    record { counted = all_instances; instances = 1000000; actions = 16384; fluents = 256 }
+standard = record {
+  counted = all_instances;
+  instances = standard_instances;
+  actions = standard_actions;
+  fluents = standard_fluents;
+}
 
 -- the limits by name
 pub data Limit : Type 0 where
