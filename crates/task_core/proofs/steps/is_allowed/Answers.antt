@@ -13,5 +13,6 @@ returns-then-cond_holds c =
 
 pub returns-else-cond_holds : goal.returns-else-cond_holds
 returns-else-cond_holds c =
-    allowed_else c.args.task.now c.args.action.0 c.index.result.now c.requires.in_range c.index.ensures c.args.state.now
+    c.if-cond_holds.false
+    ∙ allowed_else c.args.task.now c.args.action.0 c.index.result.now c.requires.in_range c.index.ensures c.args.state.now
     (sym c.cond_holds.ensures.value ∙ c.if-cond_holds.false)
