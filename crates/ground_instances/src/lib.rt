@@ -15,6 +15,7 @@ mod instances;
 mod limits;
 mod looked_at;
 mod objects;
+mod programs;
 mod setting;
 mod settled;
 mod sizes;
