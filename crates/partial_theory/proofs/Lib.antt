@@ -1,0 +1,4 @@
+pub mod KnownLaws
+pub mod Sound
+pub mod Simulation
+pub mod TableLaw

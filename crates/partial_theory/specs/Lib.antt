@@ -1,0 +1,4 @@
+pub mod Known
+pub mod PartialStates
+pub mod Closed
+pub mod Classes
