@@ -38,10 +38,7 @@ pub(crate) fn spread(graph: &Graph, insides: &[bool], need: Need, marks: &mut [b
     ensures grown { IsGrown need graph.now insides.now marks.old marks.new }
     ensures stable { IsStable need graph.now insides.now marks.new }
 {
-    let mut changed = true;
-    while changed {
-        changed = sweep(graph, insides, need, marks);
-    }
+    while sweep(graph, insides, need, marks) {}
 }
 
 /// Goes through all nodes once; whether some node got a mark.

@@ -53,7 +53,7 @@ unmapped_none (Some rule) e = absurd (none-some (in_one_context rule) (sym e))
 
 unmapped_some : (found : Option PlanRule) (run : ContextRule) → option_map in_one_context found ≡ Some run → (rule : PlanRule) × (found ≡ Some rule) × (in_one_context rule ≡ run)
 unmapped_some None run e = absurd (none-some run e)
-unmapped_some (Some rule) run e = (rule, refl, same_Some e)
+unmapped_some (Some rule) run e = (rule, refl, same_Some _ _ e)
 
 -- a list of nodes is empty or isn't
 some_or_none : (ids : List NodeId) → (ids ≡ []) ⊎ (ids ≢ [])
@@ -82,7 +82,7 @@ module _ (task : Task) (rules : List PlanRule) (graph : Graph) (closed : is_clos
 
   in_first : (run : ContextRule) (rule : PlanRule) (t : Vector) (i : ℕ) → in_one_context rule ≡ run → ((c : ℕ) × (next_context run.next t ≡ Some c) × LiesIn graph i (at t c)) → LiesIn graph i (at t first_context)
   in_first run rule t i same there =
-      subst (λ c. LiesIn graph i (at t c)) (same_Some (sym there.1 ∙ ap (λ (r : ContextRule). next_context r.next t) (sym same))) there.2
+      subst (λ c. LiesIn graph i (at t c)) (same_Some _ _ (sym there.1 ∙ ap (λ (r : ContextRule). next_context r.next t) (sym same))) there.2
 
   table_step : (s : Vector) (i : ℕ) (lies : LiesIn graph i (at s first_context)) → IsState (system_of task) s → lies.node.outcomes.items ≢ [] → TableStep s lies.node.outcomes.items
   table_step s i lies state some =
@@ -127,7 +127,7 @@ module _ (task : Task) (rules : List PlanRule) (graph : Graph) (closed : is_clos
       let here = reached_lies s reached in
       ⊎_elim (λ none. absurd (none-some rule (sym (table_end s here.number here.lies none) ∙ first)))
       (λ some. let step = table_step s here.number here.lies here.state some in
-      let same : step.rule ≡ rule = same_Some (sym step.first ∙ first) in
+      let same : step.rule ≡ rule = same_Some _ _ (sym step.first ∙ first) in
       subst (λ (r : PlanRule). Exec (system_of task) s r.action) same step.executable)
       (some_or_none here.lies.node.outcomes.items)
 
@@ -145,7 +145,7 @@ module _ (task : Task) (rules : List PlanRule) (graph : Graph) (closed : is_clos
 
   -- an end in the goal
   same_node : (i : ℕ) (s : Vector) (lies : LiesIn graph i (at s first_context)) (node : Node) → slice_get graph.nodes.items i ≡ Some node → node ≡ lies.node
-  same_node i s lies node is = same_Some (sym is ∙ lies.is)
+  same_node i s lies node is = same_Some _ _ (sym is ∙ lies.is)
 
   end_goal : (i : ℕ) (s : Vector) → LiesIn graph i (at s first_context) → IsState (system_of task) s → IsGoalEnd task graph i → (first_rule rules s ≡ None) × Contains (goal_states (system_of task)) s
   end_goal i s lies state end =
