@@ -164,9 +164,10 @@ module _ (task : Task) (graph : Graph) where
 
     pub class_told : (class : Class) → IsGrown (need_of class) graph (map (is_inside task) graph.nodes.items) (map (is_goal_end task) graph.nodes.items) marks → IsStable (need_of class) graph (map (is_inside task) graph.nodes.items) marks
         → (says_class class ≡ true) ↔ IsOfClass class task graph
-    class_told Weak more stable =
-        ((λ all id named. may_sound marks more id.0 (list_all-at (is_marked marks) graph.starts.items id all named)),
-        (λ of_class. list_all-from (is_marked marks) graph.starts.items (λ id named. may_complete more stable id.0 (of_class id named))))
+    class_told Weak more stable = (
+      (λ all id named. may_sound marks more id.0 (list_all-at (is_marked marks) graph.starts.items id all named)),
+      (λ of_class. list_all-from (is_marked marks) graph.starts.items (λ id named. may_complete more stable id.0 (of_class id named))),
+    )
     class_told Strong more stable =
         (all_have (IsSureToEnd task graph) (long_marks Each more) (sure_sound marks more), all_from (IsSureToEnd task graph) (long_marks Each more) (sure_complete more stable))
     class_told Cyclic more stable =

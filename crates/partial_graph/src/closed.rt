@@ -25,12 +25,11 @@ ghost use Rattle.task_core.specs.declared.tasks.Task.{Task as TaskOf};
 
 use crate::conditions::known_condition;
 use crate::effects::values_after;
-use partial_theory::{Graph, Node, NodeId};
-use partial_theory::Known;
 use crate::marks::is_marked;
 use crate::rules::{Advice, RunRule, advice, known_context, rules_of};
 use crate::starts::begin_in;
 use crate::values::{are_within, known_cube, values_of};
+use partial_theory::{Graph, Known, Node, NodeId};
 use plan_rules::{Onward, Plan};
 use std::alloc::{AllocError, Global};
 use task_core::{Cond, GroundAction, InitErr, Outcome, Task};
@@ -39,12 +38,7 @@ use task_core::{Cond, GroundAction, InitErr, Outcome, Task};
 /// leads to the nodes that it names, as the plan's rules are run.
 ///
 /// The initial states are listed; `TooMany` says that there are more than 262,144 of them.
-pub fn is_closed(
-    alloc: Global,
-    task: &Task,
-    plan: &Plan,
-    graph: &Graph,
-) -> Result<bool, InitErr>
+pub fn is_closed(alloc: Global, task: &Task, plan: &Plan, graph: &Graph) -> Result<bool, InitErr>
     ensures { IfOk result (λ closed. closed
         ≡ is_closed task.now (run_rules (plain_of plan.now)) graph.now) }
 {
@@ -108,7 +102,15 @@ fn is_closed_node(
     }
     let values = values_of(alloc, &node.literals, task.fluents.len())?;
     let advice = advice(&values, node.context, rules);
-    advice_leads(alloc, task, graph, insides, &values, &node.outcomes, &advice)
+    advice_leads(
+        alloc,
+        task,
+        graph,
+        insides,
+        &values,
+        &node.outcomes,
+        &advice,
+    )
 }
 
 fn advice_leads(

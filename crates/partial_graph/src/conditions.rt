@@ -4,8 +4,8 @@ ghost use Rattle.std.specs.Prelude.{◌≡◌};
 ghost use Rattle.partial_graph.specs.Lists.{value_at};
 ghost use Rattle.partial_theory.specs.PartialStates.{known_condition};
 
-use partial_theory::Known;
 use crate::values::value_at;
+use partial_theory::Known;
 use task_core::Cond;
 
 /// What is known of a condition.

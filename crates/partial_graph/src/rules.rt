@@ -8,8 +8,8 @@ ghost use Rattle.plan_rules.specs.Advices.{onward_value};
 ghost use Rattle.plan_rules.specs.Rules.{case_of, context_rule_of, plain_of, rule_of};
 ghost use Rattle.rule_lookup.specs.RunRules.{in_one_context, run_rules};
 
-use partial_theory::Known;
 use crate::values::known_cube;
+use partial_theory::Known;
 use plan_rules::{AutoRule, Case, FIRST_CONTEXT, Onward, Plan, Rule, onward_of};
 use std::alloc::{AllocError, Global};
 use task_core::{ActionId, Lit};

@@ -6,8 +6,8 @@ ghost use Rattle.partial_theory.specs.Closed.{begins_at, begins_in, node_passes}
 ghost use Rattle.task_core.specs.States.{vector};
 ghost use Rattle.task_core.specs.Tasks.{fluent_count, initial_states};
 
-use partial_theory::{Graph, Node, NodeId};
 use crate::values::are_within;
+use partial_theory::{Graph, Node, NodeId};
 use plan_rules::{FIRST_CONTEXT, has_all};
 use std::alloc::Global;
 use task_core::{InitErr, State, Task, init_states};

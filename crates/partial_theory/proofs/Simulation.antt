@@ -187,9 +187,11 @@ module _ (task : Task) (rules : List ContextRule) (graph : Graph) (closed : is_c
             let p = passes_from graph (is_led_to known rule.next) id led in
             let both = and_parts (is_true (known_cube known p.node.literals.items)) (has_context (known_context rule.next known) p.node.context) p.passes in
             let fits : AreRight known (value_of t) =
-            after_vector_right (fluent_count task) outcome (values_of lies.node.literals.items) x.state state.vector (outcomes_within task action (actions_within task rule.action action is) outcome listed) right in
-            (p.node.context, context_right known t rule.next p.node.context fits (has_context-is (known_context rule.next known) p.node.context both.1),
-            record { node = p.node; is = p.is; context = refl; matched = right_true (known_cube known p.node.literals.items) (matches p.node.literals.items t) (cube_right known t p.node.literals.items fits) both.0 })
+            after_vector_right (fluent_count task) outcome (values_of lies.node.literals.items) x.state state.vector (outcomes_within task action (actions_within task rule.action action is) outcome listed) right in (
+              p.node.context,
+              context_right known t rule.next p.node.context fits (has_context-is (known_context rule.next known) p.node.context both.1),
+              record { node = p.node; is = p.is; context = refl; matched = right_true (known_cube known p.node.literals.items) (matches p.node.literals.items t) (cube_right known t p.node.literals.items fits) both.0 },
+            )
 
         step_forward : (t : Vector) → HasOutcome (system_of task) x.state rule.action t
             → (id : NodeId) × Contains lies.node.outcomes.items id × ((c : ℕ) × (next_context rule.next t ≡ Some c) × LiesIn graph id.0 (at t c))

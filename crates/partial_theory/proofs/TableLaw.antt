@@ -149,9 +149,10 @@ module _ (task : Task) (rules : List PlanRule) (graph : Graph) (closed : is_clos
 
   end_goal : (i : ℕ) (s : Vector) → LiesIn graph i (at s first_context) → IsState (system_of task) s → IsGoalEnd task graph i → (first_rule rules s ≡ None) × Contains (goal_states (system_of task)) s
   end_goal i s lies state end =
-      let same = same_node i s lies end.node end.is in
-      (table_end s i lies (subst (λ (node : Node). node.outcomes.items ≡ []) same end.end),
-      goal_holds lies.node s (subst (λ node. has_goal task node ≡ true) same end.goal) lies.matched state)
+      let same = same_node i s lies end.node end.is in (
+        table_end s i lies (subst (λ (node : Node). node.outcomes.items ≡ []) same end.end),
+        goal_holds lies.node s (subst (λ node. has_goal task node ≡ true) same end.goal) lies.matched state,
+      )
 
   -- from a node that may end, each of its states may
   may_reach : (i : ℕ) → MayEnd task graph i → (s : Vector) → LiesIn graph i (at s first_context) → IsState (system_of task) s → MayReachGoal (system_of task) (run_table (system_of task) rules) s
