@@ -2,7 +2,7 @@
 
 use crate::conditions::{explain, has_all, holds};
 use crate::effects::{regress, values_after};
-use crate::places::{Place, Step, small};
+use crate::places::{NOWHERE, Place, Step, small};
 use crate::rules::{PlanRule, counting, decide_context, next_context, rules_of};
 use crate::stops::{Effort, Stop};
 use plan_rules::Plan;
@@ -105,7 +105,8 @@ impl<'a> Growth<'a> {
         if self.places.len() >= MOST_PLACES || self.is_in_vain() {
             return Err(Stop::NoGraph);
         }
-        self.places.push(Place::new(self.alloc, context, values, rule)?)?;
+        self.places
+            .push(Place::new(self.alloc, context, values, rule)?)?;
         if let Some(numbers) = self.of_rules.get_mut(rule) {
             numbers.push(number)?;
         }
@@ -118,13 +119,15 @@ impl<'a> Growth<'a> {
     /// Whether few outcomes lead to places with another example, once there are many places.
     fn is_in_vain(&self) -> bool {
         let count = self.places.len();
-        if count < FIRST_LOOK || !count.is_power_of_two() {
+        if count < FIRST_LOOK || (count as u64).count_ones() != 1 {
             return false;
         }
         let mut joined = 0_usize;
         for place in &self.places {
             for step in &place.steps {
-                joined = joined.saturating_add(self.is_joined(step) as usize);
+                if self.is_joined(step) {
+                    joined = joined.saturating_add(1);
+                }
             }
         }
         joined < count / 4
@@ -147,7 +150,7 @@ impl<'a> Growth<'a> {
         };
         let view = place.view(&self.uses);
         for cond in self.conditions {
-            explain(&view, cond, holds(cond, values), &mut wanted)?;
+            explain(&view, *cond, holds(*cond, values), &mut wanted)?;
         }
         if let Some(rule) = self.rules.get(rule) {
             for lit in rule.cube {
@@ -327,7 +330,7 @@ impl<'a> Growth<'a> {
     fn target_of(&self, number: u32, step: usize) -> u32 {
         match self.step_at(number, step) {
             Some(step) => step.target,
-            None => crate::places::NOWHERE,
+            None => NOWHERE,
         }
     }
 
@@ -379,8 +382,10 @@ impl<'a> Growth<'a> {
             decide_context(&view, outcome, &rule.onward, &step.after, &mut wanted)?;
         }
         if let Some(target) = self.places.get(step.target as usize) {
-            for lit in target.literals.iter().skip(step.settled) {
-                regress(&view, outcome, *lit, &mut wanted)?;
+            for (place, lit) in target.literals.iter().enumerate() {
+                if place >= step.settled {
+                    regress(&view, outcome, *lit, &mut wanted)?;
+                }
             }
         }
         Ok(wanted)
@@ -412,6 +417,8 @@ impl<'a> Growth<'a> {
         if rule.context != place.context {
             return None;
         }
-        place.view(&self.uses).contradiction(rule.cube, &place.example)
+        place
+            .view(&self.uses)
+            .contradiction(rule.cube, &place.example)
     }
 }

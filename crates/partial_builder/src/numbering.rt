@@ -28,7 +28,7 @@ enum Wanted {
 /// Numbers of places.
 #[derive(Drop)]
 struct Numbering {
-    is_reached: Vec<bool>,
+    reached: Vec<bool>,
     /// For each place the reached places whose outcomes lead to it.
     before: Vec<Vec<u32>>,
     /// How many outcomes of each place have no number yet.
@@ -42,14 +42,14 @@ impl Numbering {
     /// The ends have numbers.
     fn new(alloc: Global, places: &[Place], starts: &[u32]) -> Result<Numbering, AllocError> {
         let mut numbering = Numbering {
-            is_reached: Vec::new(alloc),
+            reached: Vec::new(alloc),
             before: Vec::new(alloc),
             open: Vec::new(alloc),
             numbers: Vec::new(alloc),
             order: Vec::new(alloc),
         };
         for place in places {
-            numbering.is_reached.push(false)?;
+            numbering.reached.push(false)?;
             numbering.before.push(Vec::new(alloc))?;
             numbering.open.push(place.steps.len())?;
             numbering.numbers.push(NOWHERE)?;
@@ -76,7 +76,7 @@ impl Numbering {
 
     /// Marks a place as reached; whether it wasn't.
     fn is_first_time(&mut self, number: u32) -> bool {
-        match self.is_reached.get_mut(number as usize) {
+        match self.reached.get_mut(number as usize) {
             Some(is_reached) => {
                 let is_new = !*is_reached;
                 *is_reached = true;
@@ -147,11 +147,18 @@ impl Numbering {
         }
     }
 
+    fn is_reached(&self, place: u32) -> bool {
+        match self.reached.get(place as usize) {
+            Some(is_reached) => *is_reached,
+            None => false,
+        }
+    }
+
     /// Gives numbers to the other places that are reached.
     fn number_rest(&mut self, places: &[Place]) -> Result<(), AllocError> {
-        for place in 0..places.len() {
-            if self.is_reached.get(place) == Some(&true) {
-                self.give_number(small(place))?;
+        for place in 0..small(places.len()) {
+            if self.is_reached(place) {
+                self.give_number(place)?;
             }
         }
         Ok(())
@@ -166,12 +173,7 @@ impl Numbering {
     }
 
     /// The graph, whose nodes stand in the order of their numbers.
-    fn graph(
-        &self,
-        alloc: Global,
-        places: &[Place],
-        starts: &[u32],
-    ) -> Result<Graph, AllocError> {
+    fn graph(&self, alloc: Global, places: &[Place], starts: &[u32]) -> Result<Graph, AllocError> {
         let mut graph = Graph {
             starts: Vec::new(alloc),
             nodes: Vec::new(alloc),

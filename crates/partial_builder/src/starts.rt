@@ -1,5 +1,6 @@
 //! Places that together stand for all initial states.
 
+use crate::conditions::value_at;
 use crate::growth::Growth;
 use crate::stops::Stop;
 use plan_rules::FIRST_CONTEXT;
@@ -60,7 +61,7 @@ fn is_certain(growth: &Growth<'_>, start: u32, init: &InitSpec) -> bool {
 /// Whether an alternative names a fluent that is asked for.
 fn names_asked(alternative: &Alternative, asked: &[bool]) -> bool {
     for lit in &alternative.lits {
-        if asked.get(lit.fluent.0 as usize) == Some(&true) {
+        if value_at(asked, lit.fluent) {
             return true;
         }
     }
