@@ -1,0 +1,7 @@
+pub mod Filtered
+mod PlacedMeaning
+mod Values
+mod Outcomes
+mod Widening
+mod TaskPart
+pub mod Makes

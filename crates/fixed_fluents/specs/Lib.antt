@@ -1,0 +1,4 @@
+pub mod Places
+pub mod Placed
+pub mod Runs
+pub mod Parts
