@@ -9,7 +9,7 @@ use crate::stays::Stay;
 use crate::traces::Act;
 use indexmap::IndexSet;
 use search_space::{Bits, NONE, Stop};
-use search_world::{Aim, Allowance};
+use search_world::{Aim, Allowance, World};
 use std::alloc::{AllocError, Global};
 use task_core::{ActionId, Class, Cond, Task};
 
@@ -116,9 +116,10 @@ impl<'a> Tour<'a> {
             };
             tour.stay = Some(Stay::new(alloc, task, aim, allowance)?);
         }
-        if let Some(leg) = tour.legs.first_mut() {
-            leg.world.add_initial(task)?;
-            tour.initial.extend_from_slice(&leg.world.initial)?;
+        if let Some(world) = tour.world_mut(0) {
+            world.add_initial(task)?;
+            let initial = Vec::from_slice(alloc, &world.initial)?;
+            tour.initial = initial;
         }
         for leg in 0..tour.legs.len() {
             tour.tell(leg, &[])?;
@@ -126,8 +127,20 @@ impl<'a> Tour<'a> {
         Ok(tour)
     }
 
-    /// What the plan does; `None` where there is none.
+    /// What is known on a leg, and after the last stage.
+    fn world_mut(&mut self, leg: usize) -> Option<&mut World<'a>> {
+        match (self.legs.get_mut(leg), &mut self.stay) {
+            (Some(leg), _) => Some(&mut leg.world),
+            (None, Some(stay)) => Some(&mut stay.world),
+            (None, None) => None,
+        }
+    }
+
+    /// What the plan does; `None` where there is none, or no initial state.
     pub(crate) fn solve(&mut self) -> Result<Option<Vec<Act>>, Stop> {
+        if self.initial.is_empty() {
+            return Ok(None);
+        }
         for _ in 0..u32::MAX {
             let walk = self.walk()?;
             if walk.is_whole {
@@ -216,10 +229,9 @@ impl<'a> Tour<'a> {
 
     /// The place of a state in a leg.
     fn place_of(&mut self, leg: usize, bits: &Bits) -> Result<Place, Stop> {
-        let state = match (self.legs.get_mut(leg), &mut self.stay) {
-            (Some(leg), _) => leg.world.number_of(bits)?,
-            (None, Some(stay)) => stay.world.number_of(bits)?,
-            (None, None) => NONE,
+        let state = match self.world_mut(leg) {
+            Some(world) => world.number_of(bits)?,
+            None => NONE,
         };
         Ok(Place { leg, state })
     }
@@ -252,15 +264,11 @@ impl<'a> Tour<'a> {
 
     /// Lists the outcomes of an action at a place.
     fn follow(&mut self, place: Place, action: u32) -> Result<(), Stop> {
-        self.outcomes.clear();
-        match (self.legs.get_mut(place.leg), &mut self.stay) {
-            (Some(leg), _) => leg.world.outcomes(place.state, action, &mut self.outcomes)?,
-            (None, Some(stay)) => {
-                stay.world
-                    .outcomes(place.state, action, &mut self.outcomes)?
-            }
-            (None, None) => false,
-        };
+        let mut outcomes = Vec::new(self.alloc);
+        if let Some(world) = self.world_mut(place.leg) {
+            world.outcomes(place.state, action, &mut outcomes)?;
+        }
+        self.outcomes = outcomes;
         Ok(())
     }
 
@@ -289,9 +297,10 @@ impl<'a> Tour<'a> {
 
     /// Whether an initial state is a dead end.
     fn begins_dead(&mut self) -> bool {
-        match self.legs.first_mut() {
-            Some(leg) => leg.world.some_dead(&self.initial),
-            None => true,
+        match (self.legs.first_mut(), &mut self.stay) {
+            (Some(leg), _) => leg.world.some_dead(&self.initial),
+            (None, Some(stay)) => stay.world.some_dead(&self.initial),
+            (None, None) => true,
         }
     }
 
@@ -315,8 +324,8 @@ impl<'a> Tour<'a> {
         let before = self.leg_before(number);
         let is_patrol = self.stay.is_none();
         for (place, leg) in self.legs.iter_mut().enumerate() {
-            let is_other = place < number || is_patrol && place != number;
-            if place == before || is_shared && is_other {
+            let is_meant = place < number || is_patrol;
+            if place == before || is_shared && is_meant {
                 for part in &parts {
                     leg.refuse(*part, is_shared && place != number)?;
                 }
