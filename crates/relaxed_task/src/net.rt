@@ -224,8 +224,10 @@ impl Draft {
         Ok(fact)
     }
 
-    /// Has an action need one of these facts, too.
+    /// Has an action need one of these facts, too. What has to be had after the goal counts no more then:
+    /// the need is one of the way to the goal alone.
     pub fn demand(&mut self, action: u32, facts: &[u32]) -> Result<(), AllocError> {
+        self.whole = self.goal;
         let need = match facts {
             [fact] => *fact,
             _ => {

@@ -219,10 +219,13 @@ impl<'a> World<'a> {
     ) -> Result<bool, Stop> {
         list.clear();
         let state = self.states.bits_of(number);
+        if !self.is_guarded(&state) {
+            return Ok(false);
+        }
         let Some(of) = self.actions.get(action) else {
             return Ok(false);
         };
-        if !of.test.holds(&state) || !self.is_guarded(&state) {
+        if !of.test.holds(&state) {
             return Ok(false);
         }
         let mut is_some = false;
