@@ -1,12 +1,13 @@
 -- The two files of a domain and a problem decide the answer, if what follows their reading does.
-use Rattle.std.proofs.Common.{◌≡◌, ◌≢◌, ◌⊎◌, inl, inr, sym, subst, ap, ◌∙◌, None, true}
+use Rattle.std.proofs.Common.{◌≡◌, ◌≢◌, inl, inr, sym, subst, ap, ◌∙◌, None, Option, Some, true}
 use Rattle.std.proofs.lemmas.Bool.{false≢true}
 use Rattle.std.proofs.lemmas.Option.{same_Some}
 use Rattle.plan_io.specs.Held.{Held, Untold}
 use Rattle.pddl_ast.specs.Trees.{DomainTree, ProblemTree}
 use Rattle.domain_read.specs.Domains.{SpellsDomain}
 use Rattle.pddl_system.specs.Sizes.{first_passed}
-use Rattle.command_base.specs.Answers.{Answer, Refusal, refused, text_fault, over_limit, no_memory, is_shown}
+use Rattle.command_base.specs.Answers.{Answer, Refusal, refused, text_fault, over_limit, is_shown}
+use Rattle.command_base.specs.Courses.{Course, IsAnswerIn, task_course}
 use Rattle.command_base.specs.Grounding.{GoalThen, GroundThen, has_goal_for, limit_name}
 use Rattle.command_base.specs.OneReading.{OneReading}
 use Rattle.command_base.specs.PddlTexts.{SpellsProblemOf, IsFaultyDomain, IsFaultyProblem, HoldBoth, ReadAsBoth, ReadBoth}
@@ -52,26 +53,6 @@ both_as one held failed domain problem Then d p a told told' quiet both answer =
     (λ (e : DomainTree). ReadThen held failed problem (SpellsProblemOf e) (IsFaultyProblem e) (λ q. Then e q)) d a
     told (quiet domain) (domain_grammar one) both.holds_domain answer)
 
--- an answer after both files were read
-pub after_both : (held : Bytes → Held) (failed : Bytes → Type 0) (domain problem : Bytes) (Then : DomainTree → ProblemTree → Answer → Type 0)
-    (d : DomainTree) (p : ProblemTree) (a : Answer) → HoldBoth held domain problem d p → (a ≡ refused no_memory) ⊎ Then d p a
-    → (a ≡ refused no_memory) ⊎ ReadBoth held failed domain problem Then a
-after_both held failed domain problem Then d p a both (inl memory) = inl memory
-after_both held failed domain problem Then d p a both (inr then) = inr (inr (d, both.holds_domain, inr (p, both.holds_problem, then)))
-
--- one of the files is refused, whatever would follow
-refused_before : (held : Bytes → Held) (failed : Bytes → Type 0) (domain problem : Bytes) (Then : DomainTree → ProblemTree → Answer → Type 0) (a : Answer)
-    → ReadBoth held failed domain problem (λ d p b. ⊥) a → ReadBoth held failed domain problem Then a
-refused_before held failed domain problem Then a (inl why) = inl why
-refused_before held failed domain problem Then a (inr (d, holds, inl why)) = inr (d, holds, inl why)
-refused_before held failed domain problem Then a (inr (d, holds, inr (p, holds', never))) = absurd never
-
-pub refused_both : (held : Bytes → Held) (failed : Bytes → Type 0) (domain problem : Bytes) (Then : DomainTree → ProblemTree → Answer → Type 0) (r : Refusal)
-    → (refused r ≡ refused no_memory) ⊎ ReadBoth held failed domain problem (λ d p b. ⊥) (refused r)
-    → (refused r ≡ refused no_memory) ⊎ ReadBoth held failed domain problem Then (refused r)
-refused_both held failed domain problem Then r (inl memory) = inl memory
-refused_both held failed domain problem Then r (inr why) = inr (refused_before held failed domain problem Then (refused r) why)
-
 -- the goal's kind, and the limits, decide the answer, if what follows does
 pub goal_decides : (kind : PlanKind) (name : Bytes) (problem : ProblemTree) (Then Then' : Answer → Type 0) → Decides Then Then'
     → Decides (GoalThen kind name problem Then) (GoalThen kind name problem Then')
@@ -87,6 +68,20 @@ ground_decides domain problem Then Then' next a b (inl (l, passed, is)) (inl (m,
 ground_decides domain problem Then Then' next a b (inl (l, passed, is)) (inr (kept, then)) = absurd (cc (passed, kept))
 ground_decides domain problem Then Then' next a b (inr (kept, then)) (inl (l, passed, is)) = absurd (cc (passed, kept))
 ground_decides domain problem Then Then' next a b (inr (kept, then)) (inr (kept', then')) = next a b then then'
+
+-- and so what a task that is loaded is followed by
+pub task_decides : OneReading → (held : Bytes → Held) (failed failed' : Bytes → Type 0) (domain problem : Bytes) (wanted : Option PlanKind) (Then : DomainTree → ProblemTree → Course)
+    → held domain ≢ Untold → held problem ≢ Untold → ((file : Bytes) → failed file → ⊥) → ((file : Bytes) → failed' file → ⊥)
+    → ((d : DomainTree) (p : ProblemTree) → Decides (IsAnswerIn held failed (Then d p)) (IsAnswerIn held failed' (Then d p)))
+    → Decides (IsAnswerIn held failed (task_course domain problem wanted Then)) (IsAnswerIn held failed' (task_course domain problem wanted Then))
+task_decides one held failed failed' domain problem None Then told told' quiet quiet' next =
+    both_decides one held failed failed' domain problem (λ d p. GroundThen d p (IsAnswerIn held failed (Then d p))) (λ d p. GroundThen d p (IsAnswerIn held failed' (Then d p))) told told' quiet quiet'
+    (λ d p. ground_decides d p (IsAnswerIn held failed (Then d p)) (IsAnswerIn held failed' (Then d p)) (next d p))
+task_decides one held failed failed' domain problem (Some kind) Then told told' quiet quiet' next =
+    both_decides one held failed failed' domain problem (λ d p. GoalThen kind problem p (GroundThen d p (IsAnswerIn held failed (Then d p))))
+    (λ d p. GoalThen kind problem p (GroundThen d p (IsAnswerIn held failed' (Then d p)))) told told' quiet quiet'
+    (λ d p. goal_decides kind problem p (GroundThen d p (IsAnswerIn held failed (Then d p))) (GroundThen d p (IsAnswerIn held failed' (Then d p)))
+    (ground_decides d p (IsAnswerIn held failed (Then d p)) (IsAnswerIn held failed' (Then d p)) (next d p)))
 
 -- an answer that is shown is none of the refusals
 pub not_refused : (refusal : Refusal) (a : Answer) → a ≡ refused refusal → is_shown a ≡ true → ⊥
