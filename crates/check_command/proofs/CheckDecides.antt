@@ -15,6 +15,7 @@ use Rattle.sexpr_text.specs.declared.forms.Place.{Place}
 use Rattle.task_core.specs.Systems.{System}
 use Rattle.command_base.specs.Answers.{Answer}
 use Rattle.check_command.specs.CheckCommand.{ExploreThen, IsCheckAnswer, IsVerdictOf, PlacedThen, ShowsVerdict, VerdictThen, verdict_answer}
+use Rattle.command_base.specs.Courses.{Course, answers, of_plan}
 use Rattle.command_base.specs.Following.{HasTooManyStates}
 use Rattle.command_base.specs.InitialStates.{empty_init}
 use Rattle.command_base.specs.PlanFiles.{KindThen, PlacedPlan}
@@ -24,7 +25,7 @@ use Rattle.command_base.proofs.Deciding.{Decides}
 use Rattle.command_base.proofs.Initials.{initial_decides}
 use Rattle.command_base.specs.OneReading.{OneReading}
 use Rattle.command_base.proofs.PddlDecides.{task_decides}
-use Rattle.command_base.proofs.PlanDecides.{plan_decides}
+use Rattle.command_base.proofs.PlanDecides.{plan_file_decides}
 
 -- no plan has two verdicts
 one_of_kind : (kind : PlanKind) (d : DomainTree) (p : ProblemTree) (plan : PlainPlan) (v w : Verdict) → IsVerdictOf kind d p plan v → IsVerdictOf kind d p plan w → v ≡ w
@@ -73,5 +74,6 @@ pub check_decides : OneReading → (held : Bytes → Held) (failed failed' : Byt
     → ((file : Bytes) → failed file → ⊥) → ((file : Bytes) → failed' file → ⊥)
     → Decides (IsCheckAnswer held failed asked) (IsCheckAnswer held failed' asked)
 check_decides one held failed failed' asked told told' told'' quiet quiet' =
-    task_decides one held failed failed' asked.domain asked.problem (Some asked.kind) _ told told' quiet quiet' (λ d p.
-    plan_decides one held failed failed' (fluent_names d p) (action_names d p) asked.plan _ told'' quiet quiet' (λ placed. placed_decides asked d p placed))
+    let judged : DomainTree → ProblemTree → PlacedPlan → Course = λ d p placed. answers (PlacedThen asked d p placed) in
+    task_decides one held failed failed' asked.domain asked.problem (Some asked.kind) (λ d p. of_plan (fluent_names d p) (action_names d p) asked.plan (judged d p)) told told' quiet quiet' (λ d p.
+    plan_file_decides one held failed failed' (fluent_names d p) (action_names d p) asked.plan (judged d p) told'' quiet quiet' (λ placed. placed_decides asked d p placed))

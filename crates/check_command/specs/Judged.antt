@@ -1,5 +1,5 @@
 -- Private: the verdict on a plan of a task and its goal in computation tree logic.
-use Rattle.std.specs.Prelude.{◌≡◌, IsSome, Option, Some, true}
+use Rattle.std.specs.Prelude.{◌≡◌, IsSome, Option, Some}
 use Rattle.ctl_syntax.specs.Values.{ctl_value}
 use Rattle.ctl_syntax.specs.declared.goals.Ctl.{Ctl}
 use Rattle.plan_check.specs.ContextVerdicts.{IsContextVerdict, IsTrueAt}
@@ -7,29 +7,14 @@ use Rattle.plan_check.specs.Verdicts.{IsVerdict}
 use Rattle.plan_check.specs.declared.verdicts.Verdict.{Verdict}
 use Rattle.plan_rules.specs.Denoted.{denoted_contexts}
 use Rattle.plan_rules.specs.Rules.{PlainPlan, table, automaton}
-use Rattle.task_core.specs.Tasks.{action_count, fluent_count, system_of}
+use Rattle.task_core.specs.Tasks.{system_of}
 use Rattle.task_core.specs.declared.tasks.Task.{Task}
-use Rattle.pddl_ast.specs.Values.{domain_value, problem_value}
-use Rattle.plan_rules.specs.Plans.{IsPlanOf}
-use Rattle.command_base.specs.Grounded.{IsGroundedOf}
-use Rattle.command_base.specs.Grounding.{has_goal_for}
-use Rattle.command_base.specs.Values.{kind_of}
 use Rattle.command_base.specs.Words.{PlanKind, of_class, with_contexts}
-use Rattle.command_base.specs.declared.loaded_plans.LoadedPlan.{LoadedPlan}
-use Rattle.command_base.specs.declared.words.CheckWords.{CheckWords}
 
 -- there is a goal for plans of the kind
 abbrev pub HasGoalIn : PlanKind → Task → Option Ctl → Type 0
 HasGoalIn (of_class class) task goal = IsSome task.goal
 HasGoalIn with_contexts task goal = IsSome goal
-
--- a plan was loaded with its task, which has a goal for plans of the kind
-pub record IsToBeChecked (asked : CheckWords) (loaded : LoadedPlan) : Type 0 where
-  pub goal : has_goal_for (kind_of asked.kind) (problem_value loaded.task.problem) ≡ true
-  pub grounded : IsGroundedOf (domain_value loaded.task.domain) (problem_value loaded.task.problem)
-      loaded.task.grounded
-  pub in_task : IsPlanOf (fluent_count loaded.task.grounded.task)
-      (action_count loaded.task.grounded.task) loaded.read.plan
 
 -- the verdict on a plan of the kind
 abbrev pub IsTaskVerdict : PlanKind → Task → Option Ctl → PlainPlan → Verdict → Type 0

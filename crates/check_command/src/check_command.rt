@@ -37,16 +37,16 @@ use task_core::Task;
 
 /// The command `check`: the verdict on the plan in a file, for the domain and the problem in two files.
 #[derive(Drop)]
-pub struct Check<'a> {
+pub struct CheckJob<'a> {
     pub asked: CheckWords<'a>,
 }
 
-impl Job for Check<'_> {
+impl Job for CheckJob<'_> {
     ghost use Rattle.check_command.specs.CheckCommand.{PlacedThen, check_course};
-    ghost use Rattle.check_command.specs.Judged.{IsToBeChecked};
-    ghost use Rattle.command_base.specs.Values.{check_words_of, placed_of};
+    ghost use Rattle.command_base.specs.Loading.{IsLoadedPlan};
+    ghost use Rattle.command_base.specs.Values.{check_words_of, kind_of, placed_of};
     ghost use Rattle.pddl_ast.specs.Values.{domain_value, problem_value};
-    ghost use Rattle.std.specs.Prelude.{⊤};
+    ghost use Rattle.std.specs.Prelude.{Some, ⊤};
 
     type Loaded = LoadedPlan;
 
@@ -54,7 +54,7 @@ impl Job for Check<'_> {
 
     ghost allowed = { λ self. ⊤ };
 
-    ghost fits = { λ self loaded. IsToBeChecked self.asked loaded };
+    ghost fits = { λ self loaded. IsLoadedPlan (Some (kind_of self.asked.kind)) loaded };
 
     ghost follows = { λ self loaded. PlacedThen (check_words_of self.asked)
         (domain_value loaded.task.domain) (problem_value loaded.task.problem)

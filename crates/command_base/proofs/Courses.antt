@@ -12,7 +12,7 @@ use Rattle.plan_rules.specs.Readings.{HasPlanFault}
 use Rattle.sexpr_text.specs.declared.faults.FaultKind.TheVariants.{WrongGoalKind}
 use Rattle.sexpr_text.specs.declared.faults.InputFault.{InputFault}
 use Rattle.command_base.specs.Answers.{Answer, Refusal, no_memory, over_limit, refused, text_fault}
-use Rattle.command_base.specs.Courses.{CarriedOut, Course, GoesIn, IsAnswerIn, IsFaulty, Stops, answers, begun, goal_course, of_file, of_goal, of_limits, plan_course, task_course, task_plan_course, texts_course}
+use Rattle.command_base.specs.Courses.{CarriedOut, Course, GoesIn, IsAnswerIn, IsFaulty, Stops, answers, begun, goal_course, of_file, of_goal, of_limits, of_plan, task_course, task_plan_course, texts_course}
 use Rattle.command_base.specs.Faults.{IsQuietAt}
 use Rattle.command_base.specs.Grounding.{GoalThen, GroundThen, has_wanted, limit_name}
 use Rattle.command_base.specs.Loading.{AreTextsRead, FetchesText, IsLoaded, LoadsPlan, LoadsTask, ReadsFile}
@@ -222,7 +222,7 @@ module _ {S : Type 0} (held : S → Bytes → Held) (faults : S → ℕ) (fetche
 
   -- the task was loaded, and then the course went on
   pub then_task : (files : TaskFiles) (Then : DomainTree → ProblemTree → Course) (loaded : LoadedTask) (a : Answer) (before between after : S)
-      → IsLoaded files loaded → LoadsTask held faults fetched files loaded before between
+      → IsLoaded (wanted_of files.goal) loaded → LoadsTask held faults fetched files loaded before between
       → Carried (Then (domain_value loaded.domain) (problem_value loaded.problem)) a between after → Carried (task_course files.domain.now files.problem.now (wanted_of files.goal) Then) a before after
   then_task files Then loaded a before between after is loads carried =
       let domain = domain_value loaded.domain in
@@ -239,13 +239,13 @@ module _ {S : Type 0} (held : S → Bytes → Held) (faults : S → ℕ) (fetche
 
   -- the plan was loaded too
   pub then_plan : (files : TaskFiles) (name : Bytes) (Then : DomainTree → ProblemTree → PlacedPlan → Course) (loaded : LoadedPlan) (a : Answer) (before between after : S)
-      → IsLoaded files loaded.task → LoadsPlan held faults fetched files name loaded before between
+      → IsLoaded (wanted_of files.goal) loaded.task → LoadsPlan held faults fetched files name loaded before between
       → Carried (Then (domain_value loaded.task.domain) (problem_value loaded.task.problem) (placed_of loaded.read)) a between after
       → Carried (task_plan_course files.domain.now files.problem.now (wanted_of files.goal) name Then) a before after
   then_plan files name Then loaded a before between after is loads carried =
       let domain = domain_value loaded.task.domain in
       let problem = problem_value loaded.task.problem in
-      then_task files (λ d p. plan_course (fluent_names d p) (action_names d p) name (Then d p)) loaded.task a before loads.between after is loads.task
+      then_task files (λ d p. of_plan (fluent_names d p) (action_names d p) name (Then d p)) loaded.task a before loads.between after is loads.task
       (then_file name (SpellsPlaced (fluent_names domain problem) (action_names domain problem)) (HasPlanFault (fluent_names domain problem) (action_names domain problem)) (Then domain problem) (placed_of loaded.read) a
       loads.between between after loads.plan carried)
 
@@ -256,8 +256,8 @@ module _ {S : Type 0} (held : S → Bytes → Held) (faults : S → ℕ) (fetche
     failed = FailedLast fetched faults before after
 
     last : (domain : DomainTree) (problem : ProblemTree) (between : S)
-        → GoesIn (held before) failed fetched (of_limits domain problem (plan_course (fluent_names domain problem) (action_names domain problem) name (λ placed. begun))) a between after
-        → GoesIn (held before) failed fetched (of_limits domain problem (plan_course (fluent_names domain problem) (action_names domain problem) name (Then domain problem))) a between after
+        → GoesIn (held before) failed fetched (of_limits domain problem (of_plan (fluent_names domain problem) (action_names domain problem) name (λ placed. begun))) a between after
+        → GoesIn (held before) failed fetched (of_limits domain problem (of_plan (fluent_names domain problem) (action_names domain problem) name (Then domain problem))) a between after
     last domain problem between (inl stops) = inl stops
     last domain problem between (inr (within, (z, third, inl stops))) = inr (within, (z, third, inl stops))
     last domain problem between (inr (within, (z, third, inr (placed, holds, never)))) = absurd never

@@ -8,10 +8,10 @@ use Rattle.domain_read.specs.Domains.{SpellsDomain}
 use Rattle.pddl_system.specs.Sizes.{first_passed}
 use Rattle.command_base.specs.Answers.{Answer, Refusal, refused, text_fault, over_limit, is_shown}
 use Rattle.command_base.specs.Courses.{Course, IsAnswerIn, task_course}
-use Rattle.command_base.specs.Grounding.{GoalThen, GroundThen, has_goal_for, limit_name}
+use Rattle.command_base.specs.Grounding.{GoalThen, GroundThen, has_goal_for, has_wanted, limit_name}
 use Rattle.command_base.specs.OneReading.{OneReading}
 use Rattle.command_base.specs.PddlTexts.{SpellsProblemOf, IsFaultyDomain, IsFaultyProblem, HoldBoth, ReadAsBoth, ReadBoth}
-use Rattle.command_base.specs.Reading.{ReadThen}
+use Rattle.command_base.specs.Reading.{Holds, ReadThen}
 use Rattle.command_base.specs.Words.{Bytes, PlanKind}
 use Rattle.command_base.proofs.Deciding.{Decides, IsGrammar, read_decides, read_as}
 
@@ -125,6 +125,46 @@ pub with_goal : (kind : PlanKind) (name : Bytes) (problem : ProblemTree) (Then :
     → GoalThen kind name problem Then a → Then a
 with_goal kind name problem Then a some (inl (none, is)) = absurd (false≢true (sym none ∙ some))
 with_goal kind name problem Then a some (inr (some', then)) = then
+
+-- what is shown of a task comes after it was loaded
+pub record ReadTask (held : Bytes → Held) (failed : Bytes → Type 0) (domain_name problem_name : Bytes) (Then : DomainTree → ProblemTree → Course) (answer : Answer) : Type 0 where
+  pub domain : DomainTree
+  pub problem : ProblemTree
+  pub both : HoldBoth held domain_name problem_name domain problem
+  pub within : first_passed domain problem ≡ None
+  pub then : IsAnswerIn held failed (Then domain problem) answer
+
+pub shown_task : (held : Bytes → Held) (failed : Bytes → Type 0) (domain problem : Bytes) (wanted : Option PlanKind) (Then : DomainTree → ProblemTree → Course) (a : Answer)
+    → is_shown a ≡ true → IsAnswerIn held failed (task_course domain problem wanted Then) a → ReadTask held failed domain problem Then a
+shown_task held failed domain problem wanted Then a shown (inl (r, is, why)) = absurd (not_refused r a is shown)
+shown_task held failed domain problem wanted Then a shown (inr (d, holds, inl (r, is, why))) = absurd (not_refused r a is shown)
+shown_task held failed domain problem None Then a shown (inr (d, holds, inr (p, holds', inl (l, passed, is)))) = absurd (not_refused _ a is shown)
+shown_task held failed domain problem None Then a shown (inr (d, holds, inr (p, holds', inr (within, then)))) =
+    record { domain = d; problem = p; both = record { holds_domain = holds; holds_problem = holds' }; within = within; then = then }
+shown_task held failed domain problem (Some kind) Then a shown (inr (d, holds, inr (p, holds', inl (none, is)))) = absurd (not_refused _ a is shown)
+shown_task held failed domain problem (Some kind) Then a shown (inr (d, holds, inr (p, holds', inr (some, inl (l, passed, is))))) = absurd (not_refused _ a is shown)
+shown_task held failed domain problem (Some kind) Then a shown (inr (d, holds, inr (p, holds', inr (some, inr (within, then))))) =
+    record { domain = d; problem = p; both = record { holds_domain = holds; holds_problem = holds' }; within = within; then = then }
+
+-- and so of a further file
+pub shown_file : {X : Type 0} (held : Bytes → Held) (failed : Bytes → Type 0) (name : Bytes) (Spells : Bytes → X → Type 0) (Wrong : Bytes → Bytes → Refusal → Type 0) (Then : X → Answer → Type 0) (a : Answer)
+    → is_shown a ≡ true → ReadThen held failed name Spells Wrong Then a → (tree : X) × Holds held Spells name tree × Then tree a
+shown_file held failed name Spells Wrong Then a shown (inl (r, is, why)) = absurd (not_refused r a is shown)
+shown_file held failed name Spells Wrong Then a shown (inr read) = read
+
+-- where the files spell a domain and a problem of it, which has the goal that is wanted and is within the
+-- limits, the answer is what follows
+pub task_as : OneReading → (held : Bytes → Held) (failed : Bytes → Type 0) (domain problem : Bytes) (wanted : Option PlanKind) (Then : DomainTree → ProblemTree → Course)
+    (d : DomainTree) (p : ProblemTree) (a : Answer) → held domain ≢ Untold → held problem ≢ Untold → ((file : Bytes) → failed file → ⊥)
+    → HoldBoth held domain problem d p → has_wanted wanted p ≡ true → first_passed d p ≡ None
+    → IsAnswerIn held failed (task_course domain problem wanted Then) a → IsAnswerIn held failed (Then d p) a
+task_as one held failed domain problem None Then d p a told told' quiet both some within answer =
+    within_limits d p (IsAnswerIn held failed (Then d p)) a within
+    (both_as one held failed domain problem (λ e q. GroundThen e q (IsAnswerIn held failed (Then e q))) d p a told told' quiet both answer)
+task_as one held failed domain problem (Some kind) Then d p a told told' quiet both some within answer =
+    within_limits d p (IsAnswerIn held failed (Then d p)) a within
+    (with_goal kind problem p (GroundThen d p (IsAnswerIn held failed (Then d p))) a some
+    (both_as one held failed domain problem (λ e q. GoalThen kind problem q (GroundThen e q (IsAnswerIn held failed (Then e q)))) d p a told told' quiet both answer))
 
 -- files that spell a domain and a problem read as these
 pub as_read : (held : Bytes → Held) (domain_name problem_name : Bytes) (domain : DomainTree) (problem : ProblemTree) → HoldBoth held domain_name problem_name domain problem

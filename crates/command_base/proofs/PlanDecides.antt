@@ -7,7 +7,7 @@ use Rattle.sexpr_text.specs.declared.forms.Place.{Place}
 use Rattle.task_core.specs.Names.{Name}
 use Rattle.plan_io.specs.Held.{Held, Untold}
 use Rattle.command_base.specs.Answers.{text_fault}
-use Rattle.command_base.specs.Courses.{Course, IsAnswerIn, plan_course}
+use Rattle.command_base.specs.Courses.{Course, IsAnswerIn, of_plan}
 use Rattle.command_base.specs.PlanFiles.{IsFaultyPlan, PlacedPlan, SpellsPlaced}
 use Rattle.command_base.specs.Words.{Bytes}
 use Rattle.command_base.proofs.Deciding.{Decides, IsGrammar, read_decides}
@@ -28,10 +28,10 @@ plan_grammar one fluents actions = record {
 }
 
 -- a plan decides the answer, if what follows it does
-pub plan_decides : OneReading → (held : Bytes → Held) (failed failed' : Bytes → Type 0) (fluents actions : List Name) (name : Bytes) (Then : PlacedPlan → Course)
+pub plan_file_decides : OneReading → (held : Bytes → Held) (failed failed' : Bytes → Type 0) (fluents actions : List Name) (name : Bytes) (Then : PlacedPlan → Course)
     → held name ≢ Untold → ((file : Bytes) → failed file → ⊥) → ((file : Bytes) → failed' file → ⊥)
     → ((placed : PlacedPlan) → Decides (IsAnswerIn held failed (Then placed)) (IsAnswerIn held failed' (Then placed)))
-    → Decides (IsAnswerIn held failed (plan_course fluents actions name Then)) (IsAnswerIn held failed' (plan_course fluents actions name Then))
-plan_decides one held failed failed' fluents actions name Then told quiet quiet' next =
+    → Decides (IsAnswerIn held failed (of_plan fluents actions name Then)) (IsAnswerIn held failed' (of_plan fluents actions name Then))
+plan_file_decides one held failed failed' fluents actions name Then told quiet quiet' next =
     read_decides held failed failed' name (SpellsPlaced fluents actions) (IsFaultyPlan fluents actions) (λ placed. IsAnswerIn held failed (Then placed)) (λ placed. IsAnswerIn held failed' (Then placed))
     told (quiet name) (quiet' name) (plan_grammar one fluents actions) (λ placed holds. next placed)

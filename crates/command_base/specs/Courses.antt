@@ -100,8 +100,8 @@ task_course domain_name problem_name wanted Then =
     goal_course wanted problem_name problem (of_limits domain problem (Then domain problem)))
 
 -- a plan over these names is read
-abbrev pub plan_course : List Name → List Name → Bytes → (PlacedPlan → Course) → Course
-plan_course fluents actions name Then =
+abbrev pub of_plan : List Name → List Name → Bytes → (PlacedPlan → Course) → Course
+of_plan fluents actions name Then =
     of_file name (SpellsPlaced fluents actions) (HasPlanFault fluents actions) Then
 
 -- a plan is read after the task
@@ -109,5 +109,5 @@ abbrev pub task_plan_course : Bytes → Bytes → Option PlanKind → Bytes
     → (DomainTree → ProblemTree → PlacedPlan → Course) → Course
 task_plan_course domain_name problem_name wanted plan_name Then =
     task_course domain_name problem_name wanted (λ domain problem.
-    plan_course (fluent_names domain problem) (action_names domain problem) plan_name
+    of_plan (fluent_names domain problem) (action_names domain problem) plan_name
     (Then domain problem))

@@ -1,19 +1,21 @@
 -- What a step of loading leaves: a text that was fetched, a tree that it spells, the trees of a domain and
 -- a problem, and their task. `held`, `faults` and `fetched` are what the shelf tells.
-use Rattle.std.specs.Prelude.{◌≡◌, ℕ, true}
+use Rattle.std.specs.Prelude.{◌≡◌, ℕ, Option, true}
 use Rattle.pddl_ast.specs.Fits.{FitsDomain, FitsProblem}
 use Rattle.pddl_ast.specs.Values.{domain_value, problem_value}
 use Rattle.domain_read.specs.Domains.{SpellsDomain}
 use Rattle.pddl_system.specs.Names.{NamesAreWords}
 use Rattle.pddl_system.specs.Systems.{action_names, fluent_names}
 use Rattle.plan_io.specs.Held.{Held}
+use Rattle.plan_rules.specs.Plans.{IsPlanOf}
+use Rattle.task_core.specs.Tasks.{action_count, fluent_count}
 use Rattle.command_base.specs.Grounded.{IsGroundedOf}
 use Rattle.command_base.specs.Grounding.{has_wanted}
 use Rattle.command_base.specs.PddlTexts.{SpellsProblemOf}
 use Rattle.command_base.specs.PlanFiles.{SpellsPlaced}
 use Rattle.command_base.specs.Reading.{IsFile}
-use Rattle.command_base.specs.Values.{placed_of, wanted_of}
-use Rattle.command_base.specs.Words.{Bytes}
+use Rattle.command_base.specs.Values.{placed_of}
+use Rattle.command_base.specs.Words.{Bytes, PlanKind}
 use Rattle.command_base.specs.declared.loaded_plans.LoadedPlan.{LoadedPlan}
 use Rattle.command_base.specs.declared.loading.LoadedTask.{LoadedTask}
 use Rattle.command_base.specs.declared.loading.TaskFiles.{TaskFiles}
@@ -50,10 +52,16 @@ pub record AreTextsRead {S : Type 0} (held : S → Bytes → Held) (faults : S �
   pub names : NamesAreWords (domain_value read.file.domain) (problem_value read.problem)
 
 -- what was loaded is a task with its goals, of the domain and the problem, which has what is wanted
-pub record IsLoaded (files : TaskFiles) (loaded : LoadedTask) : Type 0 where
-  pub goal : has_wanted (wanted_of files.goal) (problem_value loaded.problem) ≡ true
+pub record IsLoaded (wanted : Option PlanKind) (loaded : LoadedTask) : Type 0 where
+  pub goal : has_wanted wanted (problem_value loaded.problem) ≡ true
   pub grounded : IsGroundedOf (domain_value loaded.domain) (problem_value loaded.problem)
       loaded.grounded
+
+-- and so with a plan for the task
+pub record IsLoadedPlan (wanted : Option PlanKind) (loaded : LoadedPlan) : Type 0 where
+  pub task : IsLoaded wanted loaded.task
+  pub in_task : IsPlanOf (fluent_count loaded.task.grounded.task)
+      (action_count loaded.task.grounded.task) loaded.read.plan
 
 -- the domain and the problem that were loaded stand in their files, which were fetched in turn
 pub record LoadsTask {S : Type 0} (held : S → Bytes → Held) (faults : S → ℕ)

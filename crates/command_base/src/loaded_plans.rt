@@ -4,11 +4,11 @@ ghost use Rattle.command_base.specs.Answers.{refused};
 ghost use Rattle.command_base.specs.Courses.{
   CarriedOut,
   begun,
-  plan_course,
+  of_plan,
   task_plan_course,
 };
 ghost use Rattle.command_base.specs.Grounded.{IsGroundedOf};
-ghost use Rattle.command_base.specs.Loading.{IsLoaded, LoadsPlan, ReadsFile};
+ghost use Rattle.command_base.specs.Loading.{IsLoadedPlan, LoadsPlan, ReadsFile};
 ghost use Rattle.command_base.specs.PlanFiles.{SpellsPlaced};
 ghost use Rattle.command_base.specs.Values.{placed_of, refusal_of, wanted_of};
 ghost use Rattle.pddl_ast.specs.Values.{domain_value, problem_value};
@@ -39,9 +39,7 @@ pub fn load_with_plan<S: Shelf>(
     files: &TaskFiles<'_>,
     plan: &str,
 ) -> Result<LoadedPlan, Refusal>
-    ensures loaded { IfOk result (λ loaded. IsLoaded files.now loaded.task) }
-    ensures in_task { IfOk result (λ loaded. IsPlanOf (fluent_count loaded.task.grounded.task)
-        (action_count loaded.task.grounded.task) loaded.read.plan) }
+    ensures loaded { IfOk result (IsLoadedPlan (wanted_of files.now.goal)) }
     ensures loads { IfOk result (λ loaded.
         LoadsPlan S.held S.faults S.fetched files.now plan.now loaded shelf.old shelf.new) }
     ensures refused { IfErr result (λ refusal. CarriedOut S.held S.faults S.fetched
@@ -73,7 +71,7 @@ fn read_plan_file<S: Shelf>(
     ensures refused { let domain = domain_value loaded.now.domain in
         let problem = problem_value loaded.now.problem in
         IfErr result (λ refusal. CarriedOut S.held S.faults S.fetched
-        (plan_course (fluent_names domain problem) (action_names domain problem) name.now
+        (of_plan (fluent_names domain problem) (action_names domain problem) name.now
         (λ placed. begun)) (refused (refusal_of refusal)) shelf.old shelf.new) }
 {
     let bytes = fetch(alloc, shelf, name)?;

@@ -39,7 +39,7 @@ pub fn load<S: Shelf>(
     shelf: &mut S,
     files: &TaskFiles<'_>,
 ) -> Result<LoadedTask, Refusal>
-    ensures loaded { IfOk result (IsLoaded files.now) }
+    ensures loaded { IfOk result (IsLoaded (wanted_of files.now.goal)) }
     ensures loads { IfOk result (λ loaded.
         LoadsTask S.held S.faults S.fetched files.now loaded shelf.old shelf.new) }
     ensures refused { IfErr result (λ refusal. CarriedOut S.held S.faults S.fetched

@@ -2,14 +2,14 @@ use Rattle.std.proofs.lemmas.Result.{err_from_is_err_and}
 use Rattle.pddl_ast.specs.Trees.{DomainTree, ProblemTree}
 use Rattle.pddl_system.specs.Systems.{action_names, fluent_names}
 use Rattle.command_base.specs.Answers.{refused}
-use Rattle.command_base.specs.Courses.{Course, begun, plan_course}
+use Rattle.command_base.specs.Courses.{Course, begun, of_plan}
 use Rattle.command_base.specs.Values.{refusal_of, wanted_of}
 use Rattle.command_base.specs.Words.{Bytes}
 use Rattle.command_base.proofs.Courses.{task_stops, then_task}
 use Rattle.command_base.proofs.loaded_plans.load_with_plan.Goals as goal
 
 abbrev plan_after : Bytes → DomainTree → ProblemTree → Course
-plan_after name d p = plan_course (fluent_names d p) (action_names d p) name (λ placed. begun)
+plan_after name d p = of_plan (fluent_names d p) (action_names d p) name (λ placed. begun)
 
 pub returns-in_err-task-clause-refused : goal.returns-in_err-task-clause-refused
 returns-in_err-task-clause-refused g c =
