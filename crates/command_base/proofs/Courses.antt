@@ -1,5 +1,5 @@
 -- What follows from the course of a command, and how the courses of its steps make its own.
-use Rattle.std.proofs.Common.{◌≡◌, ◌≤◌, ◌⊎◌, ℕ, List, [], ◌∷◌, inl, inr, refl, sym, subst, ap, ◌∙◌, None, Some, Option, true, false}
+use Rattle.std.proofs.Common.{◌≡◌, ◌≤◌, ◌⊎◌, ℕ, inl, inr, refl, sym, subst, ap, ◌∙◌, None, Some, Option, true, false, arith}
 use Rattle.std.proofs.lemmas.Bool.{false≢true}
 use Rattle.pddl_ast.specs.Trees.{DomainTree, ProblemTree}
 use Rattle.domain_read.specs.Domains.{HasDomainFault, SpellsDomain}
@@ -14,11 +14,11 @@ use Rattle.sexpr_text.specs.declared.faults.InputFault.{InputFault}
 use Rattle.command_base.specs.Answers.{Answer, Refusal, no_memory, over_limit, refused, text_fault}
 use Rattle.command_base.specs.Courses.{CarriedOut, Course, GoesIn, IsAnswerIn, IsFaulty, Stops, answers, begun, goal_course, of_file, of_goal, of_limits, of_plan, task_course, task_plan_course, texts_course}
 use Rattle.command_base.specs.Faults.{IsQuietAt}
-use Rattle.command_base.specs.Grounding.{GoalThen, GroundThen, has_wanted, limit_name}
+use Rattle.command_base.specs.Grounding.{has_wanted, limit_name}
 use Rattle.command_base.specs.Loading.{AreTextsRead, FetchesText, IsLoaded, LoadsPlan, LoadsTask, ReadsFile}
 use Rattle.command_base.specs.PddlTexts.{SpellsProblemOf}
 use Rattle.command_base.specs.PlanFiles.{PlacedPlan, SpellsPlaced}
-use Rattle.command_base.specs.Reading.{Holds, IsRefusedFile, IsTooLong, IsUnreadable, ReadThen}
+use Rattle.command_base.specs.Reading.{IsTooLong, IsUnreadable, ReadThen}
 use Rattle.command_base.specs.Shelves.{KeepsShelf}
 use Rattle.command_base.specs.Values.{placed_of, wanted_of}
 use Rattle.command_base.specs.Words.{Bytes, PlanKind}

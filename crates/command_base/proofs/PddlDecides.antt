@@ -87,24 +87,6 @@ task_decides one held failed failed' domain problem (Some kind) Then told told' 
 pub not_refused : (refusal : Refusal) (a : Answer) → a ≡ refused refusal → is_shown a ≡ true → ⊥
 not_refused refusal a is shown = cc (subst (λ k. is_shown k ≡ true) is shown)
 
--- what is shown follows the reading of both files
-pub record ReadFor (held : Bytes → Held) (domain_name problem_name : Bytes) (Then : DomainTree → ProblemTree → Answer → Type 0) (answer : Answer) : Type 0 where
-  pub domain : DomainTree
-  pub problem : ProblemTree
-  pub both : HoldBoth held domain_name problem_name domain problem
-  pub result : Then domain problem answer
-
-pub shown_both : (held : Bytes → Held) (failed : Bytes → Type 0) (domain problem : Bytes) (Then : DomainTree → ProblemTree → Answer → Type 0) (a : Answer)
-    → is_shown a ≡ true → ReadBoth held failed domain problem Then a → ReadFor held domain problem Then a
-shown_both held failed domain problem Then a shown (inl (r, is, why)) = absurd (not_refused r a is shown)
-shown_both held failed domain problem Then a shown (inr (d, holds, inl (r, is, why))) = absurd (not_refused r a is shown)
-shown_both held failed domain problem Then a shown (inr (d, holds, inr (p, holds', result))) = record {
-  domain = d;
-  problem = p;
-  both = record { holds_domain = holds; holds_problem = holds' };
-  result = result;
-}
-
 -- what is shown keeps the limits, and has a goal where one is wanted
 pub shown_grounded : (domain : DomainTree) (problem : ProblemTree) (Then : Answer → Type 0) (a : Answer) → is_shown a ≡ true
     → GroundThen domain problem Then a → (first_passed domain problem ≡ None) × Then a

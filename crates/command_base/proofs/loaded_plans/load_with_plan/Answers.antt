@@ -13,7 +13,7 @@ plan_after name d p = of_plan (fluent_names d p) (action_names d p) name (λ pla
 
 pub returns-in_err-task-clause-refused : goal.returns-in_err-task-clause-refused
 returns-in_err-task-clause-refused g c =
-    let p = err_from_is_err_and c.from_residual-in_err-task.result c.from_residual-in_err-task.ensures.1 in
+    let p = err_from_is_err_and c.from_residual.result c.from_residual.ensures.1 in
     let files = c.args.files.now in
     rw (p.1, p.2) (task_stops g.S.Shelf.held g.S.Shelf.faults g.S.Shelf.fetched files.domain.now files.problem.now (wanted_of files.goal) (plan_after c.args.plan.now) _
     c.args.shelf.now c.load.new.shelf c.in_err-task.ensures.refused)

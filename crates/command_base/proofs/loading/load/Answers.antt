@@ -15,7 +15,7 @@ gates files d p = goal_course (wanted_of files.goal) files.problem.now p (of_lim
 
 pub returns-in_err-read-clause-refused : goal.returns-in_err-read-clause-refused
 returns-in_err-read-clause-refused g c =
-    let p = err_from_is_err_and c.from_residual-in_err-read.result c.from_residual-in_err-read.ensures.1 in
+    let p = err_from_is_err_and c.from_residual.result c.from_residual.ensures.1 in
     let files = c.args.files.now in
     rw (p.1, p.2) (texts_stop g.S.Shelf.held g.S.Shelf.faults g.S.Shelf.fetched files.domain.now files.problem.now (gates files) _ c.args.shelf.now c.read_texts.new.shelf c.in_err-read.ensures.refused)
 

@@ -7,7 +7,7 @@ use Rattle.command_base.proofs.pddl_texts.read_domain_file.Goals as goal
 
 pub returns-in_err-text-clause-refused : goal.returns-in_err-text-clause-refused
 returns-in_err-text-clause-refused g c =
-    let p = err_from_is_err_and c.from_residual-in_err-text.result c.from_residual-in_err-text.ensures.1 in
+    let p = err_from_is_err_and c.from_residual.result c.from_residual.ensures.1 in
     let fetched = c.in_err-text.ensures in
     rw (p.1, p.2) (fetch_stops g.S.Shelf.held g.S.Shelf.faults g.S.Shelf.fetched c.args.name.now SpellsDomain HasDomainFault (λ domain. begun) (refusal_of c.in_err-text.field-0.0)
     c.args.shelf.now c.fetch.new.shelf fetched.refused fetched.fetch (record { quiet_at = fetched.shelf.quiet_at; kept = fetched.shelf.kept; later = fetched.shelf.later }))

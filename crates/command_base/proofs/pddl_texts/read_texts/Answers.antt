@@ -17,7 +17,7 @@ problem_of name domain = of_file name (SpellsProblemOf domain) (λ bytes. HasPro
 
 pub returns-in_err-file-clause-refused : goal.returns-in_err-file-clause-refused
 returns-in_err-file-clause-refused g c =
-    let p = err_from_is_err_and c.from_residual-in_err-file.result c.from_residual-in_err-file.ensures.1 in
+    let p = err_from_is_err_and c.from_residual.result c.from_residual.ensures.1 in
     rw (p.1, p.2) (file_stops g.S.Shelf.held g.S.Shelf.faults g.S.Shelf.fetched c.args.domain_name.now SpellsDomain HasDomainFault (problem_of c.args.problem_name.now) _
     c.args.shelf.now c.read_domain_file.new.shelf c.in_err-file.ensures.refused)
 

@@ -14,7 +14,7 @@ use Rattle.refute_command.proofs.certificate_files.read_certificate_file.Goals a
 
 pub returns-in_err-bytes-clause-refused : goal.returns-in_err-bytes-clause-refused
 returns-in_err-bytes-clause-refused g c =
-    let p = err_from_is_err_and c.from_residual-in_err-bytes.result c.from_residual-in_err-bytes.ensures.1 in
+    let p = err_from_is_err_and c.from_residual.result c.from_residual.ensures.1 in
     let fluents = fluent_names (domain_value c.args.loaded.now.domain) (problem_value c.args.loaded.now.problem) in
     let fetched = c.in_err-bytes.ensures in
     rw (p.1, p.2) (fetch_stops g.S.Shelf.held g.S.Shelf.faults g.S.Shelf.fetched c.args.name.now (SpellsPlain fluents) (HasCertificateFault fluents) (λ certificate. begun)

@@ -18,7 +18,7 @@ after_plan tallies asked d p placed = of_file asked.recorded SpellsRecord HasRec
 
 pub returns-in_err-plan-clause-refused : goal.returns-in_err-plan-clause-refused
 returns-in_err-plan-clause-refused g c =
-    let p = err_from_is_err_and c.from_residual-in_err-plan.result c.from_residual-in_err-plan.ensures.1 in
+    let p = err_from_is_err_and c.from_residual.result c.from_residual.ensures.1 in
     let asked = replay_words_of c.args.self.now.asked in
     rw (p.1, p.2) (plan_stops g.S.Shelf.held g.S.Shelf.faults g.S.Shelf.fetched asked.domain asked.problem None asked.plan (after_plan _ asked) _
     c.args.shelf.now c.load_with_plan.new.shelf c.in_err-plan.ensures.refused)
