@@ -73,7 +73,12 @@ pub(crate) fn drawn(
         (option_map explanation_value loaded.now.explanation) (answer_of result) }
 {
     let task = &loaded.plan.task;
-    match picture_of(alloc, &task.grounded.task, &loaded.plan.read.plan, most_shown(asked.form)) {
+    match picture_of(
+        alloc,
+        &task.grounded.task,
+        &loaded.plan.read.plan,
+        most_shown(asked.form),
+    ) {
         Ok(picture) => {
             if is_blank(&picture) {
                 return Err(no_initial(alloc, asked.problem, &task.problem)?);
@@ -270,7 +275,12 @@ fn rules_of(alloc: Global, drawn: &DrawnPlan<'_>) -> Result<Vec<u8>, TextErr>
         (nodes_of (fluent_count task) drawn.now.picture.now)) }
 {
     let plan = &drawn.loaded.plan;
-    let text = rules_text(alloc, &plan.task.grounded.task, &plan.read.plan, drawn.picture)?;
+    let text = rules_text(
+        alloc,
+        &plan.task.grounded.task,
+        &plan.read.plan,
+        drawn.picture,
+    )?;
     unless_long(text)
 }
 
