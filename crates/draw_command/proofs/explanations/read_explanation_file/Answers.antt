@@ -8,19 +8,20 @@ use Rattle.draw_command.proofs.explanations.read_explanation_file.Goals as goal
 
 pub returns-in_err-bytes-clause-refused : goal.returns-in_err-bytes-clause-refused
 returns-in_err-bytes-clause-refused g c =
-    let p = err_from_is_err_and c.from_residual-in_err-bytes.result c.from_residual-in_err-bytes.ensures.1 in
+    let p = err_from_is_err_and c.from_residual.result c.from_residual.ensures.1 in
     let fetched = c.in_err-bytes.ensures in
     rw (p.1, p.2) (fetch_stops g.S.Shelf.held g.S.Shelf.faults g.S.Shelf.fetched c.args.name.now TellsExplanation HasExplanationFault (λ explanation. begun)
     (refusal_of c.in_err-bytes.field-0.0) c.args.shelf.now c.fetch.new.shelf fetched.refused fetched.fetch
     (record { quiet_at = fetched.shelf.quiet_at; kept = fetched.shelf.kept; later = fetched.shelf.later }))
 
-pub returns-clause-read : goal.returns-clause-read
-returns-clause-read g c =
+pub returns-in-Ok-clause-read : goal.returns-in-Ok-clause-read
+returns-in-Ok-clause-read g c =
     let fetched = c.in_ok-bytes.ensures in
+    let file = rw (← c.deref.ensures.value) at fetched.file in
     record {
-      bytes = _;
-      text = record { file = fetched.file; fetch = fetched.fetch; quiet = fetched.shelf.quiet; kept = fetched.shelf.kept };
-      spelled = rw c.deref.ensures.value at c.in-Ok.ensures.tells;
+      bytes = c.deref.result.now;
+      text = record { file = file; fetch = fetched.fetch; quiet = fetched.shelf.quiet; kept = fetched.shelf.kept };
+      spelled = c.in-Ok.ensures.tells;
     }
 
 pub returns-clause-refused : goal.returns-clause-refused

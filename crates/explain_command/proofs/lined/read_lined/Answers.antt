@@ -14,7 +14,7 @@ use Rattle.explain_command.proofs.lined.read_lined.Goals as goal
 
 pub returns-in_err-bytes-clause-refused : goal.returns-in_err-bytes-clause-refused
 returns-in_err-bytes-clause-refused g c =
-    let p = err_from_is_err_and c.from_residual-in_err-bytes.result c.from_residual-in_err-bytes.ensures.1 in
+    let p = err_from_is_err_and c.from_residual.result c.from_residual.ensures.1 in
     let domain = domain_value c.args.loaded.now.domain in
     let problem = problem_value c.args.loaded.now.problem in
     let fetched = c.in_err-bytes.ensures in
@@ -23,15 +23,16 @@ returns-in_err-bytes-clause-refused g c =
     (refusal_of c.in_err-bytes.field-0.0) c.args.shelf.now c.fetch.new.shelf fetched.refused fetched.fetch
     (record { quiet_at = fetched.shelf.quiet_at; kept = fetched.shelf.kept; later = fetched.shelf.later }))
 
-pub returns-clause-read : goal.returns-clause-read
-returns-clause-read g c =
+pub returns-in-Ok-clause-read : goal.returns-in-Ok-clause-read
+returns-in-Ok-clause-read g c =
     let domain = domain_value c.args.loaded.now.domain in
     let problem = problem_value c.args.loaded.now.problem in
     let fetched = c.in_ok-bytes.ensures in
+    let file = rw (← c.deref.ensures.value) at fetched.file in
     record {
-      bytes = _;
-      text = record { file = fetched.file; fetch = fetched.fetch; quiet = fetched.shelf.quiet; kept = fetched.shelf.kept };
-      spelled = with_names (λ fluents actions. SpellsLined fluents actions _ (lined_of c.in-Ok.lined)) domain problem c.args.loaded.now.grounded.task c.requires.of_task.task_is (rw c.deref.ensures.value at c.in-Ok.ensures.spelled);
+      bytes = c.deref.result.now;
+      text = record { file = file; fetch = fetched.fetch; quiet = fetched.shelf.quiet; kept = fetched.shelf.kept };
+      spelled = with_names (λ fluents actions. SpellsLined fluents actions c.deref.result.now (lined_of c.in-Ok.lined)) domain problem c.args.loaded.now.grounded.task c.requires.of_task.task_is c.in-Ok.ensures.spelled;
     }
 
 pub returns-clause-refused : goal.returns-clause-refused

@@ -25,7 +25,7 @@ explained asked d p placed = explanation_course asked.explanation (drawn asked d
 
 pub returns-in_err-plan-clause-refused : goal.returns-in_err-plan-clause-refused
 returns-in_err-plan-clause-refused g c =
-    let p = err_from_is_err_and c.from_residual-in_err-plan.result c.from_residual-in_err-plan.ensures.1 in
+    let p = err_from_is_err_and c.from_residual.result c.from_residual.ensures.1 in
     let asked = picture_words_of c.args.self.now.asked in
     rw (p.1, p.2) (plan_stops g.S.Shelf.held g.S.Shelf.faults g.S.Shelf.fetched asked.domain asked.problem None asked.plan (explained asked) _
     c.args.shelf.now c.load_with_plan.new.shelf c.in_err-plan.ensures.refused)

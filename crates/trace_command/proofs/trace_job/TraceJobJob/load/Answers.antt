@@ -26,7 +26,7 @@ after_task asked d p = of_lined d p asked.plan (after_plan asked d p)
 
 pub returns-in_err-task-clause-refused : goal.returns-in_err-task-clause-refused
 returns-in_err-task-clause-refused g c =
-    let p = err_from_is_err_and c.from_residual-in_err-task.result c.from_residual-in_err-task.ensures.1 in
+    let p = err_from_is_err_and c.from_residual.result c.from_residual.ensures.1 in
     let asked = replay_words_of c.args.self.now.asked in
     rw (p.1, p.2) (task_stops g.S.Shelf.held g.S.Shelf.faults g.S.Shelf.fetched asked.domain asked.problem None (after_task asked) _
     c.args.shelf.now c.load.new.shelf c.in_err-task.ensures.refused)

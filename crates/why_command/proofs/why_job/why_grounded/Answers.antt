@@ -3,7 +3,7 @@ use Rattle.command_base.specs.Answers.{denied}
 use Rattle.command_base.specs.Values.{kind_of, plan_words_of}
 use Rattle.pddl_ast.specs.Values.{domain_value, problem_value}
 use Rattle.why_command.proofs.Whys.{goal_never, never_found}
-use Rattle.why_command.proofs.commands.why_grounded.Goals as goal
+use Rattle.why_command.proofs.why_job.why_grounded.Goals as goal
 
 pub returns-in-Some : goal.returns-in-Some
 returns-in-Some c =

@@ -4,7 +4,7 @@ use Rattle.command_base.specs.Values.{plan_words_of, refusal_of, shown_of}
 use Rattle.pddl_ast.specs.Values.{domain_value, problem_value}
 use Rattle.std.proofs.lemmas.Result.{err_from_is_err_and}
 use Rattle.why_command.proofs.Whys.{told_then}
-use Rattle.why_command.proofs.commands.said_then.Goals as goal
+use Rattle.why_command.proofs.why_job.said_then.Goals as goal
 
 pub returns-in_err-said : goal.returns-in_err-said
 returns-in_err-said c =
