@@ -4,7 +4,7 @@ use Rattle.pddl_ast.specs.Values.{domain_value, problem_value}
 use Rattle.command_base.specs.Values.{refusal_of}
 use Rattle.control_command.specs.Values.{control_words_of}
 use Rattle.control_command.proofs.Answers.{limited}
-use Rattle.control_command.proofs.commands.control_grounded.Goals as goal
+use Rattle.control_command.proofs.control_job.control_grounded.Goals as goal
 
 pub returns-in_err-shown : goal.returns-in_err-shown
 returns-in_err-shown c =
