@@ -1,5 +1,5 @@
 -- The verdict on a plan of a task is that for the domain and the problem that the task comes from.
-use Rattle.std.proofs.Common.{◌≡◌, inl, inr, sym, subst, ap, ◌∙◌, None, Some, Option, true, []}
+use Rattle.std.proofs.Common.{◌≡◌, inl, inr, sym, subst, ap, ◌∙◌, Some, Option, true, []}
 use Rattle.std.specs.Option.{option_map}
 use Rattle.ctl_syntax.specs.Conditions.{condition_value}
 use Rattle.ctl_syntax.specs.Values.{ctl_value}

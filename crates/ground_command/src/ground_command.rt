@@ -1,5 +1,8 @@
 //! The command `ground`.
 
+ghost use Rattle.command_base.specs.Answers.{affirmed};
+ghost use Rattle.command_base.specs.Courses.{Stops};
+ghost use Rattle.command_base.specs.Values.{answer_of};
 ghost use Rattle.ground_command.specs.GroundCommand.{action_line, fluent_line, listing};
 ghost use Rattle.std.specs.List.{flat_map};
 ghost use Rattle.std.specs.Prelude.{◌≡◌, ◌++◌, IfOk, OnOk, length, map, string_bytes};
@@ -52,9 +55,18 @@ impl Job for GroundJob<'_> {
     }
 
     fn answer(self, alloc: Global, loaded: LoadedTask) -> Result<Shown, Refusal> {
-        let text = list_task(alloc, &loaded.grounded.task)?;
-        Ok(Shown::Affirmed(Text::Made(text.into_bytes())))
+        show_task(alloc, &loaded.grounded.task)
     }
+}
+
+/// The listing of a task, shown.
+fn show_task(alloc: Global, task: &Task) -> Result<Shown, Refusal>
+    ensures { Stops (λ answer. answer ≡ affirmed (listing (fluent_names task.now)
+        (map (λ action. (name_of action, length action.outcomes.items)) task.now.actions.items)
+        (length (entries_of task.now.init)))) (answer_of result) }
+{
+    let text = list_task(alloc, task)?;
+    Ok(Shown::Affirmed(Text::Made(text.into_bytes())))
 }
 
 /// The listing of a task.

@@ -1,6 +1,6 @@
 -- Statuses 0, 1, 5 and 9 come once all files of the command were fetched: an answer that was decided
 -- before has another.
-use Rattle.std.proofs.Common.{◌≡◌, ◌⊎◌, ℕ, List, [], ◌∷◌, inl, inr, refl, ◌∙◌, ap, subst, sym, arith}
+use Rattle.std.proofs.Common.{◌≡◌, ◌⊎◌, ℕ, List, [], ◌∷◌, inl, inr, ◌∙◌, ap, subst, sym, arith}
 use Rattle.plan_io.specs.Fetches.{Fetches}
 use Rattle.plan_io.specs.Held.{Held}
 use Rattle.sexpr_text.specs.declared.faults.InputFault.{InputFault}
@@ -8,7 +8,7 @@ use Rattle.command_base.specs.Answers.{Answer, Refusal, refused, status_of, stat
 use Rattle.command_base.specs.Courses.{Course, GoesIn, IsFaulty, answers, begun, of_file, of_goal, of_limits}
 use Rattle.command_base.specs.Frame.{FailedIn}
 use Rattle.command_base.specs.Reading.{IsRefusedFile}
-use Rattle.command_base.specs.Words.{Bytes, Command, files_of}
+use Rattle.command_base.specs.Words.{Bytes, files_of}
 use Rattle.command_base.proofs.Statuses.{whole_delivery}
 use Rattle.mbp_top.specs.Fetching.{course_of}
 use Rattle.mbp_top.specs.Laws.{AreAllFetched}

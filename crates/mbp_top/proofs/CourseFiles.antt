@@ -1,10 +1,10 @@
 -- The files of each command, and that what comes once they are read has another status than 6.
-use Rattle.std.proofs.Common.{◌≡◌, ◌≢◌, Bool, ℕ, List, [], ◌∷◌, ◌⊎◌, inl, inr, refl, arith, ap, Some, None}
+use Rattle.std.proofs.Common.{◌≡◌, ◌≢◌, ◌∙◌, Bool, ℕ, List, [], ◌∷◌, inl, inr, refl, sym, arith, ap, Some, None}
 use Rattle.pddl_ast.specs.Trees.{DomainTree, ProblemTree}
-use Rattle.pddl_system.specs.Systems.{action_names, system}
+use Rattle.pddl_system.specs.Systems.{system}
 use Rattle.plan_check.specs.declared.verdicts.Verdict.{Verdict}
 use Rattle.plan_check.specs.declared.verdicts.Verdict.TheVariants.{Yes, No}
-use Rattle.run_replay.specs.Traces.{Ending, Terminal, Ended, Capped, Stray, Unexecutable, trace_of}
+use Rattle.run_replay.specs.Traces.{Ending, Terminal, Ended, Capped, Stray, Unexecutable}
 use Rattle.check_command.specs.CheckCommand.{PlacedThen, verdict_answer}
 use Rattle.cert_check.specs.declared.verdict.Judged.{Judged}
 use Rattle.cert_check.specs.declared.verdict.Judged.TheVariants.{Accepted, Rejected}

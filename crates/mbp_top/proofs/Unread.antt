@@ -4,7 +4,7 @@ use Rattle.std.specs.Prelude.{slice_index_or}
 use Rattle.std.specs.Io.KnownBytes.{append_known}
 use Rattle.plan_io.specs.Held.{Held, Missing}
 use Rattle.sexpr_text.specs.declared.faults.InputFault.{InputFault}
-use Rattle.command_base.specs.Answers.{Answer, Refusal, refused, no_memory, read_fault, status_of, status_of_refusal, text_of}
+use Rattle.command_base.specs.Answers.{Answer, Refusal, refused, read_fault, status_of, status_of_refusal, text_of}
 use Rattle.command_base.specs.Courses.{Course, IsAnswerIn, IsFaulty, Stops, answers, begun, of_file, of_goal, of_limits}
 use Rattle.command_base.specs.Delivery.{IsWhole}
 use Rattle.command_base.specs.Frame.{FailedIn}

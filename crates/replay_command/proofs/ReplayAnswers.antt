@@ -1,7 +1,7 @@
 -- The run of a plan of a task is that for the domain and the problem that the task comes from.
 use Rattle.std.proofs.Common.{◌≡◌, ◌<◌, ◌⊎◌, List, arith, inl, inr, length, subst, ap}
 use Rattle.pddl_ast.specs.Trees.{DomainTree, ProblemTree}
-use Rattle.pddl_system.specs.Systems.{action_names, system}
+use Rattle.pddl_system.specs.Systems.{action_names}
 use Rattle.plan_rules.specs.Rules.{PlainPlan}
 use Rattle.run_replay.specs.Records.{RecordTree}
 use Rattle.task_core.specs.Names.{Name}

@@ -78,7 +78,7 @@ pub struct LoadedRun {
 }
 
 impl Job for ReplayJob<'_> {
-    ghost use Rattle.command_base.specs.Values.{placed_of, replay_words_of};
+    ghost use Rattle.command_base.specs.Values.{replay_words_of};
     ghost use Rattle.pddl_ast.specs.Values.{domain_value, problem_value};
     ghost use Rattle.plan_rules.specs.Rules.{plain_of};
     ghost use Rattle.replay_command.specs.Loaded.{IsToBeRun};
