@@ -20,13 +20,11 @@ use Rattle.fair_theory.specs.FairSets.{SetGoal}
 use Rattle.fair_theory.proofs.NamesBelow.{FairGoalsAreTrue, translated_names}
 use Rattle.ground_task.specs.declared.grounding.Grounded.{Grounded}
 use Rattle.pddl_ast.specs.Trees.{DomainTree, FormulaTree, ProblemTree}
-use Rattle.pddl_system.specs.Sizes.{first_passed}
 use Rattle.pddl_system.specs.Systems.{system}
 use Rattle.plan_check.specs.ContextVerdicts.{IsTrueAt}
 use Rattle.plan_check.specs.Verdicts.{SaysYes}
 use Rattle.plan_check.specs.declared.verdicts.Verdict.{Verdict}
 use Rattle.plan_check.proofs.ContextLaws.{yes_met}
-use Rattle.plan_io.specs.Held.{Held}
 use Rattle.plan_rules.specs.Denoted.{denoted_contexts}
 use Rattle.plan_rules.specs.Rules.{PlainPlan, automaton, table}
 use Rattle.controller_rules.specs.AsRun.{HasNoDeadRule, HasOneMove}
