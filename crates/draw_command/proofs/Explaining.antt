@@ -1,10 +1,7 @@
 -- The course of an explanation, where there may be none.
-use Rattle.std.proofs.Common.{ℕ, List, None, Some, Option, subst, sym}
-use Rattle.std.specs.Option.{option_map}
+use Rattle.std.proofs.Common.{ℕ, None, Some, Option, subst}
 use Rattle.plan_io.specs.Held.{Held}
-use Rattle.plan_page.specs.ExplanationValues.{explanation_value}
 use Rattle.plan_page.specs.Explanations.{HasExplanationFault, PlainExplanation, TellsExplanation}
-use Rattle.plan_page.specs.declared.explanations.Explanation.{Explanation}
 use Rattle.command_base.specs.Answers.{Answer}
 use Rattle.command_base.specs.Courses.{CarriedOut, Course, begun}
 use Rattle.command_base.specs.Words.{Bytes}
