@@ -1,5 +1,4 @@
 -- What is kept of the files that were fetched can be what is told of them.
-use Rattle.std.proofs.Common.{◌≡◌, ◌≤◌, ℕ, List}
 use Rattle.plan_io.specs.Held.{Held}
 use Rattle.command_base.specs.Words.{Bytes}
 use Rattle.answer_help.specs.Keeping.{AreToldAs, KeepsAfter, held_by, kept_in}

@@ -1,11 +1,9 @@
 -- What follows from an answer that has its cause.
-use Rattle.std.proofs.Common.{◌≡◌, ◌⊎◌, ℕ, Bool, true, false, List, Some, inl, inr, refl, sym, subst, ap, ◌∙◌, arith}
-use Rattle.std.specs.Io.KnownBytes.{append_known}
+use Rattle.std.proofs.Common.{◌≡◌, Bool, true, false, Some, inl, inr, sym, subst, ap, ◌∙◌}
 use Rattle.pddl_ast.specs.Trees.{DomainTree, ProblemTree}
 use Rattle.pddl_system.specs.Systems.{system}
-use Rattle.plan_io.specs.Fetches.{FailedLast}
 use Rattle.plan_io.specs.Held.{Held}
-use Rattle.command_base.specs.Answers.{Answer, affirmed, denied, is_shown, no_memory, refused, status_of, text_of}
+use Rattle.command_base.specs.Answers.{Answer, affirmed, denied, is_shown, text_of}
 use Rattle.command_base.specs.Courses.{IsAnswerIn, answers, task_course}
 use Rattle.command_base.specs.Grounding.{GroundThen}
 use Rattle.command_base.specs.InitialStates.{empty_init}
@@ -19,7 +17,6 @@ use Rattle.std.proofs.lemmas.Bool.{true≢false}
 use Rattle.command_base.specs.Words.{Bytes, MayBeCertified, PlanKind, of_class, with_contexts}
 use Rattle.command_base.proofs.Initials.{shown_initial}
 use Rattle.command_base.proofs.PddlDecides.{not_refused, shown_goal, shown_grounded}
-use Rattle.command_base.proofs.Statuses.{shown_at}
 use Rattle.control_command.specs.Controllers.{AnswersControl, IsControllerShown, IsNoPlanShown, IsShownAs, control_course}
 use Rattle.control_command.specs.Laws.{HasControllerAtYes, HasNoPlanAtNo}
 use Rattle.control_command.specs.Words.{ControlWords, to_plan}

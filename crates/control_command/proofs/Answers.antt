@@ -1,5 +1,5 @@
 -- From what was found to the answer.
-use Rattle.std.proofs.Common.{◌≡◌, ◌⊎◌, inl, inr, subst, ap, None, true}
+use Rattle.std.proofs.Common.{◌≡◌, ◌⊎◌, inl, inr, subst, ap, None}
 use Rattle.std.specs.Prelude.{IfErr, IfOk, IfSome, Option, Result, Ok, Err, Some}
 use Rattle.pddl_ast.specs.Trees.{DomainTree, ProblemTree}
 use Rattle.command_base.specs.Answers.{Answer, Refusal, denied, full, no_memory, refused}

@@ -1,20 +1,17 @@
 -- What follows from an answer that has its cause, where actions may be tried again.
-use Rattle.std.proofs.Common.{◌≡◌, ◌⊎◌, ℕ, true, List, inl, inr, sym, subst, ap, ◌∙◌, arith}
+use Rattle.std.proofs.Common.{◌≡◌, true, inl, inr, sym, subst, ap, ◌∙◌}
 use Rattle.std.specs.Prelude.{Some}
-use Rattle.std.specs.Io.KnownBytes.{append_known}
 use Rattle.ctl_syntax.specs.ContextGoals.{PlainGoal}
 use Rattle.pddl_ast.specs.Trees.{DomainTree, FormulaTree, ProblemTree}
 use Rattle.pddl_system.specs.Systems.{system}
-use Rattle.plan_io.specs.Fetches.{FailedLast}
 use Rattle.plan_io.specs.Held.{Held}
-use Rattle.command_base.specs.Answers.{Answer, affirmed, denied, is_shown, no_memory, refused, status_of, text_of}
+use Rattle.command_base.specs.Answers.{Answer, affirmed, is_shown}
 use Rattle.command_base.specs.Courses.{IsAnswerIn}
 use Rattle.command_base.specs.InitialStates.{empty_init}
 use Rattle.command_base.specs.PddlTexts.{HoldBoth}
 use Rattle.command_base.specs.Words.{Bytes, with_contexts}
 use Rattle.command_base.proofs.Initials.{shown_initial}
 use Rattle.command_base.proofs.PddlDecides.{not_refused}
-use Rattle.command_base.proofs.Statuses.{shown_at}
 use Rattle.plan_command.specs.ContextGoals.{context_goal}
 use Rattle.control_command.specs.FairControllers.{FairThen, IsFairMissing, IsFairResult, IsFairShown, fair_course, fair_goal_of}
 use Rattle.control_command.specs.Words.{FairWords, to_try}

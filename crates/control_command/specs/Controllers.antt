@@ -16,11 +16,9 @@ use Rattle.plan_certs.specs.Readings.{SpellsPlain as SpellsCertificate}
 use Rattle.plan_certs.specs.Texts.{certificate_text}
 use Rattle.plan_document.specs.Documents.{document_text}
 use Rattle.plan_document.specs.Faithful.{IsToldInFull}
-use Rattle.plan_io.specs.Held.{Held}
 use Rattle.plan_rules.specs.Denoted.{denoted_contexts}
 use Rattle.plan_rules.specs.Readings.{SpellsPlain}
 use Rattle.plan_rules.specs.Rules.{PlainPlan, automaton, table}
-use Rattle.task_core.specs.Names.{Name}
 use Rattle.task_core.specs.Systems.{System}
 use Rattle.task_core.specs.declared.tasks.Task.{Task}
 use Rattle.command_base.specs.Answers.{Answer, affirmed, denied, full, over_limit, refused}

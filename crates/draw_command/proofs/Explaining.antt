@@ -1,6 +1,6 @@
 -- The course of an explanation, where there may be none.
-use Rattle.std.proofs.Common.{ℕ, List, None, Some, Option, subst, sym}
-use Rattle.std.specs.Option.{option_map}
+use Rattle.std.proofs.Common.{◌≡◌, ℕ, Bor, None, Some, Option, ap, subst}
+use Rattle.std.specs.Option.{option_copied, option_map}
 use Rattle.plan_io.specs.Held.{Held}
 use Rattle.plan_page.specs.ExplanationValues.{explanation_value}
 use Rattle.plan_page.specs.Explanations.{HasExplanationFault, PlainExplanation, TellsExplanation}
@@ -27,3 +27,8 @@ module _ {S : Type 0} (held : S → Bytes → Held) (faults : S → ℕ) (fetche
   then_explanation (Some name) Then None a before between after never carried = absurd never
   then_explanation (Some name) Then (Some explanation) a before between after read carried =
       then_file held faults fetched name TellsExplanation HasExplanationFault (λ tree. Then (Some tree)) explanation a before between after read carried
+
+-- what is told by an explanation behind a reference
+pub told_by : (r : Option (Bor Explanation)) (told : Option Explanation) → option_copied r ≡ told → option_map (λ some. explanation_value some.now) r ≡ option_map explanation_value told
+told_by None told is = ap (option_map explanation_value) is
+told_by (Some some) told is = ap (option_map explanation_value) is

@@ -1,7 +1,5 @@
 -- Private: what the code's own types stand for.
-use Rattle.std.specs.Option.{option_copied, option_map}
-use Rattle.std.specs.Prelude.{Option}
-use Rattle.command_base.specs.Words.{Bytes}
+use Rattle.std.specs.Option.{option_map}
 use Rattle.draw_command.specs.Words.{PictureWords}
 use Rattle.draw_command.specs.declared.words.PictureWords.{PictureWords as CodePictureWords}
 

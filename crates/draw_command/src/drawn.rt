@@ -48,7 +48,7 @@ ghost use Rattle.task_core.specs.Tasks.{
 use crate::draw_job::LoadedPicture;
 use crate::words::{PictureForm, PictureWords};
 use command_base::{Limit, Refusal, Shown, Text, no_initial};
-use plan_page::{ShownRun, page_text};
+use plan_page::{Explanation, ShownRun, page_text};
 use plan_picture::{
     Edge, MAX_NODES, MAX_TEXT, Picture, PictureErr, TextErr, dot_text, picture_of, run_edges,
 };
@@ -306,9 +306,16 @@ fn page_of(alloc: Global, drawn: &DrawnPlan<'_>) -> Result<Vec<u8>, TextErr>
         &plan.task.grounded.task,
         &plan.read.plan,
         drawn.picture,
-        drawn.loaded.explanation.as_ref(),
+        explanation_of(drawn.loaded),
     )?;
     unless_long(text)
+}
+
+fn explanation_of(loaded: &LoadedPicture) -> Option<&Explanation>
+    ensures { option_map (λ some. explanation_value some.now) result
+        ≡ option_map explanation_value loaded.now.explanation }
+{
+    loaded.explanation.as_ref()
 }
 
 /// A text, unless it is too long.

@@ -1,6 +1,6 @@
 -- The verdict on a plan of a task, explained, is that for the domain and the problem that the task comes
 -- from.
-use Rattle.std.proofs.Common.{◌≡◌, ◌⊎◌, Bool, List, inl, inr, refl, subst, ap, None, Option, true}
+use Rattle.std.proofs.Common.{◌≡◌, ◌⊎◌, Bool, inl, inr, refl, subst, ap, Option, true}
 use Rattle.std.specs.Option.{option_map}
 use Rattle.ctl_syntax.specs.declared.goals.Ctl.{Ctl}
 use Rattle.fair_theory.proofs.NamesBelow.{FairGoalsAreTrue}
@@ -28,7 +28,7 @@ use Rattle.check_command.proofs.CheckAnswers.{explored}
 use Rattle.command_base.proofs.TooMany.{too_many, too_many_back}
 use Rattle.explain_command.specs.declared.words.ShownAs.{ShownAs}
 use Rattle.explain_command.specs.declared.words.ShownAs.TheVariants.{Document, Run, Verdict}
-use Rattle.explain_command.specs.Explained.{Explains, ExplainsIn, Judges, JudgesIn, Shows, ShowsIn, ExplainedThen, FollowedThen, LinedThen}
+use Rattle.explain_command.specs.Explained.{Explains, ExplainsIn, Shows, ShowsIn, ExplainedThen, FollowedThen, LinedThen}
 use Rattle.explain_command.specs.Fairly.{FairThen, GoalForThen, IsGoalFor, IsGoalRefusal}
 use Rattle.explain_command.specs.Lined.{LinedPlan}
 use Rattle.explain_command.specs.Words.{ExplainWords}

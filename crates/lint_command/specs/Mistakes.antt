@@ -13,7 +13,7 @@ use Rattle.lint_mistakes.specs.Rows.{sections_of}
 use Rattle.lint_mistakes.specs.declared.mistakes.Mistake.{Mistake}
 use Rattle.lint_notices.specs.Notices.{PlainNotice, PlainReport, PlainSource, notice_of}
 use Rattle.lint_notices.specs.TaskNotices.{PlainWritten, goal_notice, group_notice, invariant_notice, never_notice}
-use Rattle.lint_notices.specs.Texts.{PlainFileNames, document_text, report_text}
+use Rattle.lint_notices.specs.Texts.{document_text, report_text}
 use Rattle.lint_notices.specs.Values.{never_value}
 use Rattle.lint_command.specs.Words.{MistakesWords}
 use Rattle.never_executed.specs.Causes.{IsCause}

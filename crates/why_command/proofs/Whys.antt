@@ -1,5 +1,5 @@
 -- From what was found to the answer.
-use Rattle.std.proofs.Common.{◌≡◌, ◌⊎◌, ◌++◌, ◌∷◌, [], Bool, List, inl, inr, refl, sym, subst, ap, ◌∙◌, append_assoc, if◌then◌else◌, None, Some, true, false}
+use Rattle.std.proofs.Common.{◌≡◌, ◌⊎◌, ◌++◌, ◌∷◌, [], Bool, List, inl, inr, refl, sym, subst, ap, ◌∙◌, append_assoc, if◌then◌else◌, Some, true, false}
 use Rattle.std.proofs.lemmas.Bool.{false≢true}
 use Rattle.std.proofs.lemmas.List.{append-nil}
 use Rattle.std.specs.List.{Contains}
