@@ -133,6 +133,7 @@ impl Rounds {
         Ok(found)
     }
 
+    /// Goes on from a state.
     fn visit(
         &mut self,
         world: &mut World<'_>,

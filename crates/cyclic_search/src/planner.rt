@@ -142,6 +142,7 @@ struct Ahead {
     distance: u32,
 }
 
+/// Adds the pair of a step.
 fn add_pair(
     world: &World<'_>,
     policy: &mut Policy,

@@ -23,6 +23,7 @@ struct Addition {
 }
 
 impl Exclusions {
+    /// None.
     pub(crate) fn none(alloc: Global) -> Exclusions {
         Exclusions {
             rows: Vec::new(alloc),

@@ -39,6 +39,7 @@ impl Branches {
         Ok(())
     }
 
+    /// A branch by its number.
     pub(crate) fn get(&self, branch: u32) -> Branch {
         match self.list.get(branch as usize) {
             Some(branch) => *branch,
@@ -82,6 +83,7 @@ impl Branches {
         }
     }
 
+    /// The outcome at a place of a branch.
     pub(crate) fn outcome_at(&self, branch: u32, place: u32) -> u32 {
         match self.outcomes.get(branch as usize) {
             Some(outcomes) => at(outcomes, place),
