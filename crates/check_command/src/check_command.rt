@@ -75,7 +75,13 @@ impl Job for CheckJob<'_> {
         // promises.
         grounded_goals_are_true();
         let task = &loaded.task;
-        judge_plan(alloc, &self.asked, &task.problem, &task.grounded, &loaded.read)
+        judge_plan(
+            alloc,
+            &self.asked,
+            &task.problem,
+            &task.grounded,
+            &loaded.read,
+        )
     }
 }
 

@@ -1,6 +1,6 @@
 -- Statuses 0, 1, 5 and 9 come once all files of the command were fetched: an answer that was decided
 -- before has another.
-use Rattle.std.proofs.Common.{◌≡◌, ◌⊎◌, ℕ, List, [], ◌∷◌, inl, inr, ◌∙◌, ap, subst, sym, arith}
+use Rattle.std.proofs.Common.{◌≡◌, ◌⊎◌, ℕ, List, inl, inr, ◌∙◌, ap, subst, sym, arith}
 use Rattle.plan_io.specs.Fetches.{Fetches}
 use Rattle.plan_io.specs.Held.{Held}
 use Rattle.sexpr_text.specs.declared.faults.InputFault.{InputFault}

@@ -1,5 +1,5 @@
 -- The files of each command, and that what comes once they are read has another status than 6.
-use Rattle.std.proofs.Common.{◌≡◌, ◌≢◌, ◌∙◌, Bool, ℕ, List, [], ◌∷◌, inl, inr, refl, sym, arith, ap, Some, None}
+use Rattle.std.proofs.Common.{◌≡◌, ◌≢◌, ◌∙◌, Bool, List, [], ◌∷◌, inl, inr, refl, sym, arith, ap, Some, None}
 use Rattle.pddl_ast.specs.Trees.{DomainTree, ProblemTree}
 use Rattle.pddl_system.specs.Systems.{system}
 use Rattle.plan_check.specs.declared.verdicts.Verdict.{Verdict}

@@ -74,20 +74,20 @@ module _ {S : Type 0} (held : S → Bytes → Held) (faults : S → ℕ) (fetche
   pub is_unread : IsUnread held faults fetched run
   is_unread command says six =
       go (cause_in (held run.shelf) fetched (FailedIn faults fetched run) (course_of run.handed command) has.answer run.shelf run.shelf_after (has.fetches command says)) where
-    whole : (run.status ≡ status_of has.answer) × IsWhole has.answer run.out run.out_after run.err run.err_after
-    whole = whole_delivery has.answer run.out run.out_after run.err run.err_after run.status has.delivered (λ seven. let e : 6 ≡ 7 = sym six ∙ seven in omega arith)
+        whole : (run.status ≡ status_of has.answer) × IsWhole has.answer run.out run.out_after run.err run.err_after
+        whole = whole_delivery has.answer run.out run.out_after run.err run.err_after run.status has.delivered (λ seven. let e : 6 ≡ 7 = sym six ∙ seven in omega arith)
 
-    code : status_of has.answer ≡ 6
-    code = sym whole.0 ∙ six
+        code : status_of has.answer ≡ 6
+        code = sym whole.0 ∙ six
 
-    line : (r : Refusal) → has.answer ≡ refused r → IsWhole has.answer run.out run.out_after run.err run.err_after → run.err_after.written ≡ append_known run.err.written (text_of (refused r))
-    line r is (inl showed) = absurd (not_refused r has.answer is showed.shown)
-    line r is (inr refusal) = refusal.errors.written ∙ ap (λ b. append_known run.err.written (text_of b)) is
+        line : (r : Refusal) → has.answer ≡ refused r → IsWhole has.answer run.out run.out_after run.err run.err_after → run.err_after.written ≡ append_known run.err.written (text_of (refused r))
+        line r is (inl showed) = absurd (not_refused r has.answer is showed.shown)
+        line r is (inr refusal) = refusal.errors.written ∙ ap (λ b. append_known run.err.written (text_of b)) is
 
-    told : UnreadAt (held run.shelf) (FailedIn faults fetched run) (files_of command) has.answer → (place : ℕ) × (name : Bytes) × IsUnreadAt held faults fetched run (files_of command) place name
-    told u = (u.place, u.name, record { there = u.there; named = u.named; before = u.before; unread = u.unread; written = line (read_fault u.name) u.shown whole.1 })
+        told : UnreadAt (held run.shelf) (FailedIn faults fetched run) (files_of command) has.answer → (place : ℕ) × (name : Bytes) × IsUnreadAt held faults fetched run (files_of command) place name
+        told u = (u.place, u.name, record { there = u.there; named = u.named; before = u.before; unread = u.unread; written = line (read_fault u.name) u.shown whole.1 })
 
-    go : Stops (IsAnswerIn (held run.shelf) (FailedIn faults fetched run) (course_of run.handed command)) has.answer
-        → (place : ℕ) × (name : Bytes) × IsUnreadAt held faults fetched run (files_of command) place name
-    go (inl memory) = absurd (let e : 6 ≡ 8 = sym code ∙ ap status_of memory in omega arith)
-    go (inr is) = told (unread_in (held run.shelf) (FailedIn faults fetched run) has.answer code (course_of run.handed command) (files_of command) (files_are run.handed command) is)
+        go : Stops (IsAnswerIn (held run.shelf) (FailedIn faults fetched run) (course_of run.handed command)) has.answer
+            → (place : ℕ) × (name : Bytes) × IsUnreadAt held faults fetched run (files_of command) place name
+        go (inl memory) = absurd (let e : 6 ≡ 8 = sym code ∙ ap status_of memory in omega arith)
+        go (inr is) = told (unread_in (held run.shelf) (FailedIn faults fetched run) has.answer code (course_of run.handed command) (files_of command) (files_are run.handed command) is)

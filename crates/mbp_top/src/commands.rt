@@ -13,7 +13,7 @@ use ground_command::GroundJob;
 use plan_command::PlanJob;
 use plan_io::Shelf;
 use refute_command::RefuteJob;
-use replay_command::ReplayJob;
+use replay_command::replay;
 use std::alloc::Global;
 
 /// Does what the words say, and gives the answer. `replay` alone uses the world and the monitors.
@@ -29,21 +29,14 @@ pub(crate) fn answer<S: Shelf>(
 {
     let Handed {
         words,
-        world,
-        monitors,
+        mut world,
+        mut monitors,
     } = handed;
     match read_words(words) {
         Command::Plan(asked) => carry_out(alloc, shelf, PlanJob { asked }),
         Command::Ground(asked) => carry_out(alloc, shelf, GroundJob { asked }),
         Command::Check(asked) => carry_out(alloc, shelf, CheckJob { asked }),
-        Command::Replay(asked) => {
-            let job = ReplayJob {
-                asked,
-                world,
-                monitors,
-            };
-            carry_out(alloc, shelf, job)
-        }
+        Command::Replay(asked) => replay(alloc, shelf, &asked, &mut world, &mut monitors),
         Command::Drill(asked) => run_drill(alloc, &asked),
         Command::Refute(asked) => carry_out(alloc, shelf, RefuteJob { asked }),
         Command::Nothing => Err(Refusal::NoCommand),

@@ -1,6 +1,6 @@
 -- The answer for a plan that was found, for a system and names that are equal, and for what was
 -- read.
-use Rattle.std.proofs.Common.{◌≡◌, ◌≢◌, ◌⊎◌, ℕ, List, [], Contains, subst, sym, ap, ◌∙◌, inl, inr, refl, IsSome, Bool, true, false, ◌++◌}
+use Rattle.std.proofs.Common.{◌≡◌, ◌≢◌, ℕ, List, [], Contains, subst, sym, ap, ◌∙◌, inl, inr, refl, IsSome, Bool, true, false, ◌++◌}
 use Rattle.std.specs.Prelude.{IfOk, Result, Ok, Err}
 use Rattle.dd_sets.specs.declared.errors.SetErr.{SetErr}
 use Rattle.plan_theory.specs.Found.{IsPlannersAnswer}

@@ -2,7 +2,7 @@
 -- printed, when the table of nodes may be too small, and the answer of the command. The names are
 -- those of the system's fluents and actions, by their numbers.
 use Rattle.std.specs.Prelude.{◌≡◌, ℕ, ◌⊎◌, ⊤, List, Contains, ◌++◌, codes, None, Some, is_some}
-use Rattle.std.specs.Prelude.{Bool, false, true, [], ◌∷◌}
+use Rattle.std.specs.Prelude.{Bool, false, true, []}
 use Rattle.pddl_ast.specs.Trees.{DomainTree, FormulaTree, ProblemTree}
 use Rattle.pddl_system.specs.Sizes.{first_passed}
 use Rattle.pddl_system.specs.Systems.{system, fluent_names, action_names}

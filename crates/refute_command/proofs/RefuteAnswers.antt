@@ -68,11 +68,14 @@ refute_answer held failed asked a (inr (d, holds, inr (p, holds', inl none))) = 
 refute_answer held failed asked a (inr (d, holds, inr (p, holds', inr (some, inl passed)))) = inr (inr (d, holds, inr (p, holds', inr (some, inl passed))))
 refute_answer held failed asked a (inr (d, holds, inr (p, holds', inr (some, inr (within, inl why))))) = inr (inr (d, holds, inr (p, holds', inr (some, inr (within, inl why)))))
 refute_answer held failed asked a (inr (d, holds, inr (p, holds', inr (some, inr (within, inr (certificate, holds'', inl (tight, alone, is))))))) =
-    inl (record {
-      domain = d;
-      problem = p;
-      both = record { holds_domain = holds; holds_problem = holds' };
-      few = record { goal = some; within = within; certificate = certificate; file = holds''; tight = tight; not_begun = alone };
-    }, is)
+    inl (
+      record {
+        domain = d;
+        problem = p;
+        both = record { holds_domain = holds; holds_problem = holds' };
+        few = record { goal = some; within = within; certificate = certificate; file = holds''; tight = tight; not_begun = alone };
+      },
+      is,
+    )
 refute_answer held failed asked a (inr (d, holds, inr (p, holds', inr (some, inr (within, inr (certificate, holds'', inr then)))))) =
     inr (inr (d, holds, inr (p, holds', inr (some, inr (within, inr (certificate, holds'', then))))))

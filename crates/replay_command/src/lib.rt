@@ -5,4 +5,4 @@ mod record_files;
 mod replay_command;
 
 pub use record_files::read_record_file;
-pub use replay_command::{LoadedRun, ReplayJob, ReplayRequest, first_state};
+pub use replay_command::{ReplayRequest, first_state, replay};

@@ -1,16 +1,21 @@
 //! The command `replay`.
 
-ghost use Rattle.command_base.specs.Answers.{no_memory, refused};
+ghost use Rattle.command_base.specs.Answers.{Answer, no_memory, refused};
+ghost use Rattle.command_base.specs.Courses.{CarriedOut, Stops};
 ghost use Rattle.command_base.specs.Following.{most_followed};
 ghost use Rattle.command_base.specs.InitialStates.{empty_init};
-ghost use Rattle.command_base.specs.Values.{answer_of, refusal_of};
-ghost use Rattle.pddl_ast.specs.Values.{problem_value};
+ghost use Rattle.command_base.specs.Values.{answer_of, refusal_of, replay_words_of};
+ghost use Rattle.pddl_ast.specs.Values.{domain_value, problem_value};
 ghost use Rattle.plan_rules.specs.Plans.{IsPlanOf};
 ghost use Rattle.plan_rules.specs.Rules.{plain_of};
+ghost use Rattle.replay_command.specs.Loaded.{IsToBeRun};
 ghost use Rattle.replay_command.specs.ReplayCommand.{
   FirstThen,
   IsFirstState,
   IsReplayed,
+  RunThen,
+  Tallies,
+  replay_course,
   trace_under,
 };
 ghost use Rattle.run_replay.specs.Records.{record_value};
@@ -28,8 +33,7 @@ ghost use Rattle.task_core.specs.Tasks.{
 
 use crate::record_files::read_record_file;
 use command_base::{
-    Job, Limit, LoadedPlan, Refusal, ReplayWords, Shown, TaskFiles, Text, load_with_plan,
-    no_initial,
+    Limit, LoadedPlan, Refusal, ReplayWords, Shown, TaskFiles, Text, load_with_plan, no_initial,
 };
 use initial_number::{Numbered, numbered_initial};
 use pddl_ast::Problem;
@@ -61,15 +65,6 @@ struct RunRequest<'a> {
     plan: &'a Plan,
 }
 
-/// The command `replay`: the run of the plan under the record, for the domain and the problem, all in files,
-/// with what the monitors show of it. The world gives the record's outcome numbers.
-#[derive(Drop)]
-pub struct ReplayJob<'a> {
-    pub asked: ReplayWords<'a>,
-    pub world: Box<dyn World>,
-    pub monitors: Vec<Box<dyn Monitor>>,
-}
-
 /// A plan with its task, and a record.
 #[derive(Drop)]
 pub struct LoadedRun {
@@ -77,58 +72,75 @@ pub struct LoadedRun {
     pub recorded: Recorded,
 }
 
-impl Job for ReplayJob<'_> {
-    ghost use Rattle.command_base.specs.Values.{replay_words_of};
-    ghost use Rattle.pddl_ast.specs.Values.{domain_value, problem_value};
-    ghost use Rattle.plan_rules.specs.Rules.{plain_of};
-    ghost use Rattle.replay_command.specs.Loaded.{IsToBeRun};
-    ghost use Rattle.replay_command.specs.ReplayCommand.{RunThen, replay_course};
-    ghost use Rattle.run_replay.specs.Records.{record_value};
-    ghost use Rattle.run_replay.specs.TraceTexts.{tallies_of};
-    ghost use Rattle.std.specs.Prelude.{◌≡◌, All, map};
+/// The command `replay`: the run of the plan under the record, for the domain and the problem, all in files,
+/// with what the monitors show of it. The world gives the record's outcome numbers.
+pub fn replay<S: Shelf>(
+    alloc: Global,
+    shelf: &mut S,
+    asked: &ReplayWords<'_>,
+    world: &mut Box<dyn World>,
+    monitors: &mut Vec<Box<dyn Monitor>>,
+) -> Result<Shown, Refusal>
+    requires untold { All (λ monitor. (shown monitor).counted ≡ 0) monitors.old.items }
+    ensures { CarriedOut S.held S.faults S.fetched
+        (replay_course (tallies_of (map (λ monitor. shown monitor) monitors.old.items))
+        (replay_words_of asked.now)) (answer_of result) shelf.old shelf.new }
+{
+    let loaded = load_run(alloc, shelf, asked)?;
+    run_loaded(alloc, asked, loaded, world, monitors)
+}
 
-    type Loaded = LoadedRun;
-
-    ghost course = { λ self. replay_course
-        (tallies_of (map (λ monitor. shown monitor) self.monitors.items))
-        (replay_words_of self.asked) };
-
-    ghost allowed = { λ self. All (λ monitor. (shown monitor).counted ≡ 0) self.monitors.items };
-
-    ghost fits = { λ self loaded. IsToBeRun loaded };
-
-    ghost follows = { λ self loaded. RunThen
-        (tallies_of (map (λ monitor. shown monitor) self.monitors.items))
-        (replay_words_of self.asked) (domain_value loaded.plan.task.domain)
+/// The plan and the record in files, with the task of the domain and the problem.
+fn load_run<S: Shelf>(
+    alloc: Global,
+    shelf: &mut S,
+    asked: &ReplayWords<'_>,
+) -> Result<LoadedRun, Refusal>
+    ensures fits { IfOk result IsToBeRun }
+    ensures loaded { let asked = replay_words_of asked.now in
+        IfOk result (λ loaded. (tallies : Tallies) (answer : Answer)
+        → Stops (RunThen tallies asked (domain_value loaded.plan.task.domain)
         (problem_value loaded.plan.task.problem) (plain_of loaded.plan.read.plan)
-        (record_value loaded.recorded) };
+        (record_value loaded.recorded)) answer
+        → CarriedOut S.held S.faults S.fetched (replay_course tallies asked) answer shelf.old
+        shelf.new) }
+    ensures refused { IfErr result (λ refusal. (tallies : Tallies)
+        → CarriedOut S.held S.faults S.fetched (replay_course tallies (replay_words_of asked.now))
+        (refused (refusal_of refusal)) shelf.old shelf.new) }
+{
+    let files = TaskFiles {
+        domain: asked.domain,
+        problem: asked.problem,
+        goal: None,
+    };
+    let plan = load_with_plan(alloc, shelf, &files, asked.plan)?;
+    let recorded = read_record_file(alloc, shelf, asked.recorded)?;
+    Ok(LoadedRun { plan, recorded })
+}
 
-    fn load<S: Shelf>(&self, alloc: Global, shelf: &mut S) -> Result<LoadedRun, Refusal> {
-        let files = TaskFiles {
-            domain: self.asked.domain,
-            problem: self.asked.problem,
-            goal: None,
-        };
-        let plan = load_with_plan(alloc, shelf, &files, self.asked.plan)?;
-        let recorded = read_record_file(alloc, shelf, self.asked.recorded)?;
-        Ok(LoadedRun { plan, recorded })
-    }
-
-    fn answer(self, alloc: Global, loaded: LoadedRun) -> Result<Shown, Refusal> {
-        let ReplayJob {
-            asked,
-            mut world,
-            mut monitors,
-        } = self;
-        let LoadedRun { plan, recorded } = loaded;
-        let request = RunRequest {
-            asked: &asked,
-            problem: &plan.task.problem,
-            task: &plan.task.grounded.task,
-            plan: &plan.read.plan,
-        };
-        replay_record(alloc, &request, recorded, &mut world, &mut monitors)
-    }
+/// The run of what was loaded.
+fn run_loaded(
+    alloc: Global,
+    asked: &ReplayWords<'_>,
+    loaded: LoadedRun,
+    world: &mut Box<dyn World>,
+    monitors: &mut Vec<Box<dyn Monitor>>,
+) -> Result<Shown, Refusal>
+    requires fits { IsToBeRun loaded }
+    requires untold { All (λ monitor. (shown monitor).counted ≡ 0) monitors.old.items }
+    ensures { Stops (RunThen (tallies_of (map (λ monitor. shown monitor) monitors.old.items))
+        (replay_words_of asked.now) (domain_value loaded.plan.task.domain)
+        (problem_value loaded.plan.task.problem) (plain_of loaded.plan.read.plan)
+        (record_value loaded.recorded)) (answer_of result) }
+{
+    let LoadedRun { plan, recorded } = loaded;
+    let request = RunRequest {
+        asked,
+        problem: &plan.task.problem,
+        task: &plan.task.grounded.task,
+        plan: &plan.read.plan,
+    };
+    replay_record(alloc, &request, recorded, world, monitors)
 }
 
 /// The run of a plan of the task, under a record that was read out of its file.
