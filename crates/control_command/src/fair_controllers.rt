@@ -51,7 +51,7 @@ impl<'a> FairTask<'a> {
 }
 
 /// The controller, or that there is no plan: for patrols first by going through all states, if few can be
-/// reached; then by a search forward, and where that finds none over sets of states.
+/// reached.
 pub(crate) fn fair_tried(
     alloc: Global,
     sought: &FairSought<'_>,
@@ -62,26 +62,11 @@ pub(crate) fn fair_tried(
 {
     match nearest_controller(alloc, sought, task)? {
         Some(shown) => Ok(shown),
-        None => forward_tried(alloc, sought, task),
-    }
-}
-
-/// The same by a search forward, and where that finds none over sets of states.
-fn forward_tried(
-    alloc: Global,
-    sought: &FairSought<'_>,
-    task: &FairTask<'_>,
-) -> Result<Shown, Refusal>
-    requires { IsFairTask sought.now task.now }
-    ensures { IsFairAnswerFor sought.now (answer_of result) }
-{
-    match forward_controller(alloc, sought, task)? {
-        Some(shown) => Ok(shown),
         None => fair_searched(alloc, sought, task),
     }
 }
 
-/// The same over sets of states.
+/// The same over sets of states, and where the table of nodes is full by a search forward.
 fn fair_searched(
     alloc: Global,
     sought: &FairSought<'_>,
@@ -93,19 +78,21 @@ fn fair_searched(
     match search_fairly(alloc, sought.asked.nodes, &task.judged.task, task.goal) {
         Ok(Some(found)) => fair_found(alloc, sought, task, found),
         Ok(None) => Err(no_initial(alloc, sought.asked.problem, sought.problem)?),
-        Err(SetErr::Full) => after_full(sought, task),
+        Err(SetErr::Full) => after_full(alloc, sought, task),
         Err(SetErr::Memory) => Err(Refusal::NoMemory),
     }
 }
 
-/// That the table of nodes is full.
-fn after_full(sought: &FairSought<'_>, task: &FairTask<'_>) -> Result<Shown, Refusal>
+/// The same where the table of nodes is full for that: by a search forward.
+fn after_full(alloc: Global, sought: &FairSought<'_>, task: &FairTask<'_>) -> Result<Shown, Refusal>
     requires ready { IsFairTask sought.now task.now }
     requires full { IsFull sought.now.asked.now.nodes task.now.judged.now.task }
     ensures { IsFairAnswerFor sought.now (answer_of result) }
 {
-    let _ = task;
-    Err(Refusal::Full(sought.asked.nodes))
+    match forward_controller(alloc, sought, task)? {
+        Some(shown) => Ok(shown),
+        None => Err(Refusal::Full(sought.asked.nodes)),
+    }
 }
 
 /// The controller for what a search over sets of states found, or that there is no plan.

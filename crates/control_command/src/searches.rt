@@ -132,7 +132,8 @@ pub(crate) fn seek(
     }
 }
 
-/// Looks for a plan with contexts: with little work state by state; thoroughly over sets of states.
+/// Looks for a plan with contexts: with little work state by state for patrols; thoroughly over sets of
+/// states, and where the table of nodes is full by a heuristic search.
 fn seek_contexts(
     alloc: Global,
     nodes: u32,
@@ -145,18 +146,26 @@ fn seek_contexts(
     requires shallow { IfSome grounded.now.ctl (λ goal. IsAtMostDeep 199 (ctl_value goal)) }
 {
     match effort {
-        Effort::Little => seek_contexts_quickly(alloc, grounded),
-        Effort::Thorough => outcome_of(follow_contexts(alloc, nodes, grounded)),
+        Effort::Little => outcome_of(follow_nearest(alloc, grounded)),
+        Effort::Thorough => seek_contexts_thoroughly(alloc, nodes, grounded),
         Effort::Much => Ok(Searched::Nothing),
     }
 }
 
-/// Looks for a plan with contexts state by state: for patrols where few states can be reached by going
-/// through all, then by a search forward.
-fn seek_contexts_quickly(alloc: Global, grounded: &Grounded) -> Result<Searched, AllocError> {
-    match outcome_of(follow_nearest(alloc, grounded))? {
-        Searched::Nothing => outcome_of(follow_forward(alloc, grounded)),
-        found => Ok(found),
+/// Looks for a plan with contexts thoroughly.
+fn seek_contexts_thoroughly(
+    alloc: Global,
+    nodes: u32,
+    grounded: &Grounded,
+) -> Result<Searched, AllocError>
+    requires room { IsNodeLimit nodes }
+    requires goal_names { IfSome grounded.now.ctl
+        (λ goal. NamesBelow (fluent_count grounded.now.task) (ctl_value goal)) }
+    requires shallow { IfSome grounded.now.ctl (λ goal. IsAtMostDeep 199 (ctl_value goal)) }
+{
+    match follow_contexts(alloc, nodes, grounded) {
+        Err(Stop::Full) => outcome_of(follow_forward(alloc, grounded)),
+        found => outcome_of(found),
     }
 }
 

@@ -1,6 +1,6 @@
-//! Plans with contexts that are found state by state, before sets of states are asked: for patrols where
-//! few states can be reached, and for all goals by a search forward. Those whose actions may be tried again
-//! are looked for in the same two ways. Conditions are asked in each state, in their short forms.
+//! Plans with contexts that are found state by state: for patrols where few states can be reached, and
+//! for all goals where the sets of states don't fit. Those whose actions may be tried again are looked for
+//! in the same two ways. Conditions are asked in each state, in their short forms.
 
 ghost use Rattle.plan_rules.specs.Plans.{IsAutomatonOf};
 ghost use Rattle.plan_rules.specs.Rules.{context_rules_of};
@@ -28,7 +28,7 @@ const FEW: Allowance = Allowance {
 /// What a search forward may do.
 const MANY: Allowance = Allowance {
     states: 200_000,
-    work: 100_000_000,
+    work: 300_000_000,
 };
 
 /// What the plan for a patrol goal reaches that goes a shortest way to each visit, if few states can be

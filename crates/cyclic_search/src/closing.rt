@@ -2,7 +2,7 @@
 //! closed pair is taken, the outcome that is hoped for a nearer one. From there the states needn't be
 //! gone through one by one (strong cyclic detection, after Muise, McIlraith and Beck 2012).
 
-use search_space::{NONE, Part, Stop, at, is_marked, progress, regress, small};
+use search_space::{NONE, Part, Stop, at, is_marked, known, progress, regress, small, support};
 use search_world::{Pair, Policy, World};
 
 /// The most pairs of which closed ones are looked for.
@@ -172,7 +172,7 @@ fn push_nexts(
     let first = world.actions.first_label(pair.action);
     for (place, effect) in of.effects.iter().enumerate() {
         let after = world.completed(&progress(effect, whole));
-        if !world.is_goal_part(&after) {
+        if known(world.goal.cond, &after) != Some(true) {
             let is_hoped = first.saturating_add(small(place)) == pair.label;
             nexts.push(Next {
                 after,
@@ -357,7 +357,8 @@ fn with_needs(
         let next = world.bits_of(follower.state);
         let mut wanted = policy.patterns.part(follower.pair);
         if follower.pair == NONE {
-            wanted = world.goal_part(&next);
+            wanted = Part::none();
+            support(world.goal.cond, &next, true, &mut wanted);
         }
         let after = world.completed(&progress(effect, &world.completed(&part)));
         if !after.entails(&wanted) {

@@ -2,7 +2,7 @@
 
 use crate::finder::{Finder, Step};
 use search_space::{Bits, Hope, NONE, Part, Stop, progress, regress, small, support};
-use search_world::{Lessons, Pair, Policy, World, difference};
+use search_world::{Lessons, Pair, Policy, World};
 use std::alloc::{AllocError, Global};
 use task_core::Class;
 
@@ -121,7 +121,7 @@ impl Planner {
             distance: 0,
         };
         if world.is_goal(end) {
-            next.part = world.goal_part(&world.bits_of(end));
+            support(world.goal.cond, &world.bits_of(end), true, &mut next.part);
         } else {
             let pair = self.policy.pair_at(world, end)?;
             next.part = self.policy.patterns.part(pair);
@@ -210,6 +210,19 @@ fn keep_alive(world: &World<'_>, state: &Bits, action: u32, place: u32, part: &m
             }
         }
     }
+}
+
+/// A literal of a state that a pattern doesn't have, a positive one where there is one.
+fn difference(state: &Bits, pattern: &Part) -> Option<Part> {
+    let differing = pattern.value.differing(state).and(&pattern.care);
+    let positive = differing.and(state).first();
+    let fluent = match positive {
+        Some(fluent) => fluent,
+        None => differing.first()?,
+    };
+    let mut literal = Part::none();
+    literal.add(fluent, state.get(fluent));
+    Some(literal)
 }
 
 /// Whether a state outside the goal has no way to it in the relaxed task; then it becomes a pattern.

@@ -7,7 +7,7 @@ use cyclic_search::{Planner, Rounds, solve_weak};
 use plan_rules::Rule;
 use rule_shortening::shorter_rules;
 use search_space::{Bits, NONE, Part, States, Stop, at, small};
-use search_world::{Aim, Allowance, Policy, World};
+use search_world::{Allowance, Policy, World};
 use std::alloc::{AllocError, Global};
 use strong_search::AndOrGraph;
 use task_core::{ActionId, Class, Cond, Lit, State, Task};
@@ -95,8 +95,7 @@ fn seek(
     class: Class,
     allowance: &Allowance,
 ) -> Result<GuidedAnswer, Stop> {
-    let mut world = World::new(alloc, task, Aim::of(goal), class, allowance)?;
-    world.add_initial(task)?;
+    let mut world = World::new(alloc, task, goal, class, allowance)?;
     let found = match class {
         Class::Weak => seek_weak(&mut world)?,
         Class::Cyclic => seek_cyclic(&mut world)?,

@@ -33,8 +33,6 @@ pub struct Draft {
     pub(crate) operators: Vec<Operator>,
     pub(crate) facts: u32,
     pub(crate) goal: u32,
-    /// The fact that the goal is there, and all that has to be had after it.
-    pub(crate) whole: u32,
     /// For each action the operator that says that it can be executed, or none.
     pub(crate) entry: Vec<u32>,
     /// For each list of conditional changes that outcomes have, the fact that it may come about.
@@ -49,7 +47,6 @@ impl Draft {
             operators: Vec::new(alloc),
             facts: fluents.saturating_mul(2),
             goal: NONE,
-            whole: NONE,
             entry: Vec::new(alloc),
             lists: IndexMap::new(alloc),
         }
@@ -145,24 +142,13 @@ impl Draft {
         }
     }
 
-    /// Adds the goal, and what has to be had some time after it.
-    pub fn add_goal(&mut self, test: &Test<'_>, later: &[Cond]) -> Result<(), AllocError> {
+    /// Adds the goal.
+    pub fn add_goal(&mut self, test: &Test<'_>) -> Result<(), AllocError> {
         let mut needs = Vec::new(self.alloc);
         self.needs_of(test, &mut needs)?;
         let goal = self.fact();
         self.goal = goal;
-        self.whole = goal;
         self.derive(needs, goal)?;
-        if later.is_empty() {
-            return Ok(());
-        }
-        let mut needs = one(self.alloc, goal)?;
-        for cond in later {
-            self.needs_of(&Test::new(cond), &mut needs)?;
-        }
-        let whole = self.fact();
-        self.whole = whole;
-        self.derive(needs, whole)?;
         Ok(())
     }
 

@@ -41,7 +41,6 @@ const FAR: Reached = Reached {
 struct Web {
     fluents: u32,
     goal: u32,
-    whole: u32,
     prices: Vec<Price>,
     needs: Rows,
     gives: Rows,
@@ -56,7 +55,6 @@ impl Web {
         let mut web = Web {
             fluents,
             goal: draft.goal,
-            whole: draft.whole,
             prices: Vec::new(alloc),
             needs: Rows::new(alloc),
             gives: Rows::new(alloc),
@@ -153,8 +151,7 @@ impl Work {
         Ok(())
     }
 
-    /// Takes facts in the order of what they cost until the goal is there, and what has to be had after
-    /// it. Tells whether they are.
+    /// Takes facts in the order of what they cost until the goal is there. Tells whether it is.
     fn spread(&mut self, web: &Web) -> Result<bool, AllocError> {
         for cost in 0..=MOST {
             if cost as usize > self.top {
@@ -167,7 +164,7 @@ impl Work {
         Ok(false)
     }
 
-    /// Takes the facts that cost so much. Tells whether the last one that is wanted is among them.
+    /// Takes the facts that cost so much. Tells whether the goal is among them.
     fn spread_at(&mut self, web: &Web, cost: u32) -> Result<bool, AllocError> {
         for place in 0..u32::MAX as usize {
             let fact = match self.bucket_at(cost, place) {
@@ -175,7 +172,7 @@ impl Work {
                 None => return Ok(false),
             };
             if self.cost_of(fact) == cost {
-                if fact == web.whole {
+                if fact == web.goal {
                     return Ok(true);
                 }
                 self.use_fact(web, fact, cost)?;
@@ -377,8 +374,8 @@ impl Wave {
     }
 
     /// The estimate from a state of which the fluents count that are true in `care`; the others may
-    /// have either value. `None` where the goal, or what has to be had after it, can't be had even so.
-    /// Notes the helpful outcomes where these are wanted, and else gives what the goal costs.
+    /// have either value. `None` where the goal can't be had even so. Notes the helpful outcomes
+    /// where these are wanted, and else gives what the goal costs.
     pub fn estimate(
         &mut self,
         state: &Bits,

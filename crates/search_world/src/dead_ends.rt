@@ -54,7 +54,8 @@ impl<'a> World<'a> {
     pub fn generalise_stuck(&mut self, number: u32) -> Result<bool, Stop> {
         self.effort.spend(4)?;
         let state = self.bits_of(number);
-        let mut part = self.outside_part(&state);
+        let mut part = Part::none();
+        support(self.goal.cond, &state, false, &mut part);
         let mut choices = Vec::new(self.alloc);
         for action in 0..self.actions.count() {
             let ways = self.reasons(number, &state, action, &part)?;

@@ -20,7 +20,7 @@ pub struct Effort {
 
 impl Effort {
     /// None so far, of at most so much.
-    pub fn new(most: u32) -> Effort {
+    pub(crate) fn new(most: u32) -> Effort {
         Effort {
             done: 0,
             most: most as u64,

@@ -16,6 +16,6 @@ mod world;
 
 pub use effort::{Allowance, Effort};
 pub use lessons::Lessons;
-pub use patterns::{Patterns, difference};
+pub use patterns::Patterns;
 pub use policy::{Pair, Policy};
-pub use world::{Aim, World};
+pub use world::World;

@@ -18,7 +18,7 @@ pub struct Patterns {
 
 impl Patterns {
     /// No partial state yet.
-    pub fn new(alloc: Global) -> Result<Patterns, AllocError> {
+    pub(crate) fn new(alloc: Global) -> Result<Patterns, AllocError> {
         let mut rows = Vec::new(alloc);
         for _ in 0..512 {
             rows.push(Vec::new(alloc))?;
@@ -52,7 +52,7 @@ impl Patterns {
     }
 
     /// Adds a partial state, and tells its number.
-    pub fn add(&mut self, part: Part) -> Result<u32, AllocError> {
+    pub(crate) fn add(&mut self, part: Part) -> Result<u32, AllocError> {
         let number = self.len();
         self.parts.push(part)?;
         match self.key_of(&part) {
@@ -136,7 +136,7 @@ impl Patterns {
     }
 
     /// Whether a state has one of those from a number on.
-    pub fn some_from(&self, first: u32, state: &Bits) -> bool {
+    pub(crate) fn some_from(&self, first: u32, state: &Bits) -> bool {
         for number in first..self.len() {
             if self.part(number).matches(state) {
                 return true;
@@ -144,17 +144,4 @@ impl Patterns {
         }
         false
     }
-}
-
-/// A literal of a state that a pattern doesn't have, a positive one where there is one.
-pub fn difference(state: &Bits, pattern: &Part) -> Option<Part> {
-    let differing = pattern.value.differing(state).and(&pattern.care);
-    let positive = differing.and(state).first();
-    let fluent = match positive {
-        Some(fluent) => fluent,
-        None => differing.first()?,
-    };
-    let mut literal = Part::none();
-    literal.add(fluent, state.get(fluent));
-    Some(literal)
 }

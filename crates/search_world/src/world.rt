@@ -3,12 +3,11 @@
 
 use crate::buried::Buried;
 use crate::effort::{Allowance, Effort};
-use crate::patterns::{Patterns, difference};
+use crate::patterns::Patterns;
 use mutex_pairs::Exclusions;
 use relaxed_task::{Draft, Wave};
 use search_space::{
-    Actions, Bits, Hope, NONE, Part, Space, States, Stop, Test, at, choices_of, first_fluents,
-    known, small, support,
+    Actions, Bits, Hope, NONE, Part, Space, States, Stop, Test, at, first_fluents, small,
 };
 use std::alloc::{AllocError, Global};
 use task_core::{Class, Cond, InitSpec, Task, init_states};
@@ -16,36 +15,12 @@ use task_core::{Class, Cond, InitSpec, Task, init_states};
 /// How many initial states are taken at most.
 const MOST_INITIAL: usize = 65_536;
 
-/// What is sought.
-#[derive(Clone, Copy)]
-pub struct Aim<'a> {
-    pub goal: &'a Cond,
-    /// What has to be had some time after the goal, each for itself.
-    pub later: &'a [Cond],
-    /// What has to hold until the goal is had, if anything is asked.
-    pub guard: Option<&'a Cond>,
-}
-
-impl<'a> Aim<'a> {
-    /// A goal alone.
-    pub fn of(goal: &'a Cond) -> Aim<'a> {
-        Aim {
-            goal,
-            later: &[],
-            guard: None,
-        }
-    }
-}
-
 /// The task as the searches see it.
 #[derive(Drop)]
 pub struct World<'a> {
     pub alloc: Global,
     pub class: Class,
     pub goal: Test<'a>,
-    guard: Option<Test<'a>>,
-    /// Partial states in which the goal doesn't count.
-    pub refused: Patterns,
     pub actions: Actions<'a>,
     pub space: Space<'a>,
     pub states: States,
@@ -64,25 +39,23 @@ pub struct World<'a> {
 }
 
 impl<'a> World<'a> {
-    /// Of a task, without a state.
+    /// Of a task with a goal; the initial states are met.
     pub fn new(
         alloc: Global,
         task: &'a Task,
-        aim: Aim<'a>,
+        goal: &'a Cond,
         class: Class,
         allowance: &Allowance,
     ) -> Result<World<'a>, Stop> {
         let fluents = small(task.fluents.len()).min(256);
         let actions = Actions::new(alloc, task)?;
-        let goal = Test::new(aim.goal);
-        let draft = drafted(alloc, fluents, &goal, aim.later, &actions)?;
+        let goal = Test::new(goal);
+        let draft = drafted(alloc, fluents, &goal, &actions)?;
         let wave = Wave::new(alloc, &draft, fluents, actions.label_count())?;
         let mut world = World {
             alloc,
             class,
             goal,
-            guard: None,
-            refused: Patterns::new(alloc)?,
             actions,
             space: Space::new(alloc, task)?,
             states: States::new(alloc, allowance.states),
@@ -98,28 +71,11 @@ impl<'a> World<'a> {
             effort: Effort::new(allowance.expanded),
             exclusions: None,
         };
-        if let Some(guard) = aim.guard {
-            world.guard = Some(Test::new(guard));
-            world.forbid(&choices_of(alloc, guard, false)?)?;
-        }
+        world.add_initial(task)?;
         Ok(world)
     }
 
-    /// Notes as dead ends the states outside the goal with some of these values.
-    pub fn forbid(&mut self, parts: &[Part]) -> Result<(), Stop> {
-        let outside = choices_of(self.alloc, self.goal.cond, false)?;
-        for part in parts {
-            for other in &outside {
-                if part.agrees(other) {
-                    self.deads.add(part.joined(other))?;
-                }
-            }
-        }
-        Ok(())
-    }
-
-    /// Meets the initial states of a task.
-    pub fn add_initial(&mut self, task: &Task) -> Result<(), Stop> {
+    fn add_initial(&mut self, task: &Task) -> Result<(), Stop> {
         let states = init_states(self.alloc, task, MOST_INITIAL)?;
         for state in &states {
             let number = self.states.number_of(self.alloc, &Bits::of(state))?;
@@ -133,80 +89,9 @@ impl<'a> World<'a> {
         self.states.bits_of(number)
     }
 
-    /// Whether a state is in the goal, and the goal counts there.
+    /// Whether a state is in the goal.
     pub fn is_goal(&self, number: u32) -> bool {
-        self.is_had(&self.states.bits_of(number))
-    }
-
-    /// The same of the values in a state.
-    pub fn is_had(&self, state: &Bits) -> bool {
-        self.goal.holds(state) && !self.refused.some_from(0, state)
-    }
-
-    /// Values of a goal state that are enough for the goal.
-    pub fn goal_part(&self, state: &Bits) -> Part {
-        let mut part = Part::none();
-        support(self.goal.cond, state, true, &mut part);
-        for number in 0..self.refused.len() {
-            let refused = self.refused.part(number);
-            if part.agrees(&refused) {
-                if let Some(literal) = difference(state, &refused) {
-                    part = part.joined(&literal);
-                }
-            }
-        }
-        part
-    }
-
-    /// Values of a state outside the goal that are enough to be outside.
-    pub(crate) fn outside_part(&self, state: &Bits) -> Part {
-        for number in 0..self.refused.len() {
-            let refused = self.refused.part(number);
-            if refused.matches(state) {
-                return refused;
-            }
-        }
-        let mut part = Part::none();
-        support(self.goal.cond, state, false, &mut part);
-        part
-    }
-
-    /// Whether each state with these values is in the goal, as far as is seen.
-    pub fn is_goal_part(&self, part: &Part) -> bool {
-        if known(self.goal.cond, part) != Some(true) {
-            return false;
-        }
-        for number in 0..self.refused.len() {
-            if part.agrees(&self.refused.part(number)) {
-                return false;
-            }
-        }
-        true
-    }
-
-    /// The number of a state, which is added where it wasn't met.
-    pub fn number_of(&mut self, state: &Bits) -> Result<u32, Stop> {
-        self.states.number_of(self.alloc, state)
-    }
-
-    /// Adds the patterns of dead ends from a number on to a list, and of some states those dead ends that
-    /// have no pattern. Tells how many patterns there are.
-    pub fn new_deads(
-        &mut self,
-        first: u32,
-        states: &[u32],
-        list: &mut Vec<Part>,
-    ) -> Result<u32, Stop> {
-        for number in first..self.deads.len() {
-            list.push(self.deads.part(number))?;
-        }
-        for state in states {
-            let one = [*state];
-            if self.some_dead(&one) && !self.deads.some_from(0, &self.bits_of(*state)) {
-                list.push(self.whole(*state))?;
-            }
-        }
-        Ok(self.deads.len())
+        self.goal.holds(&self.states.bits_of(number))
     }
 
     /// Puts the numbers of the states to which an action's outcomes lead into a list, none for an
@@ -222,7 +107,7 @@ impl<'a> World<'a> {
         let Some(of) = self.actions.get(action) else {
             return Ok(false);
         };
-        if !of.test.holds(&state) || !self.is_guarded(&state) {
+        if !of.test.holds(&state) {
             return Ok(false);
         }
         let mut is_some = false;
@@ -236,14 +121,6 @@ impl<'a> World<'a> {
             }
         }
         Ok(is_some)
-    }
-
-    /// Whether the guard holds in a state, if there is one.
-    fn is_guarded(&self, state: &Bits) -> bool {
-        match &self.guard {
-            Some(guard) => guard.holds(state),
-            None => true,
-        }
     }
 
     /// What is known of a state's way to the goal.
@@ -409,11 +286,10 @@ fn drafted(
     alloc: Global,
     fluents: u32,
     goal: &Test<'_>,
-    later: &[Cond],
     actions: &Actions<'_>,
 ) -> Result<Draft, AllocError> {
     let mut draft = Draft::new(alloc, fluents);
-    draft.add_goal(goal, later)?;
+    draft.add_goal(goal)?;
     for (number, action) in actions.moves.iter().enumerate() {
         draft.add_action(action, actions.first_label(small(number)))?;
     }

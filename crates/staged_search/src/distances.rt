@@ -1,8 +1,9 @@
 //! How many steps it takes to come to some states, level by level backward from them.
 
 use crate::fields::Field;
+use crate::marks::Marks;
+use crate::numbers::{NONE, at, is_marked, put, small};
 use crate::world::World;
-use search_space::{NONE, at, is_marked, put, small};
 use std::alloc::{AllocError, Global};
 
 /// Which outcomes a plan is to be good for.
@@ -55,12 +56,13 @@ impl Levels {
     }
 }
 
-/// What is asked for: the states from which the way back begins, by level, and the states that may be
-/// passed.
+/// What is asked for: the states from which the way back begins, by level, the states that may be passed,
+/// and the stage that it is for.
 #[derive(Clone, Copy)]
 pub(crate) struct Quest<'a> {
     pub(crate) starts: &'a Levels,
     pub(crate) guard: &'a [bool],
+    pub(crate) stage: usize,
     pub(crate) way: Way,
 }
 
@@ -111,7 +113,8 @@ impl Tide {
             return Ok(());
         };
         if is_marked(views.quest.guard, of.state) && at(&self.found, of.state) == NONE {
-            self.next.add(level.saturating_add(1), of.state)?;
+            let step = views.marks.step(views.quest.stage, of.action);
+            self.next.add(level.saturating_add(step), of.state)?;
         }
         Ok(())
     }
@@ -121,6 +124,7 @@ impl Tide {
 #[derive(Clone, Copy)]
 struct Views<'a> {
     field: &'a Field,
+    marks: &'a Marks,
     quest: Quest<'a>,
 }
 
@@ -130,10 +134,15 @@ struct Views<'a> {
 pub(crate) fn distances(
     world: &World<'_>,
     field: &Field,
+    marks: &Marks,
     quest: Quest<'_>,
 ) -> Result<Vec<u32>, AllocError> {
     let alloc = world.alloc;
-    let views = Views { field, quest };
+    let views = Views {
+        field,
+        marks,
+        quest,
+    };
     let mut tide = Tide {
         found: vec![in alloc; NONE; world.len() as usize]?,
         left: outcome_counts(world)?,

@@ -1,7 +1,7 @@
 //! The states that are left where the others are lost, and the branches that lead to them alone.
 
+use crate::numbers::{NONE, at, is_marked, put, small, unmark};
 use crate::world::World;
-use search_space::{NONE, at, is_marked, put, small};
 use std::alloc::AllocError;
 
 /// The states that are left. Where they are to be stayed in, each that was gone on from has a branch that
@@ -97,14 +97,6 @@ impl Field {
             }
         }
         Ok(is_smaller)
-    }
-}
-
-/// Takes the mark of a place away.
-fn unmark(marks: &mut [bool], place: u32) {
-    let place = place as usize;
-    if place < marks.len() {
-        marks[place] = false;
     }
 }
 

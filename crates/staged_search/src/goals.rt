@@ -1,6 +1,6 @@
 //! What is asked for, stage by stage or visit by visit.
 
-use ctl_syntax::{ContextGoal, copied_condition};
+use ctl_syntax::ContextGoal;
 use std::alloc::{AllocError, Global};
 use task_core::Cond;
 
@@ -66,23 +66,4 @@ impl<'a> Goal<'a> {
             End::Again => self.stages.len(),
         }
     }
-}
-
-/// The targets, the last one with what is kept, and behind them a condition that never holds.
-pub(crate) fn targets_of(alloc: Global, goal: &Goal<'_>) -> Result<Vec<Cond>, AllocError> {
-    let mut targets = Vec::new(alloc);
-    for (number, stage) in goal.stages.iter().enumerate() {
-        let target = copied_condition(alloc, stage.target)?;
-        match goal.end {
-            End::Keep(keep) if number.saturating_add(1) == goal.stages.len() => {
-                let mut parts = Vec::new(alloc);
-                parts.push(target)?;
-                parts.push(copied_condition(alloc, keep)?)?;
-                targets.push(Cond::All(parts))?;
-            }
-            _ => targets.push(target)?,
-        }
-    }
-    targets.push(Cond::No)?;
-    Ok(targets)
 }

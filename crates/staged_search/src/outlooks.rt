@@ -4,11 +4,16 @@ use crate::distances::{Levels, Quest, Way, distances};
 use crate::fields::Field;
 use crate::goals::{End, Goal};
 use crate::marks::Marks;
+use crate::numbers::{NONE, at, is_marked};
+use crate::stops::Stop;
 use crate::world::{Branch, World};
-use search_space::{NONE, Stop, at};
+
+/// What an outcome costs that the search hasn't gone on from, after the last stage.
+const UNKNOWN: u32 = 1_024;
 
 /// For each stage in how many steps its target is come to from each state, where the stages after it can
-/// be met then; for what is kept 0; no number where they can't be.
+/// be met then; for what is kept 0; no number where they can't be. A state that the search hasn't gone on
+/// from is taken to be as far as it seems.
 #[derive(Drop)]
 pub(crate) struct Outlook {
     pub(crate) lists: Vec<Vec<u32>>,
@@ -77,13 +82,15 @@ impl Outlook {
     pub(crate) fn best_branch<'a>(
         &self,
         world: &'a World<'_>,
+        marks: &Marks,
         stage: usize,
         state: u32,
     ) -> Option<&'a Branch> {
         let mut best = None;
         let mut least = NONE;
         for branch in world.branches_of(state) {
-            let cost = self.cost(stage, branch).saturating_add(1);
+            let step = marks.step(stage, branch.action);
+            let cost = self.cost(world, stage, branch).saturating_add(step);
             if cost < least {
                 least = cost;
                 best = Some(branch);
@@ -93,9 +100,9 @@ impl Outlook {
     }
 
     /// What a branch costs in a stage; no number where an outcome is lost.
-    fn cost(&self, stage: usize, branch: &Branch) -> u32 {
+    fn cost(&self, world: &World<'_>, stage: usize, branch: &Branch) -> u32 {
         if self.is_end(stage) {
-            return self.cost_to_keep(stage, branch);
+            return self.cost_to_keep(world, stage, branch);
         }
         let mut cost = match self.way {
             Way::Strong => 0,
@@ -115,13 +122,15 @@ impl Outlook {
     }
 
     /// The same after the last stage: best is what leaves the state as it is.
-    fn cost_to_keep(&self, stage: usize, branch: &Branch) -> u32 {
+    fn cost_to_keep(&self, world: &World<'_>, stage: usize, branch: &Branch) -> u32 {
         let mut cost = 0u32;
         for state in &branch.after {
             if self.distance(stage, *state) == NONE {
                 return NONE;
             }
-            if *state != branch.state {
+            if !world.is_expanded(*state) {
+                cost = cost.saturating_add(UNKNOWN);
+            } else if *state != branch.state {
                 cost = cost.saturating_add(1);
             }
         }
@@ -144,10 +153,11 @@ fn chain_lists(
         quests.push(Quest {
             starts: &starts,
             guard: marks.guard(stage),
+            stage,
             way,
         })?;
         let field = Field::new(world, false)?;
-        let mut found = settled(world, field, &quests)?;
+        let mut found = settled(world, field, marks, &quests)?;
         if let Some(list) = found.pop() {
             lists.push(list)?;
         }
@@ -172,7 +182,8 @@ fn kept_list(world: &mut World<'_>, marks: &Marks) -> Result<Vec<u32>, Stop> {
     Ok(list)
 }
 
-/// Where a stage is met: where its target holds and the stages after it can be met.
+/// Where a stage is met: where its target holds and the stages after it can be met. Where the search hasn't
+/// gone on from a state, it is as far as it seems.
 fn stage_starts(
     world: &World<'_>,
     marks: &Marks,
@@ -187,6 +198,11 @@ fn stage_starts(
         };
         if marks.is_met(stage, number) && can_go_on {
             starts.add(0, number)?;
+        } else if !world.is_expanded(number) && is_marked(marks.guard(stage), number) {
+            let hope = marks.hope(stage, stage, number);
+            if hope != NONE {
+                starts.add(hope, number)?;
+            }
         }
     }
     Ok(starts)
@@ -208,19 +224,25 @@ fn patrol_lists(
         quests.push(Quest {
             starts: each,
             guard: marks.guard(visit),
+            stage: visit,
             way,
         })?;
     }
     let field = Field::new(world, true)?;
-    settled(world, field, &quests)
+    settled(world, field, marks, &quests)
 }
 
-/// Where a visit is made.
+/// Where a visit is made. Where the search hasn't gone on from a state, it is as far as it seems.
 fn visit_starts(world: &World<'_>, marks: &Marks, visit: usize) -> Result<Levels, Stop> {
     let mut starts = Levels::new(world.alloc);
     for number in 0..world.len() {
         if marks.is_met(visit, number) {
             starts.add(0, number)?;
+        } else if !world.is_expanded(number) {
+            let hope = marks.hope(0, visit, number);
+            if hope != NONE {
+                starts.add(hope, number)?;
+            }
         }
     }
     Ok(starts)
@@ -230,6 +252,7 @@ fn visit_starts(world: &World<'_>, marks: &Marks, visit: usize) -> Result<Levels
 fn settled(
     world: &mut World<'_>,
     field: Field,
+    marks: &Marks,
     quests: &[Quest<'_>],
 ) -> Result<Vec<Vec<u32>>, Stop> {
     let mut field = field;
@@ -237,7 +260,7 @@ fn settled(
         let mut lists = Vec::new(world.alloc);
         for quest in quests {
             world.look_at_all()?;
-            lists.push(distances(world, &field, *quest)?)?;
+            lists.push(distances(world, &field, marks, *quest)?)?;
         }
         if !field.shrink(world, &lists)? {
             return Ok(lists);

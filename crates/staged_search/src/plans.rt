@@ -6,18 +6,15 @@ ghost use Rattle.std.specs.Prelude.{IfOk, IfSome};
 ghost use Rattle.task_core.specs.Tasks.{action_count, fluent_count};
 
 use crate::distances::Way;
-use crate::goals::{Goal, targets_of};
-use crate::searches::search_listed;
-use crate::stops::Effort;
-use crate::tours::Tour;
-use crate::traces::Act;
+use crate::goals::Goal;
+use crate::searches::{search_forward, search_listed};
+use crate::stops::{Effort, Stop};
+use crate::traces::{Act, Trace};
 use crate::world::World;
 use ctl_syntax::ContextGoal;
 use plan_rules::{AutoPlan, AutoRule, MAX_CONTEXTS, Next};
-use search_space::Stop;
-use search_world::Allowance as LegAllowance;
 use std::alloc::{AllocError, Global};
-use task_core::{Class, FluentId, Lit, State, Task};
+use task_core::{FluentId, Lit, State, Task};
 
 /// How much a search may do: counts, never clocks.
 #[derive(Clone, Copy)]
@@ -49,7 +46,7 @@ pub fn plan_listed(
 {
     match listed(alloc, task, goal, way, allowance) {
         Ok(plan) => Ok(plan),
-        Err(Stop::TooMany | Stop::GaveUp) => Ok(None),
+        Err(Stop::TooMany) => Ok(None),
         Err(Stop::Memory) => Err(AllocError),
     }
 }
@@ -69,7 +66,7 @@ pub fn plan_forward(
 {
     match sought(alloc, task, goal, way, allowance) {
         Ok(plan) => Ok(plan),
-        Err(Stop::TooMany | Stop::GaveUp) => Ok(None),
+        Err(Stop::TooMany) => Ok(None),
         Err(Stop::Memory) => Err(AllocError),
     }
 }
@@ -87,11 +84,9 @@ fn listed(
         (context_rules_of plan))) }
 {
     let goal = Goal::new(alloc, goal)?;
-    let mut world = World::new(alloc, task, allowance.states, Effort::new(allowance.work))?;
-    match search_listed(&mut world, &goal, way)? {
-        Some(trace) => plan_of(alloc, task, goal.contexts(), &trace.acts),
-        None => Ok(None),
-    }
+    let mut world = begun(alloc, task, allowance)?;
+    let trace = search_listed(&mut world, &goal, way)?;
+    planned(task, &world, goal.contexts(), trace)
 }
 
 /// The plan that is found forward.
@@ -107,34 +102,37 @@ fn sought(
         (context_rules_of plan))) }
 {
     let goal = Goal::new(alloc, goal)?;
-    let targets = targets_of(alloc, &goal)?;
-    let class = match way {
-        Way::Strong => Class::Strong,
-        Way::Fair => Class::Cyclic,
-    };
-    let most = forward_allowance(task, &goal, allowance);
-    let mut tour = Tour::new(alloc, task, &goal, &targets, class, &most)?;
-    match tour.solve()? {
-        Some(acts) => plan_of(alloc, task, goal.contexts(), &acts),
-        None => Ok(None),
-    }
+    let mut world = begun(alloc, task, allowance)?;
+    let trace = search_forward(&mut world, &goal, way)?;
+    planned(task, &world, goal.contexts(), trace)
 }
 
-/// How much each leg may do: an equal share.
-fn forward_allowance(task: &Task, goal: &Goal<'_>, whole: &Allowance) -> LegAllowance {
-    let tests = task.actions.len().saturating_add(1) as u64;
-    let legs = goal.stages.len().saturating_add(1) as u64;
-    let expanded = whole.work / tests.max(1) / legs.max(1);
-    LegAllowance {
-        expanded: expanded.min(u32::MAX as u64) as u32,
-        states: whole.states,
+/// The initial states.
+fn begun<'a>(alloc: Global, task: &'a Task, allowance: &Allowance) -> Result<World<'a>, Stop> {
+    World::new(alloc, task, allowance.states, Effort::new(allowance.work))
+}
+
+/// The plan that does what was found, if something was.
+fn planned(
+    task: &Task,
+    world: &World<'_>,
+    contexts: usize,
+    trace: Option<Trace>,
+) -> Result<Option<AutoPlan>, Stop>
+    ensures { IfOk result (λ found. IfSome found (λ plan.
+        IsAutomatonOf (fluent_count task.now) (action_count task.now) plan.contexts
+        (context_rules_of plan))) }
+{
+    match trace {
+        Some(trace) => plan_of(task, world, contexts, &trace.acts),
+        None => Ok(None),
     }
 }
 
 /// The plan with so many contexts that does this.
 fn plan_of(
-    alloc: Global,
     task: &Task,
+    world: &World<'_>,
     contexts: usize,
     acts: &[Act],
 ) -> Result<Option<AutoPlan>, Stop>
@@ -146,9 +144,9 @@ fn plan_of(
         return Ok(None);
     }
     let count = contexts as u32;
-    let mut rules = Vec::new(alloc);
+    let mut rules = Vec::new(world.alloc);
     for act in acts {
-        match rule_of(alloc, task, count, act)? {
+        match rule_of(task, world, count, act)? {
             Some(rule) => rules.push(rule)?,
             None => return Ok(None),
         }
@@ -161,8 +159,8 @@ fn plan_of(
 
 /// The rule that does this, if the task has the action and the plan the contexts.
 fn rule_of(
-    alloc: Global,
     task: &Task,
+    world: &World<'_>,
     contexts: u32,
     act: &Act,
 ) -> Result<Option<AutoRule>, AllocError>
@@ -176,7 +174,7 @@ fn rule_of(
     }
     Ok(Some(AutoRule {
         context: act.stage as u32 + 1,
-        cube: full_cube(alloc, task, &act.state)?,
+        cube: full_cube(world.alloc, task, &world.state(act.state))?,
         action: act.action,
         next: Next::One(act.next as u32 + 1),
     }))

@@ -1,10 +1,12 @@
 //! What a plan does where it comes: along the best branches from the initial states.
 
+use crate::marks::Marks;
+use crate::numbers::{NONE, at};
 use crate::outlooks::Outlook;
+use crate::stops::Stop;
 use crate::world::World;
 use indexmap::IndexSet;
-use search_space::{NONE, Stop, at};
-use task_core::{ActionId, State};
+use task_core::ActionId;
 
 /// A state, and the stage that was next before it.
 #[derive(Clone, Copy, PartialEq, Eq, Hash)]
@@ -17,28 +19,41 @@ struct Place {
 /// next then.
 #[derive(Clone, Copy)]
 pub(crate) struct Act {
-    pub(crate) state: State,
+    pub(crate) state: u32,
     pub(crate) stage: usize,
     pub(crate) action: ActionId,
     pub(crate) next: usize,
 }
 
-/// What a plan does.
+/// A state that the search hasn't gone on from, and the stage that is next there.
+#[derive(Clone, Copy)]
+pub(crate) struct Leaf {
+    pub(crate) state: u32,
+    pub(crate) stage: usize,
+}
+
+/// What a plan does, and where the search hasn't gone on.
 #[derive(Drop)]
 pub(crate) struct Trace {
     pub(crate) acts: Vec<Act>,
+    pub(crate) leaves: Vec<Leaf>,
     places: IndexSet<Place>,
 }
 
 impl Trace {
     /// Along the best branches from the initial states; `None` where the stages can't be met from one of
     /// them, and where there are none.
-    pub(crate) fn new(world: &World<'_>, outlook: &Outlook) -> Result<Option<Trace>, Stop> {
+    pub(crate) fn new(
+        world: &World<'_>,
+        marks: &Marks,
+        outlook: &Outlook,
+    ) -> Result<Option<Trace>, Stop> {
         if world.initial == 0 || !are_all_had(world, outlook) {
             return Ok(None);
         }
         let mut trace = Trace {
             acts: Vec::new(world.alloc),
+            leaves: Vec::new(world.alloc),
             places: IndexSet::new(world.alloc),
         };
         for state in 0..world.initial {
@@ -48,7 +63,7 @@ impl Trace {
             let Some(place) = trace.place(number) else {
                 break;
             };
-            trace.go_on(world, outlook, place)?;
+            trace.go_on(world, marks, outlook, place)?;
         }
         Ok(Some(trace))
     }
@@ -58,14 +73,24 @@ impl Trace {
     }
 
     /// Goes on from a place.
-    fn go_on(&mut self, world: &World<'_>, outlook: &Outlook, place: Place) -> Result<(), Stop> {
+    fn go_on(
+        &mut self,
+        world: &World<'_>,
+        marks: &Marks,
+        outlook: &Outlook,
+        place: Place,
+    ) -> Result<(), Stop> {
         let state = place.state;
         let stage = outlook.next_stage(place.stage, state);
-        let Some(branch) = outlook.best_branch(world, stage, state) else {
+        if !world.is_expanded(state) {
+            self.leaves.push(Leaf { state, stage })?;
+            return Ok(());
+        }
+        let Some(branch) = outlook.best_branch(world, marks, stage, state) else {
             return Ok(());
         };
         self.acts.push(Act {
-            state: world.state(state),
+            state,
             stage: place.stage,
             action: branch.action,
             next: stage,

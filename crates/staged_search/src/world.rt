@@ -1,9 +1,9 @@
 //! The states that a search has met, and where the actions lead from those that it has gone on from.
 
+use crate::numbers::{NONE, small};
 use crate::steps::{holds, vector_after};
-use crate::stops::Effort;
+use crate::stops::{Effort, Stop};
 use indexmap::IndexSet;
-use search_space::{NONE, Stop, small};
 use std::alloc::Global;
 use task_core::{ActionId, GroundAction, State, Task, in_space, init_states};
 

@@ -136,8 +136,10 @@ impl AndOrGraph {
 
     /// The partial state by which a state is solved.
     fn solved_part(&self, world: &World<'_>, bits: &Bits) -> Part {
-        if world.is_had(bits) {
-            return world.goal_part(bits);
+        let mut wanted = Part::none();
+        if world.goal.holds(bits) {
+            support(world.goal.cond, bits, true, &mut wanted);
+            return wanted;
         }
         let number = match world.states.find(bits) {
             Some(number) => number,

@@ -4,8 +4,8 @@ use Rattle.control_command.specs.Values.{fair_words_of}
 use Rattle.control_command.proofs.FairAnswers.{full_fairly}
 use Rattle.control_command.proofs.fair_controllers.after_full.Goals as goal
 
-pub returns : goal.returns
-returns c =
+pub returns-in-None : goal.returns-in-None
+returns-in-None c =
     let s = c.args.sought.now in
     let t = c.args.task.now in
     let here = c.requires.ready.of_goal in
