@@ -1,11 +1,6 @@
 -- What is kept of the files that were fetched can be what is told of them.
-use Rattle.std.proofs.Common.{◌≡◌, ◌≤◌, ℕ, List, [], inl, inr, subst, sym}
-use Rattle.std.specs.Prelude.{⊤}
-use Rattle.plan_io.specs.Fetches.{FetchesNothing, MayFetch}
 use Rattle.plan_io.specs.Held.{Held}
-use Rattle.command_base.specs.Fetching.{FetchesBoth, HoldsDomain}
 use Rattle.command_base.specs.Words.{Bytes}
-pub use Rattle.command_base.proofs.Fetched.{over_fetch_then, over_fetches, over_may_fetch}
 use Rattle.answer_help.specs.Keeping.{AreToldAs, KeepsAfter, held_by, kept_in}
 use Rattle.answer_help.specs.declared.keeping.KeepingShelf.{KeepingShelf}
 use Rattle.answer_help.proofs.Kept.{told_as, told_kept}
@@ -18,11 +13,3 @@ pub told_fetch : {S : Type 0} (held : S → Bytes → Held) (fetched : S → Byt
     → KeepsAfter held fetched before name after → IsTold held before → IsTold held after
 told_fetch held fetched before name after keeps told =
     told_as (held_by held before) (held_by held after) (kept_in after) keeps.same (told_kept (held_by held before) (kept_in before) (kept_in after) name keeps.kept told)
-
--- what is kept can be what is told after the fetches of a domain and a problem
-pub over_both : {S : Type 0} (held : S → Bytes → Held) (fetched : S → Bytes → S → Type 0) (domain problem : Bytes) (before after : KeepingShelf S)
-    → FetchesBoth (held_by held before) (KeepsAfter held fetched) domain problem FetchesNothing before after → IsTold held before → IsTold held after
-over_both held fetched domain problem before after =
-    over_may_fetch (IsTold held) (KeepsAfter held fetched) (told_fetch held fetched) ⊤ domain (MayFetch (KeepsAfter held fetched) (HoldsDomain (held_by held before) domain) problem FetchesNothing) before after
-    (λ between. over_may_fetch (IsTold held) (KeepsAfter held fetched) (told_fetch held fetched) (HoldsDomain (held_by held before) domain) problem FetchesNothing between after
-    (λ last same told. subst (IsTold held) (sym same) told))

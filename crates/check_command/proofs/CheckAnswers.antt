@@ -1,64 +1,45 @@
 -- The verdict on a plan of a task is that for the domain and the problem that the task comes from.
-use Rattle.std.proofs.Common.{◌≡◌, ◌⊎◌, List, inl, inr, refl, sym, subst, ap, ◌∙◌, None, Some, Option, true, []}
+use Rattle.std.proofs.Common.{◌≡◌, inl, inr, sym, subst, ap, ◌∙◌, Some, Option, true, []}
 use Rattle.std.specs.Option.{option_map}
 use Rattle.ctl_syntax.specs.Conditions.{condition_value}
 use Rattle.ctl_syntax.specs.Values.{ctl_value}
 use Rattle.ctl_syntax.specs.declared.goals.Ctl.{Ctl}
+use Rattle.ground_task.specs.declared.grounding.Grounded.{Grounded}
 use Rattle.exec_graph.specs.Executions.{ReachesMoreThan}
 use Rattle.pddl_ast.specs.Trees.{DomainTree, FormulaTree, ProblemTree, TemporalTree}
 use Rattle.pddl_system.specs.CtlGoals.{ctl_goal_of, goal_value, grounded_goal}
 use Rattle.pddl_system.specs.Fluents.{fluents}
 use Rattle.pddl_system.specs.Laws.{GroundedGoalsAreTrue}
 use Rattle.pddl_system.specs.Settings.{setting}
-use Rattle.pddl_system.specs.Sizes.{first_passed}
-use Rattle.pddl_system.specs.Systems.{action_names, fluent_names, system}
+use Rattle.pddl_system.specs.Systems.{system}
 use Rattle.pddl_system.specs.Tasks.{TaskTree, condition_of, task_of}
 use Rattle.pddl_system.specs.Values.{task_value}
 use Rattle.plan_check.specs.Verdicts.{IsVerdict}
 use Rattle.plan_check.specs.ContextVerdicts.{IsContextVerdict, IsTrueAt}
 use Rattle.plan_check.specs.declared.verdicts.Verdict.{Verdict}
 use Rattle.plan_check.proofs.Carried.{verdict_carried}
-use Rattle.plan_io.specs.Held.{Held}
 use Rattle.plan_rules.specs.Denoted.{denoted_contexts}
 use Rattle.plan_rules.specs.Rules.{PlainPlan, table, automaton}
 use Rattle.task_core.specs.ContextPlans.{ContextPlan}
-use Rattle.task_core.specs.Names.{Name}
 use Rattle.task_core.specs.Systems.{System}
-use Rattle.task_core.specs.Tasks.{action_names as names_of_actions, fluent_names as names_of_fluents, initial_states, system_of}
+use Rattle.task_core.specs.Tasks.{initial_states, system_of}
 use Rattle.task_core.specs.declared.tasks.Task.{Task}
-use Rattle.command_base.specs.Answers.{Answer, Refusal, refused, no_memory}
-use Rattle.check_command.specs.CheckCommand.{CheckThen, ExploreThen, IsChecked, IsVerdictOf, ShowsVerdict, VerdictThen}
+use Rattle.command_base.specs.Answers.{Answer}
+use Rattle.check_command.specs.CheckCommand.{ExploreThen, IsVerdictOf, PlacedThen, ShowsVerdict, VerdictThen}
 use Rattle.command_base.specs.Following.{HasTooManyStates, most_followed}
-use Rattle.command_base.specs.Grounding.{GroundThen, has_goal_for}
+use Rattle.command_base.specs.Courses.{Stops}
+use Rattle.command_base.specs.Grounded.{IsGroundedOf}
+use Rattle.command_base.specs.Grounding.{has_goal_for}
 use Rattle.command_base.specs.InitialStates.{InitialThen, empty_init}
 use Rattle.check_command.specs.Judged.{HasGoalIn, IsTaskVerdict}
-use Rattle.command_base.specs.PlanFiles.{IsFaultyPlan, KindThen, PlacedPlan, SpellsPlaced}
-use Rattle.command_base.specs.Reading.{Holds, IsRefusedFile}
+use Rattle.command_base.specs.PlanFiles.{KindThen, PlacedPlan}
 use Rattle.plan_meets.specs.TemporalGoals.{HasGoal}
-use Rattle.command_base.specs.Words.{Bytes, CheckWords, PlanKind, of_class, with_contexts}
+use Rattle.command_base.specs.Words.{CheckWords, PlanKind, of_class, with_contexts}
 use Rattle.command_base.proofs.Initials.{initial_over}
-use Rattle.command_base.proofs.Later.{read_over}
-use Rattle.command_base.proofs.TaskNames.{same_actions, same_fluents}
 use Rattle.command_base.proofs.TooMany.{too_many, too_many_back}
 use Rattle.command_base.proofs.TaskGoals.{goal_behind, has_some, has_some_back}
-use Rattle.command_base.proofs.WhatFollows.{goal_map, ground_map, kind_map}
+use Rattle.command_base.proofs.WhatFollows.{kind_map}
 use Rattle.task_core.specs.Initials.{HasTooManyInitial}
-
--- what is said from a later state of the shelf holds from the command's start
-checked_over : (held held' : Bytes → Held) (failed failed' : Bytes → Type 0) (asked : CheckWords) (d : DomainTree) (p : ProblemTree) (a : Answer)
-    → ((file : Bytes) → held' file ≡ held file) → (failed' asked.plan → failed asked.plan) → IsChecked held' failed' asked d p a → IsChecked held failed asked d p a
-checked_over held held' failed failed' asked d p a same over =
-    goal_map asked.kind asked.problem p (GroundThen d p (CheckThen held' failed' asked d p)) (GroundThen d p (CheckThen held failed asked d p)) a
-    (ground_map d p (CheckThen held' failed' asked d p) (CheckThen held failed asked d p) a
-    (read_over held held' failed failed' asked.plan (SpellsPlaced (fluent_names d p) (action_names d p)) (IsFaultyPlan (fluent_names d p) (action_names d p))
-    (λ placed. KindThen asked.kind asked.plan placed.place placed.plan
-    (ExploreThen (HasTooManyStates d p) (system d p) placed.plan (VerdictThen asked d p placed.plan))) a same over))
-
-pub checked_later : (held held' : Bytes → Held) (failed failed' : Bytes → Type 0) (asked : CheckWords) (d : DomainTree) (p : ProblemTree) (a : Answer)
-    → ((file : Bytes) → held' file ≡ held file) → (failed' asked.plan → failed asked.plan)
-    → (a ≡ refused no_memory) ⊎ IsChecked held' failed' asked d p a → (a ≡ refused no_memory) ⊎ IsChecked held failed asked d p a
-checked_later held held' failed failed' asked d p a same over (inl memory) = inl memory
-checked_later held held' failed failed' asked d p a same over (inr is) = inr (checked_over held held' failed failed' asked d p a same over is)
 
 -- the verdict on a plan of a task is that for the domain and the problem
 context_verdict_for : GroundedGoalsAreTrue → (d : DomainTree) (p : ProblemTree) (sys : System) (formula : Ctl) (plan : ContextPlan) (v : Verdict) → sys ≡ system d p
@@ -97,52 +78,30 @@ explored X Y sys sys' plan P Q a to from same f (inr (inr (few, small, then))) =
       f then,
     ))
 
--- the file of the plan is refused
-pub plan_refused : (held : Bytes → Held) (failed : Bytes → Type 0) (asked : CheckWords) (d : DomainTree) (p : ProblemTree) (t : Task) (r : Refusal)
-    → task_value t ≡ task_of d p → first_passed d p ≡ None → has_goal_for asked.kind p ≡ true
-    → (r ≡ no_memory) ⊎ IsRefusedFile held failed (IsFaultyPlan (names_of_fluents t) (names_of_actions t)) asked.plan r
-    → (refused r ≡ refused no_memory) ⊎ IsChecked held failed asked d p (refused r)
-plan_refused held failed asked d p t r is within goal (inl memory) = inl (ap refused memory)
-plan_refused held failed asked d p t r is within goal (inr why) =
-    let fluents_named = subst (λ (ns : List Name). IsRefusedFile held failed (IsFaultyPlan ns (names_of_actions t)) asked.plan r) (same_fluents d p t is) why in
-    let named = subst (λ (ns : List Name). IsRefusedFile held failed (IsFaultyPlan (fluent_names d p) ns) asked.plan r) (same_actions d p t is) fluents_named in
-    inr (inr (goal, inr (within, inl (r, refl, named))))
-
 -- the answer for a plan that was read
-pub checked_answer : GroundedGoalsAreTrue → (held : Bytes → Held) (failed : Bytes → Type 0) (asked : CheckWords) (d : DomainTree) (p : ProblemTree) (t : Task) (goal : Option Ctl)
-    (placed : PlacedPlan) (a : Answer) → task_value t ≡ task_of d p → system_of t ≡ system d p → option_map goal_value goal ≡ ctl_goal_of d p
-    → first_passed d p ≡ None → has_goal_for asked.kind p ≡ true
-    → Holds held (SpellsPlaced (names_of_fluents t) (names_of_actions t)) asked.plan placed
-    → (a ≡ refused no_memory) ⊎ KindThen asked.kind asked.plan placed.place placed.plan
-    (ExploreThen (HasTooManyInitial t most_followed) (system_of t) placed.plan
-    (InitialThen (empty_init asked.problem p) (initial_states t) (ShowsVerdict (IsTaskVerdict asked.kind t goal placed.plan)))) a
-    → (a ≡ refused no_memory) ⊎ IsChecked held failed asked d p a
-checked_answer law held failed asked d p t goal placed a is system_is stands within some holds (inl memory) = inl memory
-checked_answer law held failed asked d p t goal placed a is system_is stands within some holds (inr then) =
-    let fluents_named = subst (λ (ns : List Name). Holds held (SpellsPlaced ns (names_of_actions t)) asked.plan placed) (same_fluents d p t is) holds in
-    let named = subst (λ (ns : List Name). Holds held (SpellsPlaced (fluent_names d p) ns) asked.plan placed) (same_actions d p t is) fluents_named in
-    let Of : Verdict → Type 0 = IsTaskVerdict asked.kind t goal placed.plan in
+pub checked_answer : GroundedGoalsAreTrue → (asked : CheckWords) (d : DomainTree) (p : ProblemTree) (g : Grounded) (placed : PlacedPlan) (a : Answer) → IsGroundedOf d p g
+    → Stops (KindThen asked.kind asked.plan placed.place placed.plan
+    (ExploreThen (HasTooManyInitial g.task most_followed) (system_of g.task) placed.plan
+    (InitialThen (empty_init asked.problem p) (initial_states g.task) (ShowsVerdict (IsTaskVerdict asked.kind g.task g.ctl placed.plan))))) a
+    → Stops (PlacedThen asked d p placed) a
+checked_answer law asked d p g placed a of (inl memory) = inl memory
+checked_answer law asked d p g placed a of (inr then) =
+    let t = g.task in
+    let is = of.of_task.task_is in
+    let same = of.of_task.system_is in
+    let Of : Verdict → Type 0 = IsTaskVerdict asked.kind t g.ctl placed.plan in
     let Of' : Verdict → Type 0 = IsVerdictOf asked.kind d p placed.plan in
     let empty = empty_init asked.problem p in
     let Then : Answer → Type 0 = InitialThen empty (initial_states t) (ShowsVerdict Of) in
-    inr (inr (
-      some,
-      inr (
-        within,
-        inr (
-          placed,
-          named,
-          kind_map asked.kind asked.plan placed.place placed.plan
-              (ExploreThen (HasTooManyInitial t most_followed) (system_of t) placed.plan Then)
-              (ExploreThen (HasTooManyStates d p) (system d p) placed.plan (VerdictThen asked d p placed.plan)) a
-              (explored (HasTooManyInitial t most_followed) (HasTooManyStates d p) (system_of t) (system d p) placed.plan Then (VerdictThen asked d p placed.plan) a
-              (too_many d p t is) (too_many_back d p t is) system_is
-              (initial_over empty (initial_states t) (system d p).initial (ShowsVerdict Of) (ShowsVerdict Of') a (ap (λ (s : System). s.initial) system_is)
-              (shown_for Of Of' a (λ v. verdict_for law asked.kind d p t goal placed.plan v system_is stands)))) then,
-        ),
-      ),
-    ))
+    inr (kind_map asked.kind asked.plan placed.place placed.plan
+    (ExploreThen (HasTooManyInitial t most_followed) (system_of t) placed.plan Then)
+    (ExploreThen (HasTooManyStates d p) (system d p) placed.plan (VerdictThen asked d p placed.plan)) a
+    (explored (HasTooManyInitial t most_followed) (HasTooManyStates d p) (system_of t) (system d p) placed.plan Then (VerdictThen asked d p placed.plan) a
+    (too_many d p t is) (too_many_back d p t is) same
+    (initial_over empty (initial_states t) (system d p).initial (ShowsVerdict Of) (ShowsVerdict Of') a (ap (λ (s : System). s.initial) same)
+    (shown_for Of Of' a (λ v. verdict_for law asked.kind d p t g.ctl placed.plan v same of.goal_is)))) then)
 
+-- there is a goal for plans of the kind
 pub goal_in : (kind : PlanKind) (d : DomainTree) (p : ProblemTree) (t : Task) (goal : Option Ctl) → task_value t ≡ task_of d p → option_map goal_value goal ≡ ctl_goal_of d p
     → has_goal_for kind p ≡ true → HasGoalIn kind t goal
 goal_in (of_class class) d p t goal is stands some =

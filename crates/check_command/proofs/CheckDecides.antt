@@ -1,5 +1,5 @@
 -- The three files and the class decide the answer of `check`.
-use Rattle.std.proofs.Common.{◌≡◌, ◌≢◌, inl, inr, sym, subst, ap, ◌∙◌}
+use Rattle.std.proofs.Common.{◌≡◌, ◌≢◌, Some, inl, inr, sym, subst, ap, ◌∙◌}
 use Rattle.std.proofs.lemmas.Bool.{false≢true}
 use Rattle.std.proofs.lemmas.Option.{same_Some}
 use Rattle.pddl_ast.specs.Trees.{DomainTree, ProblemTree, TemporalTree}
@@ -14,18 +14,18 @@ use Rattle.plan_rules.specs.Rules.{PlainPlan, table, automaton}
 use Rattle.sexpr_text.specs.declared.forms.Place.{Place}
 use Rattle.task_core.specs.Systems.{System}
 use Rattle.command_base.specs.Answers.{Answer}
-use Rattle.check_command.specs.CheckCommand.{CheckThen, ExploreThen, IsCheckAnswer, IsChecked, IsVerdictOf, ShowsVerdict, VerdictThen, verdict_answer}
+use Rattle.check_command.specs.CheckCommand.{ExploreThen, IsCheckAnswer, IsVerdictOf, PlacedThen, ShowsVerdict, VerdictThen, verdict_answer}
+use Rattle.command_base.specs.Courses.{Course, answers, of_plan}
 use Rattle.command_base.specs.Following.{HasTooManyStates}
-use Rattle.command_base.specs.Grounding.{GroundThen}
 use Rattle.command_base.specs.InitialStates.{empty_init}
-use Rattle.command_base.specs.PlanFiles.{IsFaultyPlan, KindThen, PlacedPlan, SpellsPlaced}
+use Rattle.command_base.specs.PlanFiles.{KindThen, PlacedPlan}
 use Rattle.plan_meets.specs.TemporalGoals.{HasGoal}
 use Rattle.command_base.specs.Words.{Bytes, CheckWords, PlanKind, of_class, with_contexts}
-use Rattle.command_base.proofs.Deciding.{Decides, read_decides}
+use Rattle.command_base.proofs.Deciding.{Decides}
 use Rattle.command_base.proofs.Initials.{initial_decides}
 use Rattle.command_base.specs.OneReading.{OneReading}
-use Rattle.command_base.proofs.PddlDecides.{both_decides, goal_decides, ground_decides}
-use Rattle.command_base.proofs.PlanDecides.{plan_grammar}
+use Rattle.command_base.proofs.PddlDecides.{task_decides}
+use Rattle.command_base.proofs.PlanDecides.{plan_file_decides}
 
 -- no plan has two verdicts
 one_of_kind : (kind : PlanKind) (d : DomainTree) (p : ProblemTree) (plan : PlainPlan) (v w : Verdict) → IsVerdictOf kind d p plan v → IsVerdictOf kind d p plan w → v ≡ w
@@ -61,9 +61,7 @@ kind_decides kind name place plan Then next a b (inl (other, is)) (inr (right, t
 kind_decides kind name place plan Then next a b (inr (right, then)) (inl (other, is)) = absurd (false≢true (sym other ∙ right))
 kind_decides kind name place plan Then next a b (inr (right, then)) (inr (right', then')) = next a b then then'
 
-placed_decides : (asked : CheckWords) (d : DomainTree) (p : ProblemTree) (placed : PlacedPlan)
-    → Decides (KindThen asked.kind asked.plan placed.place placed.plan (ExploreThen (HasTooManyStates d p) (system d p) placed.plan (VerdictThen asked d p placed.plan)))
-    (KindThen asked.kind asked.plan placed.place placed.plan (ExploreThen (HasTooManyStates d p) (system d p) placed.plan (VerdictThen asked d p placed.plan)))
+placed_decides : (asked : CheckWords) (d : DomainTree) (p : ProblemTree) (placed : PlacedPlan) → Decides (PlacedThen asked d p placed) (PlacedThen asked d p placed)
 placed_decides asked d p placed =
     kind_decides asked.kind asked.plan placed.place placed.plan
     (ExploreThen (HasTooManyStates d p) (system d p) placed.plan (VerdictThen asked d p placed.plan))
@@ -71,21 +69,11 @@ placed_decides asked d p placed =
     (initial_decides (empty_init asked.problem p) (system d p).initial (ShowsVerdict (IsVerdictOf asked.kind d p placed.plan))
     (judged_decides asked.kind d p placed.plan)))
 
-check_then_decides : OneReading → (held : Bytes → Held) (failed failed' : Bytes → Type 0) (asked : CheckWords) (d : DomainTree) (p : ProblemTree)
-    → held asked.plan ≢ Untold → ((file : Bytes) → failed file → ⊥) → ((file : Bytes) → failed' file → ⊥)
-    → Decides (CheckThen held failed asked d p) (CheckThen held failed' asked d p)
-check_then_decides one held failed failed' asked d p told quiet quiet' =
-    let Then : PlacedPlan → Answer → Type 0 = λ placed. KindThen asked.kind asked.plan placed.place placed.plan
-    (ExploreThen (HasTooManyStates d p) (system d p) placed.plan (VerdictThen asked d p placed.plan)) in
-    read_decides held failed failed' asked.plan (SpellsPlaced (fluent_names d p) (action_names d p)) (IsFaultyPlan (fluent_names d p) (action_names d p))
-    Then Then told (quiet asked.plan) (quiet' asked.plan) (plan_grammar one (fluent_names d p) (action_names d p)) (λ placed holds. placed_decides asked d p placed)
-
 pub check_decides : OneReading → (held : Bytes → Held) (failed failed' : Bytes → Type 0) (asked : CheckWords)
     → held asked.domain ≢ Untold → held asked.problem ≢ Untold → held asked.plan ≢ Untold
     → ((file : Bytes) → failed file → ⊥) → ((file : Bytes) → failed' file → ⊥)
     → Decides (IsCheckAnswer held failed asked) (IsCheckAnswer held failed' asked)
 check_decides one held failed failed' asked told told' told'' quiet quiet' =
-    both_decides one held failed failed' asked.domain asked.problem (IsChecked held failed asked) (IsChecked held failed' asked) told told' quiet quiet' (λ d p.
-    goal_decides asked.kind asked.problem p (GroundThen d p (CheckThen held failed asked d p)) (GroundThen d p (CheckThen held failed' asked d p))
-    (ground_decides d p (CheckThen held failed asked d p) (CheckThen held failed' asked d p)
-    (check_then_decides one held failed failed' asked d p told'' quiet quiet')))
+    let judged : DomainTree → ProblemTree → PlacedPlan → Course = λ d p placed. answers (PlacedThen asked d p placed) in
+    task_decides one held failed failed' asked.domain asked.problem (Some asked.kind) (λ d p. of_plan (fluent_names d p) (action_names d p) asked.plan (judged d p)) told told' quiet quiet' (λ d p.
+    plan_file_decides one held failed failed' (fluent_names d p) (action_names d p) asked.plan (judged d p) told'' quiet quiet' (λ placed. placed_decides asked d p placed))

@@ -2,7 +2,7 @@
 use Rattle.std.specs.Prelude.{◌≡◌, ℕ, ◌⊎◌, ◌++◌, codes, decimal, Option, Some, None}
 use Rattle.exec_graph.specs.Executions.{ReachesMoreThan}
 use Rattle.pddl_ast.specs.Trees.{DomainTree, ProblemTree, TemporalTree}
-use Rattle.pddl_system.specs.Systems.{action_names, fluent_names, system}
+use Rattle.pddl_system.specs.Systems.{system}
 use Rattle.plan_check.specs.ContextVerdicts.{IsContextVerdict, IsFirstContextReason}
 use Rattle.plan_check.specs.Verdicts.{IsBound, IsFirstReason, IsVerdict}
 use Rattle.plan_check.specs.declared.verdicts.Reason.{Reason}
@@ -16,15 +16,12 @@ use Rattle.plan_rules.specs.Rules.{PlainPlan, table, automaton}
 use Rattle.plan_rules.specs.Texts.{line_feed}
 use Rattle.task_core.specs.Systems.{System}
 use Rattle.command_base.specs.Answers.{Answer, affirmed, denied, refused, over_limit}
-use Rattle.command_base.specs.Grounding.{GoalThen, GroundThen}
+use Rattle.command_base.specs.Courses.{Course, IsAnswerIn, answers, task_plan_course}
 use Rattle.command_base.specs.InitialStates.{InitialThen, empty_init}
-use Rattle.command_base.specs.PddlTexts.{ReadBoth}
-use Rattle.command_base.specs.PlanFiles.{SpellsPlaced, IsFaultyPlan, KindThen}
-use Rattle.command_base.specs.Reading.{ReadThen}
+use Rattle.command_base.specs.PlanFiles.{KindThen, PlacedPlan}
 use Rattle.plan_meets.specs.TemporalGoals.{HasGoal}
 use Rattle.command_base.specs.Words.{Bytes, CheckWords, PlanKind, of_class, with_contexts}
 use Rattle.command_base.specs.Following.{most_followed, HasTooManyStates}
-use Rattle.command_base.specs.Fetching.{FetchDomain, FetchPlan}
 
 -- there are too many initial states (`TooMany`); or not, but the plan may reach too many
 -- configurations; or neither, and then comes what Then says
@@ -74,29 +71,22 @@ VerdictThen asked domain problem plan =
     InitialThen (empty_init asked.problem problem) (system domain problem).initial
     (ShowsVerdict (IsVerdictOf asked.kind domain problem plan))
 
--- what follows once both are read and within the limits: the plan is read, it is of the kind, it is
--- followed, and judged
-abbrev pub CheckThen : (Bytes → Held) → (Bytes → Type 0) → CheckWords → DomainTree → ProblemTree
-    → Answer → Type 0
-CheckThen held failed asked domain problem =
-    ReadThen held failed asked.plan
-    (SpellsPlaced (fluent_names domain problem) (action_names domain problem))
-    (IsFaultyPlan (fluent_names domain problem) (action_names domain problem)) (λ placed.
+-- what follows once the plan is read: it is of the kind, it is followed, and judged
+abbrev pub PlacedThen : CheckWords → DomainTree → ProblemTree → PlacedPlan → Answer → Type 0
+PlacedThen asked domain problem placed =
     KindThen asked.kind asked.plan placed.place placed.plan
     (ExploreThen (HasTooManyStates domain problem) (system domain problem) placed.plan
-    (VerdictThen asked domain problem placed.plan)))
+    (VerdictThen asked domain problem placed.plan))
 
--- what follows once both are read
-abbrev pub IsChecked : (Bytes → Held) → (Bytes → Type 0) → CheckWords → DomainTree
-    → ProblemTree → Answer → Type 0
-IsChecked held failed asked domain problem =
-    GoalThen asked.kind asked.problem problem
-    (GroundThen domain problem (CheckThen held failed asked domain problem))
+-- the course of the command: the goal is to be of the kind, and a plan is read
+abbrev pub check_course : CheckWords → Course
+check_course asked =
+    task_plan_course asked.domain asked.problem (Some asked.kind) asked.plan (λ domain problem placed.
+    answers (PlacedThen asked domain problem placed))
 
 -- the answer of the command
 abbrev pub IsCheckAnswer : (Bytes → Held) → (Bytes → Type 0) → CheckWords → Answer → Type 0
-IsCheckAnswer held failed asked =
-    ReadBoth held failed asked.domain asked.problem (IsChecked held failed asked)
+IsCheckAnswer held failed asked = IsAnswerIn held failed (check_course asked)
 
 -- the bound that comes with a yes: a plan with contexts has none
 abbrev pub HasBound : PlanKind → DomainTree → ProblemTree → PlainPlan → Option ℕ → Type 0
@@ -116,11 +106,3 @@ IsFirstAgainst with_contexts domain problem (automaton contexts rules) reason =
     (goal : TemporalTree) × (problem.ctl ≡ Some goal)
     × IsFirstContextReason (system domain problem) (denoted_contexts rules)
     (HasGoal domain problem (denoted_contexts rules) goal) reason
-
--- the fetches of the command with this answer: of its files in their order, each once, up to the one
--- that decides the answer. `fetched` is what the shelf tells
-abbrev pub FetchesToCheck : {S : Type 0} → (Bytes → Held) → (Bytes → Type 0)
-    → (S → Bytes → S → Type 0) → CheckWords → Answer → S → S → Type 0
-FetchesToCheck {S} held failed fetched asked answer =
-    FetchDomain held failed fetched asked.domain answer
-    (FetchPlan held failed fetched asked answer)

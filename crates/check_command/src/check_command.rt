@@ -1,51 +1,31 @@
 //! The command `check`.
 
-ghost use Rattle.check_command.specs.CheckCommand.{
-  ExploreThen,
-  IsCheckAnswer,
-  IsChecked,
-  ShowsVerdict,
-  verdict_answer,
-  FetchesToCheck,
-};
+ghost use Rattle.check_command.specs.CheckCommand.{ExploreThen, ShowsVerdict, verdict_answer};
 ghost use Rattle.check_command.specs.Judged.{HasGoalIn, IsTaskVerdict};
 ghost use Rattle.command_base.specs.Answers.{no_memory, refused};
-ghost use Rattle.command_base.specs.Fetching.{Stops};
 ghost use Rattle.command_base.specs.Following.{most_followed};
-ghost use Rattle.command_base.specs.Grounding.{GoalThen, GroundThen, has_goal_for};
 ghost use Rattle.command_base.specs.InitialStates.{InitialThen, empty_init};
 ghost use Rattle.command_base.specs.PlanFiles.{KindThen, is_of_kind};
-ghost use Rattle.command_base.specs.Shelves.{KeepsShelf};
-ghost use Rattle.command_base.specs.Values.{
-  answer_of,
-  check_words_of,
-  kind_of,
-  placed_of,
-  shown_of,
-};
+ghost use Rattle.command_base.specs.Values.{answer_of, kind_of, placed_of, shown_of};
 ghost use Rattle.command_base.specs.Words.{with_contexts};
 ghost use Rattle.ctl_syntax.specs.Values.{NamesBelow, ctl_value};
 ghost use Rattle.exec_graph.specs.Graphs.{IsGraphOf};
 ghost use Rattle.exec_graph.specs.Values.{plain_graph};
-ghost use Rattle.pddl_ast.specs.Fits.{FitsDomain, FitsProblem};
-ghost use Rattle.pddl_ast.specs.Values.{domain_value, problem_value};
-ghost use Rattle.pddl_system.specs.Names.{NamesAreWords};
-ghost use Rattle.pddl_system.specs.Sizes.{first_passed};
-ghost use Rattle.plan_io.specs.Fetches.{FailedLast, Fetches};
+ghost use Rattle.pddl_ast.specs.Values.{problem_value};
 ghost use Rattle.plan_rules.specs.Plans.{IsPlanOf};
 ghost use Rattle.plan_check.specs.Verdicts.{IsVerdict};
 ghost use Rattle.plan_rules.specs.Rules.{ContextRule, PlainPlan, PlanRule, automaton, plain_of, table};
-ghost use Rattle.std.specs.Prelude.{◌≡◌, ◌⊎◌, [], ◌∷◌, IfOk, IfSome, IsSome, List, None, true, ℕ};
+ghost use Rattle.std.specs.Prelude.{◌≡◌, ◌⊎◌, IfOk, IfSome, IsSome, List, true, ℕ};
 ghost use Rattle.task_core.specs.Tasks.{action_count, fluent_count, initial_states, system_of};
 ghost use Rattle.task_core.specs.Initials.{HasTooManyInitial};
 
 use command_base::{
-    CheckWords, Limit, PlanKind, Refusal, Shown, Text, check_goal, goal_in, ground_both,
-    no_initial, read_both, read_plan_file,
+    CheckWords, Job, Limit, LoadedPlan, PlanKind, Refusal, Shown, TaskFiles, Text, goal_in,
+    load_with_plan, no_initial,
 };
 use exec_graph::{Graph, GraphErr, explore};
 use ground_task::Grounded;
-use pddl_ast::{Domain, Problem};
+use pddl_ast::Problem;
 use pddl_system::grounded_goals_are_true;
 use plan_check::{Reason, Verdict, judge_class, judge_ctl};
 use plan_io::Shelf;
@@ -55,55 +35,54 @@ use short_conditions::short_task;
 use std::alloc::{AllocError, Global};
 use task_core::Task;
 
-/// The verdict on the plan in a file, for the domain and the problem in two files.
-pub fn check_files<S: Shelf>(
-    alloc: Global,
-    shelf: &mut S,
-    asked: &CheckWords,
-) -> Result<Shown, Refusal>
-    ensures answer { let failed = FailedLast S.fetched S.faults shelf.old shelf.new in
-        (answer_of result ≡ refused no_memory)
-        ⊎ IsCheckAnswer (S.held shelf.old) failed (check_words_of asked.now) (answer_of result) }
-    ensures fetches { let failed = FailedLast S.fetched S.faults shelf.old shelf.new in
-        FetchesToCheck (S.held shelf.old) failed S.fetched (check_words_of asked.now)
-        (answer_of result) shelf.old shelf.new }
-    ensures shelf { KeepsShelf S.held S.faults (answer_of result) shelf.old shelf.new }
-{
-    let (domain, problem) = read_both(alloc, shelf, asked.domain, asked.problem)?;
-    check_problem(alloc, shelf, asked, &domain, &problem)
+/// The command `check`: the verdict on the plan in a file, for the domain and the problem in two files.
+#[derive(Drop)]
+pub struct CheckJob<'a> {
+    pub asked: CheckWords<'a>,
 }
 
-/// The verdict on the plan in a file, for a domain and a problem.
-fn check_problem<S: Shelf>(
-    alloc: Global,
-    shelf: &mut S,
-    asked: &CheckWords,
-    domain: &Domain,
-    problem: &Problem,
-) -> Result<Shown, Refusal>
-    requires fits_domain { FitsDomain (domain_value domain.now) }
-    requires fits_problem { FitsProblem (domain_value domain.now) (problem_value problem.now) }
-    requires names { NamesAreWords (domain_value domain.now) (problem_value problem.now) }
-    ensures answer { let failed = FailedLast S.fetched S.faults shelf.old shelf.new in
-        (answer_of result ≡ refused no_memory)
-        ⊎ IsChecked (S.held shelf.old) failed (check_words_of asked.now)
-        (domain_value domain.now) (problem_value problem.now) (answer_of result) }
-    ensures fetches { let asked = check_words_of asked.now in
-        (Stops (GoalThen asked.kind asked.problem (problem_value problem.now)
-        (GroundThen (domain_value domain.now) (problem_value problem.now) (λ answer. ⊥)))
-        (answer_of result) × (shelf.new ≡ shelf.old))
-        ⊎ (((has_goal_for asked.kind (problem_value problem.now) ≡ true)
-        × (first_passed (domain_value domain.now) (problem_value problem.now) ≡ None))
-        × Fetches S.fetched (asked.plan ∷ []) shelf.old shelf.new) }
-    ensures shelf { KeepsShelf S.held S.faults (answer_of result) shelf.old shelf.new }
-{
-    // This does nothing: that the task's goal is true where the problem's is rests on what it
-    // promises.
-    grounded_goals_are_true();
-    check_goal(alloc, asked.kind, asked.problem, problem)?;
-    let grounded = ground_both(alloc, domain, problem)?;
-    let read = read_plan_file(alloc, shelf, asked.plan, &grounded.task)?;
-    judge_plan(alloc, asked, problem, &grounded, &read)
+impl Job for CheckJob<'_> {
+    ghost use Rattle.check_command.specs.CheckCommand.{PlacedThen, check_course};
+    ghost use Rattle.command_base.specs.Loading.{IsLoadedPlan};
+    ghost use Rattle.command_base.specs.Values.{check_words_of, kind_of, placed_of};
+    ghost use Rattle.pddl_ast.specs.Values.{domain_value, problem_value};
+    ghost use Rattle.std.specs.Prelude.{Some, ⊤};
+
+    type Loaded = LoadedPlan;
+
+    ghost course = { λ self. check_course (check_words_of self.asked) };
+
+    ghost allowed = { λ self. ⊤ };
+
+    ghost fits = { λ self loaded. IsLoadedPlan (Some (kind_of self.asked.kind)) loaded };
+
+    ghost follows = { λ self loaded. PlacedThen (check_words_of self.asked)
+        (domain_value loaded.task.domain) (problem_value loaded.task.problem)
+        (placed_of loaded.read) };
+
+    fn load<S: Shelf>(&self, alloc: Global, shelf: &mut S) -> Result<LoadedPlan, Refusal> {
+        let files = TaskFiles {
+            domain: self.asked.domain,
+            problem: self.asked.problem,
+            goal: Some(self.asked.kind),
+        };
+        let loaded = load_with_plan(alloc, shelf, &files, self.asked.plan)?;
+        Ok(loaded)
+    }
+
+    fn answer(self, alloc: Global, loaded: LoadedPlan) -> Result<Shown, Refusal> {
+        // This does nothing: that the task's goal is true where the problem's is rests on what it
+        // promises.
+        grounded_goals_are_true();
+        let task = &loaded.task;
+        judge_plan(
+            alloc,
+            &self.asked,
+            &task.problem,
+            &task.grounded,
+            &loaded.read,
+        )
+    }
 }
 
 /// The verdict on a plan that was read.

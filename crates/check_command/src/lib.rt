@@ -3,4 +3,4 @@
 
 mod check_command;
 
-pub use check_command::{check_files, show_verdict, verdict_on};
+pub use check_command::{CheckJob, show_verdict, verdict_on};

@@ -4,8 +4,7 @@ pub mod TooMany
 pub mod TaskGoals
 pub mod PlanDecides
 pub mod Deciding
-pub mod Fetched
-pub mod PlanFetched
+pub mod Courses
 pub mod Initials
 pub mod Later
 pub mod WhatFollows

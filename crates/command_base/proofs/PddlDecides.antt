@@ -1,16 +1,17 @@
 -- The two files of a domain and a problem decide the answer, if what follows their reading does.
-use Rattle.std.proofs.Common.{◌≡◌, ◌≢◌, ◌⊎◌, inl, inr, sym, subst, ap, ◌∙◌, None, true}
+use Rattle.std.proofs.Common.{◌≡◌, ◌≢◌, inl, inr, sym, subst, ap, ◌∙◌, None, Option, Some, true}
 use Rattle.std.proofs.lemmas.Bool.{false≢true}
 use Rattle.std.proofs.lemmas.Option.{same_Some}
 use Rattle.plan_io.specs.Held.{Held, Untold}
 use Rattle.pddl_ast.specs.Trees.{DomainTree, ProblemTree}
 use Rattle.domain_read.specs.Domains.{SpellsDomain}
 use Rattle.pddl_system.specs.Sizes.{first_passed}
-use Rattle.command_base.specs.Answers.{Answer, Refusal, refused, text_fault, over_limit, no_memory, is_shown}
-use Rattle.command_base.specs.Grounding.{GoalThen, GroundThen, has_goal_for, limit_name}
+use Rattle.command_base.specs.Answers.{Answer, Refusal, refused, text_fault, over_limit, is_shown}
+use Rattle.command_base.specs.Courses.{Course, IsAnswerIn, task_course}
+use Rattle.command_base.specs.Grounding.{GoalThen, GroundThen, has_goal_for, has_wanted, limit_name}
 use Rattle.command_base.specs.OneReading.{OneReading}
 use Rattle.command_base.specs.PddlTexts.{SpellsProblemOf, IsFaultyDomain, IsFaultyProblem, HoldBoth, ReadAsBoth, ReadBoth}
-use Rattle.command_base.specs.Reading.{ReadThen}
+use Rattle.command_base.specs.Reading.{Holds, ReadThen}
 use Rattle.command_base.specs.Words.{Bytes, PlanKind}
 use Rattle.command_base.proofs.Deciding.{Decides, IsGrammar, read_decides, read_as}
 
@@ -52,26 +53,6 @@ both_as one held failed domain problem Then d p a told told' quiet both answer =
     (λ (e : DomainTree). ReadThen held failed problem (SpellsProblemOf e) (IsFaultyProblem e) (λ q. Then e q)) d a
     told (quiet domain) (domain_grammar one) both.holds_domain answer)
 
--- an answer after both files were read
-pub after_both : (held : Bytes → Held) (failed : Bytes → Type 0) (domain problem : Bytes) (Then : DomainTree → ProblemTree → Answer → Type 0)
-    (d : DomainTree) (p : ProblemTree) (a : Answer) → HoldBoth held domain problem d p → (a ≡ refused no_memory) ⊎ Then d p a
-    → (a ≡ refused no_memory) ⊎ ReadBoth held failed domain problem Then a
-after_both held failed domain problem Then d p a both (inl memory) = inl memory
-after_both held failed domain problem Then d p a both (inr then) = inr (inr (d, both.holds_domain, inr (p, both.holds_problem, then)))
-
--- one of the files is refused, whatever would follow
-refused_before : (held : Bytes → Held) (failed : Bytes → Type 0) (domain problem : Bytes) (Then : DomainTree → ProblemTree → Answer → Type 0) (a : Answer)
-    → ReadBoth held failed domain problem (λ d p b. ⊥) a → ReadBoth held failed domain problem Then a
-refused_before held failed domain problem Then a (inl why) = inl why
-refused_before held failed domain problem Then a (inr (d, holds, inl why)) = inr (d, holds, inl why)
-refused_before held failed domain problem Then a (inr (d, holds, inr (p, holds', never))) = absurd never
-
-pub refused_both : (held : Bytes → Held) (failed : Bytes → Type 0) (domain problem : Bytes) (Then : DomainTree → ProblemTree → Answer → Type 0) (r : Refusal)
-    → (refused r ≡ refused no_memory) ⊎ ReadBoth held failed domain problem (λ d p b. ⊥) (refused r)
-    → (refused r ≡ refused no_memory) ⊎ ReadBoth held failed domain problem Then (refused r)
-refused_both held failed domain problem Then r (inl memory) = inl memory
-refused_both held failed domain problem Then r (inr why) = inr (refused_before held failed domain problem Then (refused r) why)
-
 -- the goal's kind, and the limits, decide the answer, if what follows does
 pub goal_decides : (kind : PlanKind) (name : Bytes) (problem : ProblemTree) (Then Then' : Answer → Type 0) → Decides Then Then'
     → Decides (GoalThen kind name problem Then) (GoalThen kind name problem Then')
@@ -88,27 +69,23 @@ ground_decides domain problem Then Then' next a b (inl (l, passed, is)) (inr (ke
 ground_decides domain problem Then Then' next a b (inr (kept, then)) (inl (l, passed, is)) = absurd (cc (passed, kept))
 ground_decides domain problem Then Then' next a b (inr (kept, then)) (inr (kept', then')) = next a b then then'
 
+-- and so what a task that is loaded is followed by
+pub task_decides : OneReading → (held : Bytes → Held) (failed failed' : Bytes → Type 0) (domain problem : Bytes) (wanted : Option PlanKind) (Then : DomainTree → ProblemTree → Course)
+    → held domain ≢ Untold → held problem ≢ Untold → ((file : Bytes) → failed file → ⊥) → ((file : Bytes) → failed' file → ⊥)
+    → ((d : DomainTree) (p : ProblemTree) → Decides (IsAnswerIn held failed (Then d p)) (IsAnswerIn held failed' (Then d p)))
+    → Decides (IsAnswerIn held failed (task_course domain problem wanted Then)) (IsAnswerIn held failed' (task_course domain problem wanted Then))
+task_decides one held failed failed' domain problem None Then told told' quiet quiet' next =
+    both_decides one held failed failed' domain problem (λ d p. GroundThen d p (IsAnswerIn held failed (Then d p))) (λ d p. GroundThen d p (IsAnswerIn held failed' (Then d p))) told told' quiet quiet'
+    (λ d p. ground_decides d p (IsAnswerIn held failed (Then d p)) (IsAnswerIn held failed' (Then d p)) (next d p))
+task_decides one held failed failed' domain problem (Some kind) Then told told' quiet quiet' next =
+    both_decides one held failed failed' domain problem (λ d p. GoalThen kind problem p (GroundThen d p (IsAnswerIn held failed (Then d p))))
+    (λ d p. GoalThen kind problem p (GroundThen d p (IsAnswerIn held failed' (Then d p)))) told told' quiet quiet'
+    (λ d p. goal_decides kind problem p (GroundThen d p (IsAnswerIn held failed (Then d p))) (GroundThen d p (IsAnswerIn held failed' (Then d p)))
+    (ground_decides d p (IsAnswerIn held failed (Then d p)) (IsAnswerIn held failed' (Then d p)) (next d p)))
+
 -- an answer that is shown is none of the refusals
 pub not_refused : (refusal : Refusal) (a : Answer) → a ≡ refused refusal → is_shown a ≡ true → ⊥
 not_refused refusal a is shown = cc (subst (λ k. is_shown k ≡ true) is shown)
-
--- what is shown follows the reading of both files
-pub record ReadFor (held : Bytes → Held) (domain_name problem_name : Bytes) (Then : DomainTree → ProblemTree → Answer → Type 0) (answer : Answer) : Type 0 where
-  pub domain : DomainTree
-  pub problem : ProblemTree
-  pub both : HoldBoth held domain_name problem_name domain problem
-  pub result : Then domain problem answer
-
-pub shown_both : (held : Bytes → Held) (failed : Bytes → Type 0) (domain problem : Bytes) (Then : DomainTree → ProblemTree → Answer → Type 0) (a : Answer)
-    → is_shown a ≡ true → ReadBoth held failed domain problem Then a → ReadFor held domain problem Then a
-shown_both held failed domain problem Then a shown (inl (r, is, why)) = absurd (not_refused r a is shown)
-shown_both held failed domain problem Then a shown (inr (d, holds, inl (r, is, why))) = absurd (not_refused r a is shown)
-shown_both held failed domain problem Then a shown (inr (d, holds, inr (p, holds', result))) = record {
-  domain = d;
-  problem = p;
-  both = record { holds_domain = holds; holds_problem = holds' };
-  result = result;
-}
 
 -- what is shown keeps the limits, and has a goal where one is wanted
 pub shown_grounded : (domain : DomainTree) (problem : ProblemTree) (Then : Answer → Type 0) (a : Answer) → is_shown a ≡ true
@@ -130,6 +107,46 @@ pub with_goal : (kind : PlanKind) (name : Bytes) (problem : ProblemTree) (Then :
     → GoalThen kind name problem Then a → Then a
 with_goal kind name problem Then a some (inl (none, is)) = absurd (false≢true (sym none ∙ some))
 with_goal kind name problem Then a some (inr (some', then)) = then
+
+-- what is shown of a task comes after it was loaded
+pub record ReadTask (held : Bytes → Held) (failed : Bytes → Type 0) (domain_name problem_name : Bytes) (Then : DomainTree → ProblemTree → Course) (answer : Answer) : Type 0 where
+  pub domain : DomainTree
+  pub problem : ProblemTree
+  pub both : HoldBoth held domain_name problem_name domain problem
+  pub within : first_passed domain problem ≡ None
+  pub then : IsAnswerIn held failed (Then domain problem) answer
+
+pub shown_task : (held : Bytes → Held) (failed : Bytes → Type 0) (domain problem : Bytes) (wanted : Option PlanKind) (Then : DomainTree → ProblemTree → Course) (a : Answer)
+    → is_shown a ≡ true → IsAnswerIn held failed (task_course domain problem wanted Then) a → ReadTask held failed domain problem Then a
+shown_task held failed domain problem wanted Then a shown (inl (r, is, why)) = absurd (not_refused r a is shown)
+shown_task held failed domain problem wanted Then a shown (inr (d, holds, inl (r, is, why))) = absurd (not_refused r a is shown)
+shown_task held failed domain problem None Then a shown (inr (d, holds, inr (p, holds', inl (l, passed, is)))) = absurd (not_refused _ a is shown)
+shown_task held failed domain problem None Then a shown (inr (d, holds, inr (p, holds', inr (within, then)))) =
+    record { domain = d; problem = p; both = record { holds_domain = holds; holds_problem = holds' }; within = within; then = then }
+shown_task held failed domain problem (Some kind) Then a shown (inr (d, holds, inr (p, holds', inl (none, is)))) = absurd (not_refused _ a is shown)
+shown_task held failed domain problem (Some kind) Then a shown (inr (d, holds, inr (p, holds', inr (some, inl (l, passed, is))))) = absurd (not_refused _ a is shown)
+shown_task held failed domain problem (Some kind) Then a shown (inr (d, holds, inr (p, holds', inr (some, inr (within, then))))) =
+    record { domain = d; problem = p; both = record { holds_domain = holds; holds_problem = holds' }; within = within; then = then }
+
+-- and so of a further file
+pub shown_file : {X : Type 0} (held : Bytes → Held) (failed : Bytes → Type 0) (name : Bytes) (Spells : Bytes → X → Type 0) (Wrong : Bytes → Bytes → Refusal → Type 0) (Then : X → Answer → Type 0) (a : Answer)
+    → is_shown a ≡ true → ReadThen held failed name Spells Wrong Then a → (tree : X) × Holds held Spells name tree × Then tree a
+shown_file held failed name Spells Wrong Then a shown (inl (r, is, why)) = absurd (not_refused r a is shown)
+shown_file held failed name Spells Wrong Then a shown (inr read) = read
+
+-- where the files spell a domain and a problem of it, which has the goal that is wanted and is within the
+-- limits, the answer is what follows
+pub task_as : OneReading → (held : Bytes → Held) (failed : Bytes → Type 0) (domain problem : Bytes) (wanted : Option PlanKind) (Then : DomainTree → ProblemTree → Course)
+    (d : DomainTree) (p : ProblemTree) (a : Answer) → held domain ≢ Untold → held problem ≢ Untold → ((file : Bytes) → failed file → ⊥)
+    → HoldBoth held domain problem d p → has_wanted wanted p ≡ true → first_passed d p ≡ None
+    → IsAnswerIn held failed (task_course domain problem wanted Then) a → IsAnswerIn held failed (Then d p) a
+task_as one held failed domain problem None Then d p a told told' quiet both some within answer =
+    within_limits d p (IsAnswerIn held failed (Then d p)) a within
+    (both_as one held failed domain problem (λ e q. GroundThen e q (IsAnswerIn held failed (Then e q))) d p a told told' quiet both answer)
+task_as one held failed domain problem (Some kind) Then d p a told told' quiet both some within answer =
+    within_limits d p (IsAnswerIn held failed (Then d p)) a within
+    (with_goal kind problem p (GroundThen d p (IsAnswerIn held failed (Then d p))) a some
+    (both_as one held failed domain problem (λ e q. GoalThen kind problem q (GroundThen e q (IsAnswerIn held failed (Then e q)))) d p a told told' quiet both answer))
 
 -- files that spell a domain and a problem read as these
 pub as_read : (held : Bytes → Held) (domain_name problem_name : Bytes) (domain : DomainTree) (problem : ProblemTree) → HoldBoth held domain_name problem_name domain problem

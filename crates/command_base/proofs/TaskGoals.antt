@@ -1,5 +1,5 @@
 -- The goal of a task is that of its problem; and what is refused before it is looked at.
-use Rattle.std.proofs.Common.{◌≡◌, ◌⊎◌, inl, inr, refl, sym, subst, ap, None, Some, Option, true, false}
+use Rattle.std.proofs.Common.{◌≡◌, ◌⊎◌, inl, inr, refl, sym, subst, ap, None, Some, Option, false}
 use Rattle.std.specs.Option.{option_map}
 use Rattle.std.specs.Prelude.{IsSome}
 use Rattle.std.proofs.lemmas.Option.{same_Some}
@@ -37,8 +37,8 @@ pub goal_refused : (kind : PlanKind) (name : Bytes) (p : ProblemTree) (Then : An
 goal_refused kind name p Then r (inl memory) = inl (ap refused memory)
 goal_refused kind name p Then r (inr (none, is)) = inr (inl (none, ap refused is))
 
-pub limit_refused : (kind : PlanKind) (name : Bytes) (d : DomainTree) (p : ProblemTree) (Then : Answer → Type 0) (r : Refusal) → has_goal_for kind p ≡ true
+pub limit_refused : (d : DomainTree) (p : ProblemTree) (Then : Answer → Type 0) (r : Refusal)
     → (r ≡ no_memory) ⊎ ((limit : Limit) × (first_passed d p ≡ Some limit) × (r ≡ over_limit (limit_name limit)))
-    → (refused r ≡ refused no_memory) ⊎ GoalThen kind name p (GroundThen d p Then) (refused r)
-limit_refused kind name d p Then r goal (inl memory) = inl (ap refused memory)
-limit_refused kind name d p Then r goal (inr (limit, passed, is)) = inr (inr (goal, inl (limit, passed, ap refused is)))
+    → (refused r ≡ refused no_memory) ⊎ GroundThen d p Then (refused r)
+limit_refused d p Then r (inl memory) = inl (ap refused memory)
+limit_refused d p Then r (inr (limit, passed, is)) = inr (inl (limit, passed, ap refused is))

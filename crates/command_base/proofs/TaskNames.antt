@@ -1,8 +1,8 @@
 -- The names, fluents and entries of a task are those of the domain and the problem that it comes from.
-use Rattle.std.proofs.Common.{◌≡◌, List, [], ◌∷◌, map, length, ap, sym, ◌∙◌, refl}
+use Rattle.std.proofs.Common.{◌≡◌, List, [], ◌∷◌, map, length, ap, sym, subst, ◌∙◌, refl}
 use Rattle.std.proofs.lemmas.List.{length-map}
 use Rattle.task_core.specs.Initial.{entries_of}
-use Rattle.task_core.specs.Names.{name_of}
+use Rattle.task_core.specs.Names.{Name, name_of}
 use Rattle.task_core.specs.Tasks.{fluent_names as names_of_fluents, action_names as names_of_actions}
 use Rattle.task_core.specs.declared.actions.GroundAction.{GroundAction}
 use Rattle.task_core.specs.declared.tasks.Task.{Task}
@@ -38,3 +38,8 @@ same_count d p t is =
 
 pub same_entries : (d : DomainTree) (p : ProblemTree) (t : Task) → task_value t ≡ task_of d p → length (entries_of t.init) ≡ length p.entries
 same_entries d p t is = ap (λ (x : TaskTree). length x.entries) is ∙ length-map p.entries (entry_over (fluents d p))
+
+-- what is said over the names of a task is said over those of its domain and problem
+pub with_names : (P : List Name → List Name → Type 0) (d : DomainTree) (p : ProblemTree) (t : Task) → task_value t ≡ task_of d p → P (names_of_fluents t) (names_of_actions t) → P (fluent_names d p) (action_names d p)
+with_names P d p t is said =
+    subst (λ (ns : List Name). P (fluent_names d p) ns) (same_actions d p t is) (subst (λ (ns : List Name). P ns (names_of_actions t)) (same_fluents d p t is) said)

@@ -1,6 +1,6 @@
 -- What follows once a domain and a problem are read: whether the goal is of the kind that is
 -- wanted, and whether all that is counted is within its limits.
-use Rattle.std.specs.Prelude.{◌≡◌, ◌⊎◌, Bool, true, false, Some, None, codes, is_some}
+use Rattle.std.specs.Prelude.{◌≡◌, ◌⊎◌, Bool, None, Option, Some, codes, false, is_some, true}
 use Rattle.pddl_ast.specs.Trees.{DomainTree, ProblemTree}
 use Rattle.pddl_system.specs.Sizes.{Limit, object_limit, size_limit, instance_limit, action_limit}
 use Rattle.pddl_system.specs.Sizes.{outcome_limit, fluent_limit, first_passed}
@@ -30,6 +30,11 @@ GroundThen domain problem Then answer =
 abbrev pub has_goal_for : PlanKind → ProblemTree → Bool
 has_goal_for (of_class class) problem = is_some problem.goal
 has_goal_for with_contexts problem = is_some problem.ctl
+
+-- the same where none may be wanted
+abbrev pub has_wanted : Option PlanKind → ProblemTree → Bool
+has_wanted None problem = true
+has_wanted (Some kind) problem = has_goal_for kind problem
 
 -- a kind of plans for a goal by reachability: the same goal is wanted for each class
 abbrev pub for_tables : PlanKind

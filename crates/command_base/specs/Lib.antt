@@ -2,7 +2,8 @@ pub mod Answers
 pub mod Faults
 pub mod Following
 pub mod Delivery
-pub mod Fetching
+pub mod Courses
+pub mod Loading
 pub mod CountLines
 pub mod Grounding
 pub mod InitialStates

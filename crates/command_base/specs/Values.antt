@@ -1,5 +1,6 @@
 -- Private: the answers and commands that the code's own types stand for.
-use Rattle.std.specs.Prelude.{ℕ, List, Result, Ok, Err, string_bytes, codes}
+use Rattle.std.specs.Prelude.{ℕ, List, Option, Result, Ok, Err, string_bytes, codes}
+use Rattle.std.specs.Option.{option_map}
 use Rattle.command_base.specs.Answers.{Answer, affirmed, denied, refused, Refusal, no_command}
 use Rattle.command_base.specs.Answers.{text_fault, over_limit, read_fault, no_memory, full}
 use Rattle.command_base.specs.Answers.{stray_outcome, unexecutable}
@@ -81,6 +82,9 @@ answer_of (Err refusal) = refused (refusal_of refusal)
 abbrev pub kind_of : CodePlanKind → PlanKind
 kind_of (Class class) = of_class class
 kind_of Contexts = with_contexts
+
+abbrev pub wanted_of : Option CodePlanKind → Option PlanKind
+wanted_of wanted = option_map kind_of wanted
 
 abbrev pub plan_options_of : CodePlanOptions → PlanOptions
 plan_options_of options = record { nodes = options.nodes }

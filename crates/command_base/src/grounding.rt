@@ -1,8 +1,8 @@
 //! Grounding a domain and a problem, with the refusals of a limit, and of a goal of another kind.
 
 ghost use Rattle.command_base.specs.Answers.{no_memory, over_limit, text_fault};
-ghost use Rattle.command_base.specs.Grounding.{has_goal_for, limit_name};
-ghost use Rattle.command_base.specs.Values.{kind_of, refusal_of};
+ghost use Rattle.command_base.specs.Grounding.{has_wanted, limit_name};
+ghost use Rattle.command_base.specs.Values.{refusal_of, wanted_of};
 ghost use Rattle.ctl_syntax.specs.Values.{IsAtMostDeep, NamesBelow, ctl_value};
 ghost use Rattle.pddl_ast.specs.Fits.{FitsDomain, FitsProblem};
 ghost use Rattle.pddl_ast.specs.Values.{domain_value, problem_value};
@@ -16,12 +16,10 @@ ghost use Rattle.std.specs.Option.{option_map};
 ghost use Rattle.std.specs.Prelude.{
   ◌≡◌,
   ◌⊎◌,
-  ◌↔◌,
   IfErr,
   IfOk,
   IfSome,
   IsSome,
-  IsTrue,
   None,
   OnOk,
   Some,
@@ -39,30 +37,31 @@ use sexpr_text::{FaultKind, InputFault};
 use std::alloc::Global;
 use task_core::Task;
 
-/// Whether a problem has a goal for plans of the kind.
-fn has_goal(kind: PlanKind, problem: &Problem) -> bool
-    ensures { IsTrue result ↔ (has_goal_for (kind_of kind) (problem_value problem.now) ≡ true) }
+/// Whether a problem has a goal for plans of the kind, where one is wanted.
+fn has_goal(wanted: Option<PlanKind>, problem: &Problem) -> bool
+    ensures { result ≡ has_wanted (wanted_of wanted) (problem_value problem.now) }
 {
-    match kind {
-        PlanKind::Class(_) => problem.goal.is_some(),
-        PlanKind::Contexts => problem.ctl.is_some(),
+    match wanted {
+        None => true,
+        Some(PlanKind::Class(_)) => problem.goal.is_some(),
+        Some(PlanKind::Contexts) => problem.ctl.is_some(),
     }
 }
 
-/// Whether the problem in the file of this name has a goal for plans of the kind.
+/// Whether the problem in the file of this name has a goal for plans of the kind, where one is wanted.
 pub fn check_goal(
     alloc: Global,
-    kind: PlanKind,
+    wanted: Option<PlanKind>,
     name: &str,
     problem: &Problem,
 ) -> Result<(), Refusal>
-    ensures goal { OnOk result (has_goal_for (kind_of kind) (problem_value problem.now) ≡ true) }
+    ensures goal { OnOk result (has_wanted (wanted_of wanted) (problem_value problem.now) ≡ true) }
     ensures refused { IfErr result (λ refusal. (refusal_of refusal ≡ no_memory)
-        ⊎ ((has_goal_for (kind_of kind) (problem_value problem.now) ≡ false)
+        ⊎ ((has_wanted (wanted_of wanted) (problem_value problem.now) ≡ false)
         × (refusal_of refusal ≡ text_fault name.now
         (record { kind = FaultKind.WrongGoalKind; place = problem.now.place })))) }
 {
-    if has_goal(kind, problem) {
+    if has_goal(wanted, problem) {
         return Ok(());
     }
     Err(Refusal::TextFault(

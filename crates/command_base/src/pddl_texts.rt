@@ -1,24 +1,21 @@
 //! Reading the domain and the problem out of their files.
 
 ghost use Rattle.command_base.specs.Answers.{no_memory, refused};
-ghost use Rattle.command_base.specs.Fetching.{FetchDomain, FetchesBoth, RefusesBoth};
+ghost use Rattle.command_base.specs.Courses.{CarriedOut, begun, of_file, texts_course};
+ghost use Rattle.command_base.specs.Loading.{AreTextsRead, FetchesText};
 ghost use Rattle.command_base.specs.PddlTexts.{
-  HoldBoth,
   IsFaultyDomain,
   IsFaultyProblem,
   SpellsProblemOf,
 };
-ghost use Rattle.command_base.specs.Reading.{IsFile, IsRefusedFile, file_limit};
-ghost use Rattle.command_base.specs.Shelves.{ReadsShelf};
+ghost use Rattle.command_base.specs.Reading.{file_limit};
 ghost use Rattle.command_base.specs.Values.{refusal_for, refusal_of};
-ghost use Rattle.domain_read.specs.Domains.{SpellsDomain};
+ghost use Rattle.domain_read.specs.Domains.{HasDomainFault, SpellsDomain};
 ghost use Rattle.pddl_ast.specs.Fits.{FitsDomain, FitsProblem};
 ghost use Rattle.pddl_ast.specs.Values.{domain_value, problem_value};
 ghost use Rattle.pddl_domain.specs.WordNames.{HasWordNames};
 ghost use Rattle.pddl_problem.specs.WordNames.{HasWordObjects};
-ghost use Rattle.pddl_system.specs.Names.{NamesAreWords};
-ghost use Rattle.plan_io.specs.Fetches.{FailedLast, Fetches, FetchesNothing};
-ghost use Rattle.std.specs.Prelude.{◌≡◌, ◌≤◌, ◌⊎◌, [], ◌∷◌, IfErr, IfOk, OnOk, length};
+ghost use Rattle.std.specs.Prelude.{◌≡◌, ◌≤◌, ◌⊎◌, IfErr, IfOk, length};
 
 use crate::answers::Refusal;
 use crate::files::fetch;
@@ -92,99 +89,24 @@ pub struct ReadTexts {
     pub problem_text: Vec<u8>,
 }
 
-/// The domain in a file.
-fn read_domain_file<S: Shelf>(
-    alloc: Global,
-    shelf: &mut S,
-    name: &str,
-) -> Result<DomainFile, Refusal>
-    ensures file { IfOk result (λ file. IsFile (S.held shelf.old) name.now file.text.items) }
-    ensures spells { IfOk result
-        (λ file. SpellsDomain file.text.items (domain_value file.domain)) }
-    ensures fits { IfOk result (λ file. FitsDomain (domain_value file.domain)) }
-    ensures words { IfOk result (λ file. HasWordNames (domain_value file.domain)) }
-    ensures refused { let failed = FailedLast S.fetched S.faults shelf.old shelf.new in
-        IfErr result (λ refusal. (refusal_of refusal ≡ no_memory)
-        ⊎ IsRefusedFile (S.held shelf.old) failed IsFaultyDomain name.now (refusal_of refusal)) }
-    ensures fetch { S.fetched shelf.old name.now shelf.new }
-    ensures shelf { ReadsShelf S.held S.faults result shelf.old shelf.new }
-{
-    let text = fetch(alloc, shelf, name)?;
-    let domain = domain_in(alloc, name, &text)?;
-    Ok(DomainFile { domain, text })
-}
-
-/// The domain in a file, and the bytes of the file of a problem, which is fetched once the domain
-/// was read.
-fn fetch_both<S: Shelf>(
-    alloc: Global,
-    shelf: &mut S,
-    domain_name: &str,
-    problem_name: &str,
-) -> Result<(DomainFile, Vec<u8>), Refusal>
-    ensures domain_file { IfOk result (λ both.
-        IsFile (S.held shelf.old) domain_name.now both.0.text.items) }
-    ensures spells { IfOk result
-        (λ both. SpellsDomain both.0.text.items (domain_value both.0.domain)) }
-    ensures fits { IfOk result (λ both. FitsDomain (domain_value both.0.domain)) }
-    ensures words { IfOk result (λ both. HasWordNames (domain_value both.0.domain)) }
-    ensures problem_file { IfOk result (λ both.
-        IsFile (S.held shelf.old) problem_name.now both.1.items) }
-    ensures refused { let failed = FailedLast S.fetched S.faults shelf.old shelf.new in
-        IfErr result (λ refusal. RefusesBoth (S.held shelf.old) failed domain_name.now
-        problem_name.now (refused (refusal_of refusal))) }
-    ensures stopped { let failed = FailedLast S.fetched S.faults shelf.old shelf.new in
-        IfErr result (λ refusal. FetchDomain (S.held shelf.old) failed S.fetched domain_name.now
-        (refused (refusal_of refusal)) (Fetches S.fetched (problem_name.now ∷ []))
-        shelf.old shelf.new) }
-    ensures fetches { FetchesBoth (S.held shelf.old) S.fetched domain_name.now problem_name.now
-        FetchesNothing shelf.old shelf.new }
-    ensures fetched { OnOk result
-        (Fetches S.fetched (domain_name.now ∷ problem_name.now ∷ []) shelf.old shelf.new) }
-    ensures shelf { ReadsShelf S.held S.faults result shelf.old shelf.new }
-{
-    let domain = read_domain_file(alloc, shelf, domain_name)?;
-    let bytes = fetch(alloc, shelf, problem_name)?;
-    Ok((domain, bytes))
-}
-
-/// The domain and the problem of it in two files, with the texts of the files.
+/// The domain and the problem of it in two files, with the texts of the files. Each is fetched once, the
+/// problem's file after the domain was read.
 pub fn read_texts<S: Shelf>(
     alloc: Global,
     shelf: &mut S,
     domain_name: &str,
     problem_name: &str,
 ) -> Result<ReadTexts, Refusal>
-    ensures domain_file { IfOk result (λ read.
-        IsFile (S.held shelf.old) domain_name.now read.file.text.items) }
-    ensures domain_spelled { IfOk result
-        (λ read. SpellsDomain read.file.text.items (domain_value read.file.domain)) }
-    ensures problem_file { IfOk result (λ read.
-        IsFile (S.held shelf.old) problem_name.now read.problem_text.items) }
-    ensures problem_spelled { IfOk result
-        (λ read. SpellsProblemOf (domain_value read.file.domain) read.problem_text.items
-        (problem_value read.problem)) }
-    ensures fits_domain { IfOk result (λ read. FitsDomain (domain_value read.file.domain)) }
-    ensures fits_problem { IfOk result
-        (λ read. FitsProblem (domain_value read.file.domain) (problem_value read.problem)) }
-    ensures names { IfOk result
-        (λ read. NamesAreWords (domain_value read.file.domain) (problem_value read.problem)) }
-    ensures refused { let failed = FailedLast S.fetched S.faults shelf.old shelf.new in
-        IfErr result (λ refusal. RefusesBoth (S.held shelf.old) failed domain_name.now
-        problem_name.now (refused (refusal_of refusal))) }
-    ensures stopped { let failed = FailedLast S.fetched S.faults shelf.old shelf.new in
-        IfErr result (λ refusal. FetchDomain (S.held shelf.old) failed S.fetched domain_name.now
-        (refused (refusal_of refusal)) (Fetches S.fetched (problem_name.now ∷ []))
-        shelf.old shelf.new) }
-    ensures fetches { FetchesBoth (S.held shelf.old) S.fetched domain_name.now problem_name.now
-        FetchesNothing shelf.old shelf.new }
-    ensures fetched { OnOk result
-        (Fetches S.fetched (domain_name.now ∷ problem_name.now ∷ []) shelf.old shelf.new) }
-    ensures shelf { ReadsShelf S.held S.faults result shelf.old shelf.new }
+    ensures read { IfOk result (λ read. AreTextsRead S.held S.faults S.fetched domain_name.now
+        problem_name.now read shelf.old shelf.new) }
+    ensures refused { IfErr result (λ refusal. CarriedOut S.held S.faults S.fetched
+        (texts_course domain_name.now problem_name.now (λ domain problem. begun))
+        (refused (refusal_of refusal)) shelf.old shelf.new) }
 {
     // This does nothing: `names` rests on what it promises.
     read_names_are_words();
-    let (file, problem_text) = fetch_both(alloc, shelf, domain_name, problem_name)?;
+    let file = read_domain_file(alloc, shelf, domain_name)?;
+    let problem_text = fetch(alloc, shelf, problem_name)?;
     let problem = problem_in(alloc, problem_name, &problem_text, &file.domain)?;
     Ok(ReadTexts {
         file,
@@ -193,34 +115,23 @@ pub fn read_texts<S: Shelf>(
     })
 }
 
-/// The domain and the problem of it in two files.
-pub fn read_both<S: Shelf>(
+/// The domain in a file.
+fn read_domain_file<S: Shelf>(
     alloc: Global,
     shelf: &mut S,
-    domain_name: &str,
-    problem_name: &str,
-) -> Result<(Domain, Problem), Refusal>
-    ensures holds { IfOk result (λ both. HoldBoth (S.held shelf.old) domain_name.now
-        problem_name.now (domain_value both.0) (problem_value both.1)) }
-    ensures fits_domain { IfOk result (λ both. FitsDomain (domain_value both.0)) }
-    ensures fits_problem { IfOk result
-        (λ both. FitsProblem (domain_value both.0) (problem_value both.1)) }
-    ensures names { IfOk result
-        (λ both. NamesAreWords (domain_value both.0) (problem_value both.1)) }
-    ensures refused { let failed = FailedLast S.fetched S.faults shelf.old shelf.new in
-        IfErr result (λ refusal. RefusesBoth (S.held shelf.old) failed domain_name.now
-        problem_name.now (refused (refusal_of refusal))) }
-    ensures stopped { let failed = FailedLast S.fetched S.faults shelf.old shelf.new in
-        IfErr result (λ refusal. FetchDomain (S.held shelf.old) failed S.fetched domain_name.now
-        (refused (refusal_of refusal)) (Fetches S.fetched (problem_name.now ∷ []))
+    name: &str,
+) -> Result<DomainFile, Refusal>
+    ensures text { IfOk result (λ file. FetchesText S.held S.faults S.fetched name.now file.text.items
         shelf.old shelf.new) }
-    ensures fetches { FetchesBoth (S.held shelf.old) S.fetched domain_name.now problem_name.now
-        FetchesNothing shelf.old shelf.new }
-    ensures fetched { OnOk result
-        (Fetches S.fetched (domain_name.now ∷ problem_name.now ∷ []) shelf.old shelf.new) }
-    ensures shelf { ReadsShelf S.held S.faults result shelf.old shelf.new }
+    ensures spells { IfOk result
+        (λ file. SpellsDomain file.text.items (domain_value file.domain)) }
+    ensures fits { IfOk result (λ file. FitsDomain (domain_value file.domain)) }
+    ensures words { IfOk result (λ file. HasWordNames (domain_value file.domain)) }
+    ensures refused { IfErr result (λ refusal. CarriedOut S.held S.faults S.fetched
+        (of_file name.now SpellsDomain HasDomainFault (λ domain. begun))
+        (refused (refusal_of refusal)) shelf.old shelf.new) }
 {
-    let read = read_texts(alloc, shelf, domain_name, problem_name)?;
-    let file = read.file;
-    Ok((file.domain, read.problem))
+    let text = fetch(alloc, shelf, name)?;
+    let domain = domain_in(alloc, name, &text)?;
+    Ok(DomainFile { domain, text })
 }

@@ -234,7 +234,7 @@ pub fn plan_words<'a>(words: &'a [String]) -> Option<PlanWords<'a>>
 }
 
 /// `plan`, and these words after it, where no certificate is asked for.
-pub fn plain_plan_words<'a>(words: &'a [String]) -> Option<PlanWords<'a>>
+fn plain_plan_words<'a>(words: &'a [String]) -> Option<PlanWords<'a>>
     ensures said { let said = codes "plan" ∷ map string_bytes words.now in
         MatchOption result
         ((asked : AskedPlan) → asked.certified ≡ false → SaysPlan said asked → ⊥)

@@ -1,12 +1,8 @@
--- From what follows the reading of both files to the answer, and from the answer to a run.
-use Rattle.std.proofs.Common.{◌≡◌, ◌⊎◌, inl, inr, subst, ap, None, true}
+-- From what was found to the answer.
+use Rattle.std.proofs.Common.{◌≡◌, ◌⊎◌, inl, inr, subst, ap, None}
 use Rattle.std.specs.Prelude.{IfErr, IfOk, IfSome, Option, Result, Ok, Err, Some}
 use Rattle.pddl_ast.specs.Trees.{DomainTree, ProblemTree}
-use Rattle.pddl_system.specs.Sizes.{first_passed}
-use Rattle.plan_io.specs.Held.{Held}
 use Rattle.command_base.specs.Answers.{Answer, Refusal, denied, full, no_memory, refused}
-use Rattle.command_base.specs.Grounding.{has_goal_for}
-use Rattle.command_base.specs.PddlTexts.{HoldBoth, ReadBoth}
 use Rattle.plan_command.specs.PlanCommand.{MayBeTooFew, PlanThen}
 use Rattle.plan_command.specs.Plannings.{planned_answer, shown_planned}
 use Rattle.plan_command.specs.declared.planned.Planned.{Planned}
@@ -16,33 +12,9 @@ use Rattle.command_base.specs.Values.{answer_of, refusal_of, shown_of}
 use Rattle.command_base.specs.Words.{Bytes}
 use Rattle.command_base.specs.declared.answers.Refusal.{Refusal as CodeRefusal}
 use Rattle.command_base.specs.declared.answers.Shown.{Shown}
-use Rattle.control_command.specs.Controllers.{AffirmsNothing, ControlThen, IsControlAnswer, IsControlled, IsControllerShown, IsRefuted}
+use Rattle.control_command.specs.Controllers.{AffirmsNothing, ControlThen, IsControllerShown, IsRefuted}
 use Rattle.control_command.specs.Judged.{IsControlRefusal}
 use Rattle.control_command.specs.Words.{ControlWords}
-
--- one of the files is refused
-pub before_control : (held : Bytes → Held) (failed : Bytes → Type 0) (asked : ControlWords) (a : Answer)
-    → (a ≡ refused no_memory) ⊎ ReadBoth held failed asked.plan.domain asked.plan.problem (IsControlled asked) a
-    → (a ≡ refused no_memory) ⊎ IsControlAnswer held failed asked a
-before_control held failed asked a (inl memory) = inl memory
-before_control held failed asked a (inr read) = inr (inr read)
-
--- after both files were read: the table of nodes is full, or what follows
-pub after_control : (held : Bytes → Held) (failed : Bytes → Type 0) (asked : ControlWords) (d : DomainTree) (p : ProblemTree) (a : Answer)
-    → HoldBoth held asked.plan.domain asked.plan.problem d p
-    → (a ≡ refused no_memory) ⊎ (MayBeTooFew asked.plan d p × (a ≡ refused (full asked.plan.options.nodes))) ⊎ IsControlled asked d p a
-    → (a ≡ refused no_memory) ⊎ IsControlAnswer held failed asked a
-after_control held failed asked d p a both (inl memory) = inl memory
-after_control held failed asked d p a both (inr (inl (few, is))) = inr (inl (record { domain = d; problem = p; both = both; few = few }, is))
-after_control held failed asked d p a both (inr (inr then)) = inr (inr (inr (d, both.holds_domain, inr (p, both.holds_problem, then))))
-
--- once the goal and the limits are found to be as they are wanted, what follows is the answer
-pub controlled_then : (asked : ControlWords) (d : DomainTree) (p : ProblemTree) (a : Answer) → has_goal_for asked.plan.kind p ≡ true → first_passed d p ≡ None
-    → (a ≡ refused no_memory) ⊎ (MayBeTooFew asked.plan d p × (a ≡ refused (full asked.plan.options.nodes))) ⊎ ControlThen asked d p a
-    → (a ≡ refused no_memory) ⊎ (MayBeTooFew asked.plan d p × (a ≡ refused (full asked.plan.options.nodes))) ⊎ IsControlled asked d p a
-controlled_then asked d p a goal within (inl memory) = inl memory
-controlled_then asked d p a goal within (inr (inl few)) = inr (inl few)
-controlled_then asked d p a goal within (inr (inr then)) = inr (inr (inr (goal, inr (within, then))))
 
 -- the answer of `plan`, where it affirms nothing
 pub of_plan : (asked : ControlWords) (d : DomainTree) (p : ProblemTree) (a : Answer) → AffirmsNothing a

@@ -1,28 +1,25 @@
 -- What follows from an answer that has its cause, where actions may be tried again.
-use Rattle.std.proofs.Common.{◌≡◌, ◌⊎◌, ℕ, true, List, inl, inr, sym, subst, ap, ◌∙◌, arith}
+use Rattle.std.proofs.Common.{◌≡◌, true, inl, inr, sym, subst, ap, ◌∙◌}
 use Rattle.std.specs.Prelude.{Some}
-use Rattle.std.specs.Io.KnownBytes.{append_known}
 use Rattle.ctl_syntax.specs.ContextGoals.{PlainGoal}
 use Rattle.pddl_ast.specs.Trees.{DomainTree, FormulaTree, ProblemTree}
 use Rattle.pddl_system.specs.Systems.{system}
-use Rattle.plan_io.specs.Fetches.{FailedLast}
 use Rattle.plan_io.specs.Held.{Held}
-use Rattle.command_base.specs.Answers.{Answer, affirmed, denied, is_shown, no_memory, refused, status_of, text_of}
-use Rattle.command_base.specs.Grounding.{GroundThen}
+use Rattle.command_base.specs.Answers.{Answer, affirmed, is_shown}
+use Rattle.command_base.specs.Courses.{IsAnswerIn}
 use Rattle.command_base.specs.InitialStates.{empty_init}
 use Rattle.command_base.specs.PddlTexts.{HoldBoth}
 use Rattle.command_base.specs.Words.{Bytes, with_contexts}
 use Rattle.command_base.proofs.Initials.{shown_initial}
-use Rattle.command_base.proofs.PddlDecides.{not_refused, shown_both, shown_goal, shown_grounded}
-use Rattle.command_base.proofs.Statuses.{shown_at}
+use Rattle.command_base.proofs.PddlDecides.{not_refused}
 use Rattle.plan_command.specs.ContextGoals.{context_goal}
-use Rattle.control_command.specs.FairControllers.{FairThen, IsFairAnswer, IsFairMissing, IsFairResult, IsFairShown, IsTried, fair_goal_of}
+use Rattle.control_command.specs.FairControllers.{FairThen, IsFairMissing, IsFairResult, IsFairShown, fair_course, fair_goal_of}
 use Rattle.control_command.specs.Words.{FairWords, to_try}
 use Rattle.control_command.specs.Laws.{HasControllerAtYes, HasNoPlanAtNo}
 use Rattle.control_command.specs.Controllers.{IsShownAs}
 use Rattle.plan_command.specs.PlanCommand.{no_plan_text}
 use Rattle.control_command.proofs.Answers.{denied_affirms_nothing}
-use Rattle.control_command.proofs.AnswerLaws.{is_no_text, is_text}
+use Rattle.control_command.proofs.AnswerLaws.{is_no_text, is_text, shown_task}
 
 -- what was found for the goal of the problem that the files spell
 record FoundFor (held : Bytes → Held) (asked : FairWords) (a : Answer) : Type 0 where
@@ -49,14 +46,10 @@ found_then held asked d p a both shown (inr (goal, goal_is, inr (inr (inr then))
   result = shown_initial (empty_init asked.problem p) (system d p).initial (IsFairResult asked d p (fair_goal_of d p goal)) a shown then;
 }
 
-found_answer : (held : Bytes → Held) (failed : Bytes → Type 0) (asked : FairWords) (a : Answer) → is_shown a ≡ true → (a ≡ refused no_memory) ⊎ IsFairAnswer held failed asked a → FoundFor held asked a
-found_answer held failed asked a shown (inl is) = absurd (not_refused no_memory a is shown)
-found_answer held failed asked a shown (inr read) =
-    let both = shown_both held failed asked.domain asked.problem (IsTried asked) a shown read in
-    let d = both.domain in
-    let p = both.problem in
-    found_then held asked d p a both.both shown
-    (shown_grounded d p (FairThen asked d p) a shown (shown_goal with_contexts asked.problem p (GroundThen d p (FairThen asked d p)) a shown both.result)).1
+found_answer : (held : Bytes → Held) (failed : Bytes → Type 0) (asked : FairWords) (a : Answer) → is_shown a ≡ true → IsAnswerIn held failed (fair_course asked) a → FoundFor held asked a
+found_answer held failed asked a shown answer =
+    let found = shown_task held failed asked.domain asked.problem with_contexts (FairThen asked) a shown answer in
+    found_then held asked found.domain found.problem a found.both shown found.then
 
 -- a controller is shown where the answer affirms, and that there is none where it denies
 module _ (held : Bytes → Held) (asked : FairWords) (a : Answer) (found : FoundFor held asked a) where
@@ -80,16 +73,16 @@ module _ (held : Bytes → Held) (asked : FairWords) (a : Answer) (found : Found
     go (inr (inl missing)) = missing
     go (inr (inr (name, limit, refused_is))) = absurd (not_refused _ a refused_is shown)
 
-pub fair_controller_at_yes : (held : Bytes → Held) (failed : Bytes → Type 0) (asked : FairWords) (a : Answer) → IsFairAnswer held failed asked a → HasControllerAtYes held (to_try asked) a
+pub fair_controller_at_yes : (held : Bytes → Held) (failed : Bytes → Type 0) (asked : FairWords) (a : Answer) → IsAnswerIn held failed (fair_course asked) a → HasControllerAtYes held (to_try asked) a
 fair_controller_at_yes held failed asked a answer bytes is =
     let shown = ap is_shown is in
-    let found = found_answer held failed asked a shown (inr answer) in
+    let found = found_answer held failed asked a shown answer in
     let controller = shown_for held asked a found bytes is shown in
     (found.domain, found.problem, found.goal, controller.plan, controller.steps, found.both, found.is, controller.text, controller.guarded, subst (IsShownAs asked.shape.form found.domain found.problem controller.plan controller.steps) (is_text controller.bytes bytes a controller.shown is) controller.shown_as)
 
-pub no_fair_plan_at_no : (held : Bytes → Held) (failed : Bytes → Type 0) (asked : FairWords) (a : Answer) → IsFairAnswer held failed asked a → HasNoPlanAtNo held (to_try asked) a
+pub no_fair_plan_at_no : (held : Bytes → Held) (failed : Bytes → Type 0) (asked : FairWords) (a : Answer) → IsAnswerIn held failed (fair_course asked) a → HasNoPlanAtNo held (to_try asked) a
 no_fair_plan_at_no held failed asked a answer text is =
     let shown = ap is_shown is in
-    let found = found_answer held failed asked a shown (inr answer) in
+    let found = found_answer held failed asked a shown answer in
     let missing = missing_for held asked a found (λ other affirms. denied_affirms_nothing text other (sym is ∙ affirms)) shown in
     (found.domain, found.problem, found.goal, found.both, found.is, missing.none, is_no_text text no_plan_text a is missing.shown)

@@ -20,13 +20,11 @@ use Rattle.fair_theory.specs.FairSets.{SetGoal}
 use Rattle.fair_theory.proofs.NamesBelow.{FairGoalsAreTrue, translated_names}
 use Rattle.ground_task.specs.declared.grounding.Grounded.{Grounded}
 use Rattle.pddl_ast.specs.Trees.{DomainTree, FormulaTree, ProblemTree}
-use Rattle.pddl_system.specs.Sizes.{first_passed}
 use Rattle.pddl_system.specs.Systems.{system}
 use Rattle.plan_check.specs.ContextVerdicts.{IsTrueAt}
 use Rattle.plan_check.specs.Verdicts.{SaysYes}
 use Rattle.plan_check.specs.declared.verdicts.Verdict.{Verdict}
 use Rattle.plan_check.proofs.ContextLaws.{yes_met}
-use Rattle.plan_io.specs.Held.{Held}
 use Rattle.plan_rules.specs.Denoted.{denoted_contexts}
 use Rattle.plan_rules.specs.Rules.{PlainPlan, automaton, table}
 use Rattle.controller_rules.specs.AsRun.{HasNoDeadRule, HasOneMove}
@@ -40,9 +38,7 @@ use Rattle.task_sets.proofs.FullTables.{filled_after}
 use Rattle.check_command.specs.Judged.{IsTaskVerdict}
 use Rattle.command_base.specs.Answers.{Answer, Refusal, denied, full, no_memory, over_limit, refused}
 use Rattle.command_base.specs.Grounded.{IsTaskOf}
-use Rattle.command_base.specs.Grounding.{has_goal_for}
 use Rattle.command_base.specs.InitialStates.{empty_init}
-use Rattle.command_base.specs.PddlTexts.{HoldBoth}
 use Rattle.command_base.specs.Values.{answer_of, kind_of, refusal_of, shown_of}
 use Rattle.pddl_ast.specs.Values.{domain_value, problem_value}
 use Rattle.command_base.specs.Words.{Bytes, with_contexts}
@@ -54,7 +50,7 @@ use Rattle.plan_command.specs.GoalConditions.{limit_of_goal, sets_of_goal as pla
 use Rattle.plan_command.specs.GoalSets.{goal_sets}
 use Rattle.plan_command.specs.PlanCommand.{no_plan_text}
 use Rattle.plan_command.proofs.ContextAnswers.{shallow_within}
-use Rattle.control_command.specs.FairControllers.{FairThen, HasLongFairText, IsFairAnswer, IsFairController, IsFairResult, IsFairShown, IsTried, MeetsFairly, fair_goal_of, fair_sets, most_fair_parts}
+use Rattle.control_command.specs.FairControllers.{FairThen, HasLongFairText, IsFairController, IsFairResult, IsFairShown, MeetsFairly, fair_goal_of, fair_sets, most_fair_parts}
 use Rattle.control_command.specs.FairJudged.{HasLongFairly, IsFairlyFound, IsFairlyMade, IsFairlyRefused, IsFairlyShown, IsTranslated, LacksFairRoom, most_fair_of, with_goal}
 use Rattle.control_command.specs.FairSought.{FollowsFairly, IsFairGoal, IsFairMadeRefusal, IsFairShownFor, IsFairTask, wanted_fairly}
 use Rattle.control_command.specs.Words.{FairWords}
@@ -198,18 +194,6 @@ pub found_of : {E : Type 0} (t : Task) (goal : SetGoal) (r : Result FairFound E)
 found_of t goal (Ok (Plan plan)) answer = answer.had
 found_of t goal (Ok NoPlan) answer = answer
 found_of t goal (Err e) answer = tt
-
--- once the goal and the limits are found to be as they are wanted, what follows is the answer
-pub tried_then : (asked : FairWords) (d : DomainTree) (p : ProblemTree) (a : Answer) → has_goal_for with_contexts p ≡ true → first_passed d p ≡ None
-    → (a ≡ refused no_memory) ⊎ FairThen asked d p a → (a ≡ refused no_memory) ⊎ IsTried asked d p a
-tried_then asked d p a goal within (inl memory) = inl memory
-tried_then asked d p a goal within (inr then) = inr (inr (goal, inr (within, then)))
-
--- after both files were read
-pub after_tried : (held : Bytes → Held) (failed : Bytes → Type 0) (asked : FairWords) (d : DomainTree) (p : ProblemTree) (a : Answer) → HoldBoth held asked.domain asked.problem d p
-    → (a ≡ refused no_memory) ⊎ IsTried asked d p a → (a ≡ refused no_memory) ⊎ IsFairAnswer held failed asked a
-after_tried held failed asked d p a both (inl memory) = inl memory
-after_tried held failed asked d p a both (inr then) = inr (inr (d, both.holds_domain, inr (p, both.holds_problem, then)))
 
 -- the conditions of a goal are such as a search takes
 module _ (n : ℕ) where

@@ -16,20 +16,17 @@ use Rattle.plan_certs.specs.Readings.{SpellsPlain as SpellsCertificate}
 use Rattle.plan_certs.specs.Texts.{certificate_text}
 use Rattle.plan_document.specs.Documents.{document_text}
 use Rattle.plan_document.specs.Faithful.{IsToldInFull}
-use Rattle.plan_io.specs.Held.{Held}
 use Rattle.plan_rules.specs.Denoted.{denoted_contexts}
 use Rattle.plan_rules.specs.Readings.{SpellsPlain}
 use Rattle.plan_rules.specs.Rules.{PlainPlan, automaton, table}
-use Rattle.task_core.specs.Names.{Name}
 use Rattle.task_core.specs.Systems.{System}
 use Rattle.task_core.specs.declared.tasks.Task.{Task}
 use Rattle.command_base.specs.Answers.{Answer, affirmed, denied, full, over_limit, refused}
+use Rattle.command_base.specs.Courses.{Course, answers, task_course}
 use Rattle.command_base.specs.Following.{HasTooManyStates, most_followed}
 use Rattle.command_base.specs.Grounded.{IsTaskOf}
-use Rattle.command_base.specs.Grounding.{GoalThen, GroundThen}
 use Rattle.plan_meets.specs.Meets.{Meaning, Meets, PlanMeets, contextual, pairs}
-use Rattle.command_base.specs.PddlTexts.{ReadBoth}
-use Rattle.plan_command.specs.PlanCommand.{HasNoPlan, IsWrittenFor, MayRunOut, PlanThen, no_plan_text}
+use Rattle.plan_command.specs.PlanCommand.{HasNoPlan, IsWrittenFor, MayBeTooFew, PlanThen, no_plan_text}
 use Rattle.command_base.specs.Reading.{file_limit}
 use Rattle.command_base.specs.Words.{Bytes, PlanKind, of_class, with_contexts}
 use Rattle.control_command.specs.Words.{ControlWords}
@@ -181,16 +178,14 @@ ControlThen asked domain problem answer =
     ⊎ IsRefuted asked domain problem answer
     ⊎ (PlanThen asked.plan domain problem answer × AffirmsNothing answer)
 
--- what follows once both are read: the goal is of the kind that is wanted, the limits of grounding
--- are kept, and a controller is looked for
-abbrev pub IsControlled : ControlWords → DomainTree → ProblemTree → Answer → Type 0
-IsControlled asked domain problem =
-    GoalThen asked.plan.kind asked.plan.problem problem
-    (GroundThen domain problem (ControlThen asked domain problem))
+-- the answer: that the table of nodes is full, where it may be; or what is found
+abbrev pub AnswersControl : ControlWords → DomainTree → ProblemTree → Answer → Type 0
+AnswersControl asked domain problem answer =
+    (MayBeTooFew asked.plan domain problem × (answer ≡ refused (full asked.plan.options.nodes)))
+    ⊎ ControlThen asked domain problem answer
 
--- the answer: that the table of nodes is full, where it may be; or what follows the reading of both
--- files
-abbrev pub IsControlAnswer : (Bytes → Held) → (Bytes → Type 0) → ControlWords → Answer → Type 0
-IsControlAnswer held failed asked answer =
-    (MayRunOut held asked.plan × (answer ≡ refused (full asked.plan.options.nodes)))
-    ⊎ ReadBoth held failed asked.plan.domain asked.plan.problem (IsControlled asked) answer
+-- the course to a controller from a plan
+abbrev pub control_course : ControlWords → Course
+control_course asked =
+    task_course asked.plan.domain asked.plan.problem (Some asked.plan.kind) (λ domain problem.
+    answers (AnswersControl asked domain problem))

@@ -9,7 +9,6 @@ use Rattle.fair_theory.specs.FairSets.{SetGoal, chain_goal, patrol_goal}
 use Rattle.pddl_ast.specs.Trees.{DomainTree, FormulaTree, ProblemTree}
 use Rattle.pddl_system.specs.Systems.{action_names, fluent_names, system}
 use Rattle.plan_document.specs.Faithful.{IsToldInFull}
-use Rattle.plan_io.specs.Held.{Held}
 use Rattle.plan_rules.specs.Denoted.{denoted_contexts}
 use Rattle.plan_rules.specs.Readings.{SpellsPlain}
 use Rattle.plan_rules.specs.Rules.{PlainPlan, automaton, table}
@@ -18,9 +17,8 @@ use Rattle.task_core.specs.Systems.{System}
 use Rattle.task_sets.specs.FullTables.{IsFullForBoth}
 use Rattle.command_base.specs.Answers.{Answer, affirmed, denied, full, over_limit, refused}
 use Rattle.command_base.specs.Answers.{text_fault}
-use Rattle.command_base.specs.Grounding.{GoalThen, GroundThen}
+use Rattle.command_base.specs.Courses.{Course, answers, task_course}
 use Rattle.command_base.specs.InitialStates.{InitialThen, empty_init}
-use Rattle.command_base.specs.PddlTexts.{ReadBoth}
 use Rattle.command_base.specs.Reading.{file_limit}
 use Rattle.command_base.specs.Words.{Bytes, with_contexts}
 use Rattle.plan_command.specs.ContextGoals.{context_goal, part_count, part_limit}
@@ -132,14 +130,8 @@ FairThen asked domain problem answer =
     × (answer ≡ refused (over_limit (part_limit goal))))
     ⊎ IsFairSearched asked domain problem (fair_goal_of domain problem goal) answer))
 
--- what follows once both are read: the goal is of the kind that is wanted, and the limits of grounding
--- are kept
-abbrev pub IsTried : FairWords → DomainTree → ProblemTree → Answer → Type 0
-IsTried asked domain problem =
-    GoalThen with_contexts asked.problem problem
-    (GroundThen domain problem (FairThen asked domain problem))
-
--- the answer
-abbrev pub IsFairAnswer : (Bytes → Held) → (Bytes → Type 0) → FairWords → Answer → Type 0
-IsFairAnswer held failed asked =
-    ReadBoth held failed asked.domain asked.problem (IsTried asked)
+-- the course to a controller whose actions may be tried again
+abbrev pub fair_course : FairWords → Course
+fair_course asked =
+    task_course asked.domain asked.problem (Some with_contexts) (λ domain problem.
+    answers (FairThen asked domain problem))

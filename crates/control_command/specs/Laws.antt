@@ -5,6 +5,7 @@ use Rattle.pddl_ast.specs.Trees.{DomainTree, FormulaTree, ProblemTree}
 use Rattle.plan_io.specs.Fetches.{FailedLast}
 use Rattle.plan_io.specs.Held.{Held}
 use Rattle.command_base.specs.Answers.{Answer, affirmed, denied}
+use Rattle.command_base.specs.Courses.{IsAnswerIn}
 use Rattle.command_base.specs.PddlTexts.{HoldBoth}
 use Rattle.command_base.specs.Words.{Bytes, MayBeCertified}
 use Rattle.plan_command.specs.ContextGoals.{context_goal}
@@ -13,7 +14,7 @@ use Rattle.plan_rules.specs.Rules.{PlainPlan}
 use Rattle.ctl_syntax.specs.ContextGoals.{PlainGoal}
 use Rattle.fair_theory.specs.FairPlans.{HasNoFairPlan}
 use Rattle.pddl_system.specs.Systems.{system}
-use Rattle.control_command.specs.Answers.{IsRequestAnswer}
+use Rattle.control_command.specs.Course.{request_course}
 use Rattle.control_command.specs.Controllers.{IsControllerText, IsGuardedFor, IsNoPlanShown, IsShownAs}
 use Rattle.control_command.specs.FairControllers.{IsFairText, fair_goal_of}
 use Rattle.control_command.specs.Words.{ControlRequest, to_plan, to_try}
@@ -23,7 +24,7 @@ abbrev pub OfAnswers : {S : Type 0} → (S → Bytes → Held) → (S → ℕ) �
     → ((Bytes → Held) → ControlRequest → Answer → Type 0) → Type 0
 OfAnswers {S} held faults fetched Property =
     (before after : S) (asked : ControlRequest) (answer : Answer)
-    → IsRequestAnswer (held before) (FailedLast fetched faults before after) asked answer
+    → IsAnswerIn (held before) (FailedLast fetched faults before after) (request_course asked) answer
     → Property (held before) asked answer
 
 -- yes: the two files spell a problem, and what is shown is the text of a controller for it, or the document

@@ -1,5 +1,5 @@
-pub mod Answers
 pub mod Controllers
+pub mod Course
 pub mod FairControllers
 pub mod FairJudged
 pub mod FairSought

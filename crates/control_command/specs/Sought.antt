@@ -1,22 +1,23 @@
 -- Private: what a controller is looked for, the plan that `plan` finds for it, and what is answered.
-use Rattle.std.specs.Prelude.{◌≡◌, ◌≤◌, ◌⊎◌, [], length, true}
+use Rattle.std.specs.Prelude.{◌≡◌, ◌≤◌, [], length, true}
 use Rattle.pddl_ast.specs.Trees.{DomainTree, ProblemTree}
 use Rattle.pddl_ast.specs.Values.{domain_value, problem_value}
 use Rattle.plan_rules.specs.Plans.{IsPlanOf, plan_text}
 use Rattle.plan_rules.specs.Readings.{SpellsPlain}
 use Rattle.plan_rules.specs.Rules.{PlainPlan, plain_of}
 use Rattle.task_core.specs.Tasks.{action_count, action_names, fluent_count, fluent_names}
-use Rattle.command_base.specs.Answers.{Answer, affirmed, full, no_memory, refused}
+use Rattle.command_base.specs.Answers.{Answer, affirmed}
+use Rattle.command_base.specs.Courses.{Stops}
 use Rattle.command_base.specs.Grounded.{IsGroundedOf}
 use Rattle.command_base.specs.Grounding.{has_goal_for}
 use Rattle.command_base.specs.Values.{kind_of, refusal_of, shown_of}
 use Rattle.command_base.specs.Words.{Bytes, IsNodeLimit, PlanKind}
 use Rattle.command_base.specs.declared.answers.Refusal.{Refusal}
 use Rattle.command_base.specs.declared.answers.Shown.{Shown}
-use Rattle.plan_command.specs.PlanCommand.{MayBeTooFew, PlanThen}
+use Rattle.plan_command.specs.PlanCommand.{PlanThen}
 use Rattle.controller_rules.specs.Guards.{AreGuarded}
 use Rattle.plan_rules.specs.declared.rules.Plan.{Plan}
-use Rattle.control_command.specs.Controllers.{ControlThen, IsController, IsControllerShown, IsRefuted}
+use Rattle.control_command.specs.Controllers.{AnswersControl, ControlThen, IsController, IsControllerShown, IsRefuted}
 use Rattle.command_base.specs.Reading.{file_limit}
 use Rattle.control_command.specs.Judged.{IsControlRefusal, IsJudged, text_over}
 use Rattle.control_command.specs.Values.{control_words_of}
@@ -74,18 +75,10 @@ pub record IsControllerFor (sought : Sought) (plan : Plan) : Type 0 where
   pub guarded : AreGuarded sought.grounded.now.task (plain_of plan)
   pub short : length (text_over sought.grounded.now.task (plain_of plan) []) ≤ file_limit
 
--- an answer to the words: want of memory, too few nodes for `plan`, or what follows
-abbrev pub IsAnswerIn : (ControlWords → DomainTree → ProblemTree → Answer → Type 0) → ControlWords
-    → DomainTree → ProblemTree → Answer → Type 0
-IsAnswerIn Then asked domain problem answer =
-    (answer ≡ refused no_memory)
-    ⊎ (MayBeTooFew asked.plan domain problem
-    × (answer ≡ refused (full asked.plan.options.nodes)))
-    ⊎ Then asked domain problem answer
-
+-- an answer to the words
 abbrev pub IsAnswerFor : Sought → Answer → Type 0
 IsAnswerFor sought answer =
-    HoldsFor sought (λ asked domain problem. IsAnswerIn ControlThen asked domain problem answer)
+    HoldsFor sought (λ asked domain problem. Stops (AnswersControl asked domain problem) answer)
 
 -- what is shown follows
 abbrev pub FollowsFor : Sought → Shown → Type 0

@@ -1,11 +1,6 @@
 //! Controllers for goals whose actions may be tried again: from the words to the goal.
 
-ghost use Rattle.command_base.specs.Answers.{no_memory, refused};
-ghost use Rattle.command_base.specs.Fetching.{FetchesBoth};
-ghost use Rattle.command_base.specs.Shelves.{KeepsShelf};
 ghost use Rattle.command_base.specs.Values.{answer_of};
-ghost use Rattle.command_base.specs.Words.{IsNodeLimit};
-ghost use Rattle.control_command.specs.FairControllers.{IsFairAnswer, IsTried};
 ghost use Rattle.control_command.specs.FairJudged.{most_fair_of, with_goal as grounded_with};
 ghost use Rattle.control_command.specs.FairSought.{
   IsFairAnswerFor,
@@ -14,21 +9,17 @@ ghost use Rattle.control_command.specs.FairSought.{
   StandsFor,
   StandsForNone,
 };
-ghost use Rattle.control_command.specs.Values.{fair_words_of};
 ghost use Rattle.ctl_syntax.specs.GoalValues.{GoalIsAtMostDeep, GoalNamesBelow};
 ghost use Rattle.ctl_syntax.specs.Values.{IsAtMostDeep, NamesBelow, ctl_value};
-ghost use Rattle.pddl_ast.specs.Fits.{FitsDomain, FitsProblem};
 ghost use Rattle.pddl_ast.specs.Values.{domain_value, problem_value};
 ghost use Rattle.pddl_system.specs.CtlGoals.{ctl_goal_of, goal_value};
-ghost use Rattle.pddl_system.specs.Names.{NamesAreWords};
-ghost use Rattle.plan_io.specs.Fetches.{FailedLast, FetchesNothing};
-ghost use Rattle.std.specs.Prelude.{◌≡◌, ◌≤◌, ◌⊎◌, ◌↔◌, IfNone, IfOk, IfSome, IsTrue, Some};
+ghost use Rattle.std.specs.Prelude.{◌≡◌, ◌≤◌, ◌↔◌, IfNone, IfOk, IfSome, IsTrue, Some};
 ghost use Rattle.task_core.specs.Tasks.{fluent_count};
 ghost use Rattle.ctl_syntax.specs.GoalSizes.{count_of};
 
 use crate::fair_controllers::{FairTask, fair_tried};
 use crate::words::FairWords;
-use command_base::{PlanKind, Refusal, Shown, check_goal, goal_in, ground_both, read_both};
+use command_base::{Job, LoadedTask, PlanKind, Refusal, Shown, TaskFiles, goal_in, load};
 use ctl_syntax::{ContextGoal, Ctl, as_context_goal};
 use fair_theory::{MOST_FAIR_STAGES, fair_goal};
 use ground_task::Grounded;
@@ -48,47 +39,55 @@ pub(crate) struct FairSought<'a> {
     pub(crate) problem: &'a Problem,
 }
 
-/// The controller for the domain and the problem in two files, or that there is no plan.
-pub(crate) fn fair_files<S: Shelf>(
-    alloc: Global,
-    shelf: &mut S,
-    asked: &FairWords,
-) -> Result<Shown, Refusal>
-    requires room { IsNodeLimit asked.now.nodes }
-    ensures answer { let failed = FailedLast S.fetched S.faults shelf.old shelf.new in
-        (answer_of result ≡ refused no_memory)
-        ⊎ IsFairAnswer (S.held shelf.old) failed (fair_words_of asked.now) (answer_of result) }
-    ensures fetches { FetchesBoth (S.held shelf.old) S.fetched asked.now.domain.now
-        asked.now.problem.now FetchesNothing shelf.old shelf.new }
-    ensures shelf { KeepsShelf S.held S.faults (answer_of result) shelf.old shelf.new }
-{
-    let (domain, problem) = read_both(alloc, shelf, asked.domain, asked.problem)?;
-    fair_problem(alloc, asked, &domain, &problem)
+/// The controller for the domain and the problem in two files, whose actions may be tried again, or that
+/// there is no plan.
+#[derive(Drop)]
+pub struct FairJob<'a> {
+    pub asked: FairWords<'a>,
 }
 
-/// The controller for a problem, whose goal is to be one in computation tree logic.
-fn fair_problem(
-    alloc: Global,
-    asked: &FairWords,
-    domain: &Domain,
-    problem: &Problem,
-) -> Result<Shown, Refusal>
-    requires room { IsNodeLimit asked.now.nodes }
-    requires fits_domain { FitsDomain (domain_value domain.now) }
-    requires fits_problem { FitsProblem (domain_value domain.now) (problem_value problem.now) }
-    requires names { NamesAreWords (domain_value domain.now) (problem_value problem.now) }
-    ensures { (answer_of result ≡ refused no_memory)
-        ⊎ IsTried (fair_words_of asked.now) (domain_value domain.now) (problem_value problem.now)
-        (answer_of result) }
-{
-    check_goal(alloc, PlanKind::Contexts, asked.problem, problem)?;
-    let grounded = ground_both(alloc, domain, problem)?;
-    let sought = FairSought {
-        asked,
-        domain,
-        problem,
-    };
-    fair_grounded(alloc, &sought, grounded)
+impl Job for FairJob<'_> {
+    ghost use Rattle.command_base.specs.Loading.{IsLoaded};
+    ghost use Rattle.command_base.specs.Words.{IsNodeLimit, with_contexts};
+    ghost use Rattle.control_command.specs.FairControllers.{FairThen, fair_course};
+    ghost use Rattle.control_command.specs.Values.{fair_words_of};
+    ghost use Rattle.pddl_ast.specs.Values.{domain_value, problem_value};
+    ghost use Rattle.std.specs.Prelude.{Some};
+
+    type Loaded = LoadedTask;
+
+    ghost course = { λ self. fair_course (fair_words_of self.asked) };
+
+    ghost allowed = { λ self. IsNodeLimit self.asked.nodes };
+
+    ghost fits = { λ self loaded. IsLoaded (Some with_contexts) loaded };
+
+    ghost follows = { λ self loaded. FairThen (fair_words_of self.asked)
+        (domain_value loaded.domain) (problem_value loaded.problem) };
+
+    fn load<S: Shelf>(&self, alloc: Global, shelf: &mut S) -> Result<LoadedTask, Refusal> {
+        let files = TaskFiles {
+            domain: self.asked.domain,
+            problem: self.asked.problem,
+            goal: Some(PlanKind::Contexts),
+        };
+        let loaded = load(alloc, shelf, &files)?;
+        Ok(loaded)
+    }
+
+    fn answer(self, alloc: Global, loaded: LoadedTask) -> Result<Shown, Refusal> {
+        let LoadedTask {
+            domain,
+            problem,
+            grounded,
+        } = loaded;
+        let sought = FairSought {
+            asked: &self.asked,
+            domain: &domain,
+            problem: &problem,
+        };
+        fair_grounded(alloc, &sought, grounded)
+    }
 }
 
 /// The controller for a task and its goals, which are those of the domain and the problem.

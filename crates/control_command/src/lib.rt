@@ -1,7 +1,7 @@
 //! A controller: the plan of `plan_command` for the states alone that it reaches, with few and short
 //! rules, as a text that plans are read from, as a JSON document or as a program.
 //!
-//! `controller` finds the plan with the planners of `plan_command`, as sets of states, follows it from the
+//! `control_job` finds the plan with the planners of `plan_command`, as sets of states, follows it from the
 //! initial states (`followed`, `searches`, `context_searches`), and makes rules of what it does there
 //! (`rules`, `plans`). None of that is trusted: the plan is judged by the proved checker, and what isn't
 //! found to be a controller isn't shown (`made`, `judged`, and `controller_rules` for what its rules are
@@ -13,13 +13,13 @@
 //! A controller for a goal with stages whose actions may be tried again (`fair`) is found by `fair_plan`,
 //! and judged by the goal that `fair_theory` puts in the place of the problem's.
 //!
-//! `specs/` says what the call answers: `Words` which controller may be wanted, `Controllers` and
-//! `FairControllers` the answer, and `Laws` what follows of each answer.
+//! `specs/` says what the command answers: `Words` which controller may be wanted, `Controllers` and
+//! `FairControllers` the answers, and `Laws` what follows of each.
 #![tactic(auto)]
 
 mod allowances;
-mod commands;
 mod context_searches;
+mod control_job;
 mod fair;
 mod fair_controllers;
 mod fair_search;
@@ -44,6 +44,7 @@ mod staged;
 mod state_plans;
 mod words;
 
-pub use commands::controller;
+pub use control_job::ControlJob;
+pub use fair::FairJob;
 pub use laws::{controllers_meet, no_plan_is_there};
 pub use words::{ControlRequest, ControlWords, FairWords, Form, Shape};

@@ -1,2 +1,2 @@
 pub mod Answers
-pub mod PictureFetched
+pub mod Explaining

@@ -1,4 +1,4 @@
+pub mod Explaining
 pub mod Pictures
 pub mod Values
 pub mod Words
-pub mod Fetching

@@ -149,7 +149,12 @@ fn drill_both(
         ⊎ DrillThen (drill_words_of asked.now) (domain_value domain.now)
         (problem_value problem.now) (answer_of result) }
 {
-    check_goal(alloc, PlanKind::Class(Class::Weak), PROBLEM_NAME, problem)?;
+    check_goal(
+        alloc,
+        Some(PlanKind::Class(Class::Weak)),
+        PROBLEM_NAME,
+        problem,
+    )?;
     let task = grounded(alloc, domain, problem)?;
     drill_task(alloc, asked, &task)
 }

@@ -4,31 +4,28 @@ use Rattle.std.specs.Option.{option_map}
 use Rattle.check_command.specs.CheckCommand.{ExploreThen, reason_word, verdict_answer}
 use Rattle.check_command.specs.Judged.{IsTaskVerdict}
 use Rattle.command_base.specs.Answers.{Answer, affirmed, denied, refused}
+use Rattle.command_base.specs.Courses.{Course, answers, task_course}
 use Rattle.command_base.specs.Following.{HasTooManyStates}
-use Rattle.command_base.specs.Grounding.{GoalThen, GroundThen}
 use Rattle.command_base.specs.InitialStates.{InitialThen, empty_init}
-use Rattle.command_base.specs.PddlTexts.{ReadBoth}
-use Rattle.command_base.specs.PlanFiles.{IsFaultyPlan, KindThen}
-use Rattle.command_base.specs.Reading.{ReadThen}
+use Rattle.command_base.specs.PlanFiles.{KindThen}
 use Rattle.command_base.specs.Words.{Bytes}
 use Rattle.ctl_syntax.specs.declared.goals.Ctl.{Ctl}
 use Rattle.explain_command.specs.Documents.{document_text}
 use Rattle.pddl_ast.specs.Trees.{DomainTree, ProblemTree}
 use Rattle.pddl_system.specs.CtlGoals.{ctl_goal_of, goal_value}
-use Rattle.pddl_system.specs.Systems.{action_names, fluent_names, system}
+use Rattle.pddl_system.specs.Systems.{system}
 use Rattle.pddl_system.specs.Tasks.{task_of}
 use Rattle.pddl_system.specs.Values.{task_value}
 use Rattle.plan_check.specs.declared.verdicts.Verdict.{Verdict as PlanVerdict}
 use Rattle.plan_check.specs.declared.verdicts.Verdict.TheVariants.{No, Yes}
 use Rattle.counterexamples.specs.ForVerdicts.{PlainFinding}
 use Rattle.counterexamples.specs.Texts.{Source, finding_text}
-use Rattle.plan_io.specs.Held.{Held}
 use Rattle.plan_rules.specs.Rules.{PlainPlan}
 use Rattle.task_core.specs.Tasks.{action_names as actions_in, fluent_names as fluents_in, system_of}
 use Rattle.task_core.specs.declared.tasks.Task.{Task}
 use Rattle.explain_command.specs.Fairly.{FairThen, IsGoalFor, IsJudgedAs}
 use Rattle.explain_command.specs.Findings.{IsFindingFor, IsShownFor}
-use Rattle.explain_command.specs.Lined.{LinedPlan, SpellsLined}
+use Rattle.explain_command.specs.Lined.{LinedPlan, of_lined}
 use Rattle.explain_command.specs.Words.{ExplainWords, is_document}
 use Rattle.explain_command.specs.declared.words.ShownAs.{ShownAs}
 use Rattle.explain_command.specs.declared.words.ShownAs.TheVariants.{Document, Run, Verdict}
@@ -134,24 +131,14 @@ FollowedThen asked domain problem lined =
     (ExploreThen (HasTooManyStates domain problem) (system domain problem) lined.placed.plan
     (ExplainedThen asked domain problem lined))
 
--- what follows once both are read and within the limits: the plan is read, and it is of the kind
-abbrev pub PlanThen : (Bytes → Held) → (Bytes → Type 0) → ExplainWords → DomainTree → ProblemTree
-    → Answer → Type 0
-PlanThen held failed asked domain problem =
-    ReadThen held failed asked.check.plan
-    (SpellsLined (fluent_names domain problem) (action_names domain problem))
-    (IsFaultyPlan (fluent_names domain problem) (action_names domain problem)) (λ lined.
+-- what follows once all is read: the plan is to be of the kind
+abbrev pub LinedThen : ExplainWords → DomainTree → ProblemTree → LinedPlan → Answer → Type 0
+LinedThen asked domain problem lined =
     KindThen asked.check.kind asked.check.plan lined.placed.place lined.placed.plan
-    (FollowedThen asked domain problem lined))
+    (FollowedThen asked domain problem lined)
 
--- what follows once both are read
-abbrev pub IsExplained : (Bytes → Held) → (Bytes → Type 0) → ExplainWords → DomainTree
-    → ProblemTree → Answer → Type 0
-IsExplained held failed asked domain problem =
-    GoalThen asked.check.kind asked.check.problem problem
-    (GroundThen domain problem (PlanThen held failed asked domain problem))
-
--- the answer
-abbrev pub IsExplainAnswer : (Bytes → Held) → (Bytes → Type 0) → ExplainWords → Answer → Type 0
-IsExplainAnswer held failed asked =
-    ReadBoth held failed asked.check.domain asked.check.problem (IsExplained held failed asked)
+-- the course of the command: the plan is read after the task
+abbrev pub explain_course : ExplainWords → Course
+explain_course asked =
+    task_course asked.check.domain asked.check.problem (Some asked.check.kind) (λ domain problem.
+    of_lined domain problem asked.check.plan (λ lined. answers (LinedThen asked domain problem lined)))

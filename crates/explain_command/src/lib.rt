@@ -1,14 +1,14 @@
 //! The verdict on a plan, with a run that shows it: how the plan fails, or how it comes to its goal; of a
 //! strong plan a longest run too, and of one that can't come to its goal any more in which states it stays.
 //!
-//! `specs/` says what the call answers: `Words` what is asked, `Lined` how the plan is
+//! `specs/` says what the command answers: `Words` what is asked, `Lined` how the plan is
 //! read, `Fairly` by which goal a plan is judged whose actions may be tried again, `Findings` what
-//! is told of a verdict, and `Explained` the answer.
+//! is told of a verdict, and `Explained` the answers.
 #![tactic(auto)]
 
 mod besides;
-mod commands;
 mod documents;
+mod explain_job;
 mod fairly;
 mod findings;
 mod lined;
@@ -18,6 +18,6 @@ mod steps;
 mod verdicts;
 mod words;
 
-pub use commands::explain_files;
+pub use explain_job::ExplainJob;
 pub use lined::{Lined, read_lined};
 pub use words::{ExplainWords, ShownAs};

@@ -1,5 +1,5 @@
 -- The listing of a task is that of the domain and the problem that it comes from.
-use Rattle.std.proofs.Common.{◌≡◌, List, [], ◌∷◌, map, length, ap, sym, ◌∙◌, refl}
+use Rattle.std.proofs.Common.{◌≡◌, List, [], ◌∷◌, map, length, ap, sym, ◌∙◌, refl, inl, inr}
 use Rattle.std.proofs.lemmas.List.{length-map}
 use Rattle.task_core.specs.Initial.{entries_of}
 use Rattle.task_core.specs.Names.{name_of}
@@ -15,6 +15,8 @@ use Rattle.pddl_system.specs.Systems.{fluent_names, instance_name}
 use Rattle.pddl_system.specs.Tasks.{ActionTree, TaskTree, action_of, outcome_of, task_of}
 use Rattle.pddl_system.specs.Values.{action_value, outcome_value, task_value}
 use Rattle.ground_command.specs.GroundCommand.{Listed, listing, listing_of, listed_actions}
+use Rattle.command_base.specs.Answers.{Answer, affirmed}
+use Rattle.command_base.specs.Courses.{Stops}
 use Rattle.command_base.proofs.TaskNames.{same_fluents, same_entries}
 
 -- an action's name with the number of its outcomes
@@ -44,9 +46,15 @@ same_listed d p t is =
     sym (listed_values t.actions.items) ∙ ap (λ (x : TaskTree). map listed_tree x.actions) is
     ∙ listed_instances d p (kept_instances d p)
 
-pub same_listing : (d : DomainTree) (p : ProblemTree) (t : Task) → task_value t ≡ task_of d p
+same_listing : (d : DomainTree) (p : ProblemTree) (t : Task) → task_value t ≡ task_of d p
     → listing (names_of_fluents t) (map listed_action t.actions.items) (length (entries_of t.init)) ≡ listing_of d p
 same_listing d p t is =
     ap (λ fs. listing fs (map listed_action t.actions.items) (length (entries_of t.init))) (same_fluents d p t is)
     ∙ ap (λ actions. listing (fluent_names d p) actions (length (entries_of t.init))) (same_listed d p t is)
     ∙ ap (listing (fluent_names d p) (listed_actions d p)) (same_entries d p t is)
+
+-- and so what is shown of it
+pub listed_as : (d : DomainTree) (p : ProblemTree) (t : Task) (a : Answer) → task_value t ≡ task_of d p
+    → Stops (λ b. b ≡ affirmed (listing (names_of_fluents t) (map listed_action t.actions.items) (length (entries_of t.init)))) a → Stops (λ b. b ≡ affirmed (listing_of d p)) a
+listed_as d p t a is (inl memory) = inl memory
+listed_as d p t a is (inr shown) = inr (shown ∙ ap affirmed (same_listing d p t is))

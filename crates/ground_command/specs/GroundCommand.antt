@@ -1,5 +1,5 @@
 -- The command `ground`: the listing of what a domain and a problem are grounded to.
-use Rattle.std.specs.Prelude.{◌≡◌, ℕ, List, ◌++◌, codes, length, map, [], ◌∷◌}
+use Rattle.std.specs.Prelude.{◌≡◌, ℕ, List, ◌++◌, None, codes, length, map}
 use Rattle.std.specs.List.{flat_map}
 use Rattle.pddl_ast.specs.Trees.{DomainTree, ProblemTree}
 use Rattle.pddl_system.specs.Instances.{kept_instances}
@@ -10,12 +10,9 @@ use Rattle.plan_io.specs.Held.{Held}
 use Rattle.plan_rules.specs.Texts.{atom_text, line_feed}
 use Rattle.task_core.specs.Names.{Name}
 use Rattle.command_base.specs.Answers.{Answer, affirmed}
-use Rattle.command_base.specs.Grounding.{GroundThen}
-use Rattle.command_base.specs.PddlTexts.{ReadBoth}
+use Rattle.command_base.specs.Courses.{Course, IsAnswerIn, answers, task_course}
 use Rattle.command_base.specs.Words.{Bytes, GroundWords}
 use Rattle.command_base.specs.CountLines.{count_line}
-use Rattle.command_base.specs.Fetching.{FetchDomain}
-use Rattle.plan_io.specs.Fetches.{Fetches}
 
 -- an action by its name, with the number of its outcomes
 abbrev pub Listed : Type 0
@@ -48,18 +45,12 @@ listing_of domain problem =
     listing (fluent_names domain problem) (listed_actions domain problem)
     (length problem.entries)
 
--- what follows once both are read
-abbrev pub IsListed : DomainTree → ProblemTree → Answer → Type 0
-IsListed domain problem =
-    GroundThen domain problem (λ answer. answer ≡ affirmed (listing_of domain problem))
+-- the course of the command: the listing comes within the limits
+abbrev pub ground_course : GroundWords → Course
+ground_course asked =
+    task_course asked.domain asked.problem None (λ domain problem.
+    answers (λ answer. answer ≡ affirmed (listing_of domain problem)))
 
 -- the answer of the command
 abbrev pub IsGroundAnswer : (Bytes → Held) → (Bytes → Type 0) → GroundWords → Answer → Type 0
-IsGroundAnswer held failed asked = ReadBoth held failed asked.domain asked.problem IsListed
-
--- the fetches of the command with this answer: of its files in their order, each once, up to the one
--- that decides the answer. `fetched` is what the shelf tells
-abbrev pub FetchesToGround : {S : Type 0} → (Bytes → Held) → (Bytes → Type 0)
-    → (S → Bytes → S → Type 0) → GroundWords → Answer → S → S → Type 0
-FetchesToGround {S} held failed fetched asked answer =
-    FetchDomain held failed fetched asked.domain answer (Fetches fetched (asked.problem ∷ []))
+IsGroundAnswer held failed asked = IsAnswerIn held failed (ground_course asked)

@@ -1,63 +1,72 @@
 //! The command `ground`.
 
-ghost use Rattle.command_base.specs.Answers.{no_memory, refused};
-ghost use Rattle.command_base.specs.Shelves.{KeepsShelf};
-ghost use Rattle.command_base.specs.Values.{answer_of, ground_words_of};
-ghost use Rattle.ground_command.specs.GroundCommand.{
-  FetchesToGround,
-  IsGroundAnswer,
-  IsListed,
-  action_line,
-  fluent_line,
-  listing,
-};
-ghost use Rattle.pddl_ast.specs.Fits.{FitsDomain, FitsProblem};
-ghost use Rattle.pddl_ast.specs.Values.{domain_value, problem_value};
-ghost use Rattle.pddl_system.specs.Names.{NamesAreWords};
-ghost use Rattle.plan_io.specs.Fetches.{FailedLast};
+ghost use Rattle.command_base.specs.Answers.{affirmed};
+ghost use Rattle.command_base.specs.Courses.{Stops};
+ghost use Rattle.command_base.specs.Values.{answer_of};
+ghost use Rattle.ground_command.specs.GroundCommand.{action_line, fluent_line, listing};
 ghost use Rattle.std.specs.List.{flat_map};
-ghost use Rattle.std.specs.Prelude.{◌≡◌, ◌++◌, ◌⊎◌, IfOk, OnOk, length, map, string_bytes};
+ghost use Rattle.std.specs.Prelude.{◌≡◌, ◌++◌, IfOk, OnOk, length, map, string_bytes};
 ghost use Rattle.task_core.specs.Initial.{entries_of};
 ghost use Rattle.task_core.specs.Names.{name_bytes, name_of};
 ghost use Rattle.task_core.specs.Tasks.{fluent_names};
 
-use command_base::{GroundWords, Refusal, Shown, Text, grounded, push_count, read_both};
-use pddl_ast::{Domain, Problem};
+use command_base::{
+    GroundWords, Job, LoadedTask, Refusal, Shown, TaskFiles, Text, load, push_count,
+};
 use plan_io::Shelf;
 use plan_rules::push_name;
 use std::alloc::{AllocError, Global};
 use std::rc::RcStr;
 use task_core::{GroundAction, Task};
 
-/// The listing of what the domain and the problem in two files are grounded to.
-pub fn ground_files<S: Shelf>(
-    alloc: Global,
-    shelf: &mut S,
-    asked: &GroundWords,
-) -> Result<Shown, Refusal>
-    ensures answer { let failed = FailedLast S.fetched S.faults shelf.old shelf.new in
-        (answer_of result ≡ refused no_memory)
-        ⊎ IsGroundAnswer (S.held shelf.old) failed (ground_words_of asked.now)
-        (answer_of result) }
-    ensures fetches { let failed = FailedLast S.fetched S.faults shelf.old shelf.new in
-        FetchesToGround (S.held shelf.old) failed S.fetched (ground_words_of asked.now)
-        (answer_of result) shelf.old shelf.new }
-    ensures shelf { KeepsShelf S.held S.faults (answer_of result) shelf.old shelf.new }
-{
-    let (domain, problem) = read_both(alloc, shelf, asked.domain, asked.problem)?;
-    list_grounded(alloc, &domain, &problem)
+/// The command `ground`: the listing of what the domain and the problem in two files are grounded to.
+#[derive(Drop)]
+pub struct GroundJob<'a> {
+    pub asked: GroundWords<'a>,
 }
 
-/// The listing of what a domain and a problem are grounded to.
-fn list_grounded(alloc: Global, domain: &Domain, problem: &Problem) -> Result<Shown, Refusal>
-    requires fits_domain { FitsDomain (domain_value domain.now) }
-    requires fits_problem { FitsProblem (domain_value domain.now) (problem_value problem.now) }
-    requires names { NamesAreWords (domain_value domain.now) (problem_value problem.now) }
-    ensures { (answer_of result ≡ refused no_memory)
-        ⊎ IsListed (domain_value domain.now) (problem_value problem.now) (answer_of result) }
+impl Job for GroundJob<'_> {
+    ghost use Rattle.command_base.specs.Answers.{affirmed};
+    ghost use Rattle.command_base.specs.Loading.{IsLoaded};
+    ghost use Rattle.command_base.specs.Values.{ground_words_of};
+    ghost use Rattle.ground_command.specs.GroundCommand.{ground_course, listing_of};
+    ghost use Rattle.pddl_ast.specs.Values.{domain_value, problem_value};
+    ghost use Rattle.std.specs.Prelude.{◌≡◌, None, ⊤};
+
+    type Loaded = LoadedTask;
+
+    ghost course = { λ self. ground_course (ground_words_of self.asked) };
+
+    ghost allowed = { λ self. ⊤ };
+
+    ghost fits = { λ self loaded. IsLoaded None loaded };
+
+    ghost follows = { λ self loaded answer. answer
+        ≡ affirmed (listing_of (domain_value loaded.domain) (problem_value loaded.problem)) };
+
+    fn load<S: Shelf>(&self, alloc: Global, shelf: &mut S) -> Result<LoadedTask, Refusal> {
+        let files = TaskFiles {
+            domain: self.asked.domain,
+            problem: self.asked.problem,
+            goal: None,
+        };
+        let loaded = load(alloc, shelf, &files)?;
+        Ok(loaded)
+    }
+
+    fn answer(self, alloc: Global, loaded: LoadedTask) -> Result<Shown, Refusal> {
+        show_task(alloc, &loaded.grounded.task)
+    }
+}
+
+/// The listing of a task, shown.
+fn show_task(alloc: Global, task: &Task) -> Result<Shown, Refusal>
+    ensures { Stops (λ answer. answer ≡ affirmed (listing (fluent_names task.now)
+        (map (λ action. (name_of action, length action.outcomes.items)) task.now.actions.items)
+        (length (entries_of task.now.init)))) (answer_of result) }
 {
-    let task = grounded(alloc, domain, problem)?;
-    Ok(Shown::Affirmed(Text::Made(list_task(alloc, &task)?.into_bytes())))
+    let text = list_task(alloc, task)?;
+    Ok(Shown::Affirmed(Text::Made(text.into_bytes())))
 }
 
 /// The listing of a task.

@@ -4,4 +4,4 @@
 
 mod ground_command;
 
-pub use ground_command::ground_files;
+pub use ground_command::GroundJob;

@@ -2,14 +2,15 @@
 use Rattle.std.proofs.Common.{◌∙◌, List, ◌++◌, ap, refl}
 use Rattle.std.specs.Prelude.{Err, Ok, OnOk, Result}
 use Rattle.std.proofs.lemmas.List.{append_assoc}
+use Rattle.lint_hints.specs.Hints.{PlainTexts}
 use Rattle.lint_notices.specs.Notices.{PlainNotice}
-use Rattle.lint_command.specs.Mistakes.{AreNeverTold, AreTaskNotices, IsGoalToldIn, Spelled}
+use Rattle.lint_command.specs.Mistakes.{AreNeverTold, AreTaskNotices, IsGoalToldIn}
 use Rattle.lint_command.specs.TaskTold.{HasAdded}
 use Rattle.relaxed_reach.specs.Literals.{LiteralSet}
 use Rattle.relaxed_reach.specs.Relaxed.{IsLeastRelaxed}
 use Rattle.task_core.specs.declared.tasks.Task.{Task}
 
-module _ (read : Spelled) (task : Task) (set : LiteralSet) (least : IsLeastRelaxed task set) where
+module _ (read : PlainTexts) (task : Task) (set : LiteralSet) (least : IsLeastRelaxed task set) where
   both_added : (before middle after : List PlainNotice) → HasAdded (AreNeverTold read task set) before middle → HasAdded (IsGoalToldIn read task set) middle after
       → HasAdded (AreTaskNotices read task) before after
   both_added before middle after first more = record {

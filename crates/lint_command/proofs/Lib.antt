@@ -1,5 +1,5 @@
 mod Added
-mod AfterReading
 mod Hinted
 mod Kept
+mod LintCourse
 mod Reports

@@ -1,19 +1,19 @@
--- The answer: what in two files is likely a mistake.
+-- The answers: what in two files is likely a mistake.
 use Rattle.std.specs.Prelude.{◌≡◌, ◌⊎◌, ℕ, true, false, List, [], ◌∷◌, ◌++◌, None, Option, Some, codes, if◌then◌else◌, map}
 use Rattle.std.specs.List.{All}
 use Rattle.command_base.specs.Answers.{Answer, affirmed, denied}
+use Rattle.command_base.specs.Courses.{Course, answers, of_file}
 use Rattle.command_base.specs.Grounding.{limit_name}
-use Rattle.command_base.specs.PddlTexts.{ReadBoth, SpellsProblemOf}
-use Rattle.command_base.specs.Reading.{IsFile}
+use Rattle.command_base.specs.PddlTexts.{SpellsProblemOf}
 use Rattle.command_base.specs.Words.{Bytes}
-use Rattle.domain_read.specs.Domains.{SpellsDomain}
+use Rattle.domain_read.specs.Domains.{HasDomainFault, SpellsDomain}
 use Rattle.lint_hints.specs.Hints.{AreHints, PlainHints, PlainTexts}
 use Rattle.lint_mistakes.specs.Mistakes.{AreMistakes}
 use Rattle.lint_mistakes.specs.Rows.{sections_of}
 use Rattle.lint_mistakes.specs.declared.mistakes.Mistake.{Mistake}
 use Rattle.lint_notices.specs.Notices.{PlainNotice, PlainReport, PlainSource, notice_of}
 use Rattle.lint_notices.specs.TaskNotices.{PlainWritten, goal_notice, group_notice, invariant_notice, never_notice}
-use Rattle.lint_notices.specs.Texts.{PlainFileNames, document_text, report_text}
+use Rattle.lint_notices.specs.Texts.{document_text, report_text}
 use Rattle.lint_notices.specs.Values.{never_value}
 use Rattle.lint_command.specs.Words.{MistakesWords}
 use Rattle.never_executed.specs.Causes.{IsCause}
@@ -26,38 +26,24 @@ use Rattle.pddl_system.specs.Settings.{setting}
 use Rattle.pddl_system.specs.Sizes.{Limit, first_passed}
 use Rattle.pddl_system.specs.Tasks.{task_of}
 use Rattle.pddl_system.specs.Values.{task_value}
-use Rattle.plan_io.specs.Held.{Held}
+use Rattle.pddl_problem.specs.Problems.{HasProblemFault}
 use Rattle.relaxed_reach.specs.Literals.{LiteralSet}
 use Rattle.relaxed_reach.specs.Relaxed.{IsLeastRelaxed}
 use Rattle.sexpr_text.specs.Forest.{Forest}
 use Rattle.sexpr_text.specs.Spelling.{SpellsTrees}
 use Rattle.task_core.specs.declared.tasks.Task.{Task}
 
--- a domain and a problem of it, and the texts of the files that spell them
-pub record Spelled : Type 0 where
-  pub domain : DomainTree
-  pub problem : ProblemTree
-  pub domain_text : Bytes
-  pub problem_text : Bytes
-
--- the files of these names have these texts, and spell the domain and the problem
-pub record HoldTexts (held : Bytes → Held) (names : PlainFileNames) (read : Spelled) : Type 0 where
-  pub domain_file : IsFile held names.domain read.domain_text
-  pub domain_spelled : SpellsDomain read.domain_text read.domain
-  pub problem_file : IsFile held names.problem read.problem_text
-  pub problem_spelled : SpellsProblemOf read.domain read.problem_text read.problem
-
-abbrev pub domain_source : Spelled → PlainSource
+abbrev pub domain_source : PlainTexts → PlainSource
 domain_source read =
     record { in_problem = false; text = read.domain_text; types = read.domain.type_names }
 
-abbrev pub problem_source : Spelled → PlainSource
+abbrev pub problem_source : PlainTexts → PlainSource
 problem_source read =
     record { in_problem = true; text = read.problem_text; types = read.domain.type_names }
 
 -- what is told of these mistakes: of those in the file of the domain, and then of those in that of the
 -- problem
-abbrev pub notices_of : Spelled → List Mistake → List Mistake → List PlainNotice
+abbrev pub notices_of : PlainTexts → List Mistake → List Mistake → List PlainNotice
 notices_of read in_domain in_problem =
     map (notice_of (domain_source read)) in_domain ++ map (notice_of (problem_source read)) in_problem
 
@@ -65,16 +51,8 @@ notices_of read in_domain in_problem =
 abbrev pub written : Bytes → Forest → PlainWritten
 written text sections = record { text = text; sections = sections }
 
-abbrev pub texts_of : Spelled → PlainTexts
-texts_of read = record {
-  domain = read.domain;
-  problem = read.problem;
-  domain_text = read.domain_text;
-  problem_text = read.problem_text;
-}
-
 -- this is what is told of exactly the mistakes in the two files
-pub record AreNotices (read : Spelled) (notices : List PlainNotice) : Type 0 where
+pub record AreNotices (read : PlainTexts) (notices : List PlainNotice) : Type 0 where
   pub in_domain : List Mistake
   pub in_problem : List Mistake
   pub found : AreMistakes read.domain read.problem read.domain_text read.problem_text
@@ -83,7 +61,7 @@ pub record AreNotices (read : Spelled) (notices : List PlainNotice) : Type 0 whe
 
 -- this is what is told of exactly the actions that can never be executed, each with a cause, where just the
 -- literals of the set can be true
-pub record AreNeverTold (read : Spelled) (task : Task) (set : LiteralSet) (told : List PlainNotice)
+pub record AreNeverTold (read : PlainTexts) (task : Task) (set : LiteralSet) (told : List PlainNotice)
     : Type 0 where
   pub forms : Forest
   pub spelled : SpellsTrees read.domain_text forms
@@ -102,7 +80,7 @@ IsGoalTold task set problem told =
     ⊎ ((part : Option ℕ) × IsGoalNever task set part × (told ≡ goal_notice problem part ∷ []))
 
 -- the same by the text of the problem
-pub record IsGoalToldIn (read : Spelled) (task : Task) (set : LiteralSet) (told : List PlainNotice)
+pub record IsGoalToldIn (read : PlainTexts) (task : Task) (set : LiteralSet) (told : List PlainNotice)
     : Type 0 where
   pub forms : Forest
   pub spelled : SpellsTrees read.problem_text forms
@@ -111,7 +89,7 @@ pub record IsGoalToldIn (read : Spelled) (task : Task) (set : LiteralSet) (told 
 
 -- this is what is told of the actions that can never be executed, and of the goal, by the literals that
 -- can come true at all in the task
-pub record AreTaskNotices (read : Spelled) (task : Task) (notices : List PlainNotice) : Type 0 where
+pub record AreTaskNotices (read : PlainTexts) (task : Task) (notices : List PlainNotice) : Type 0 where
   pub set : LiteralSet
   pub least : IsLeastRelaxed task set
   pub never : List PlainNotice
@@ -127,13 +105,13 @@ hint_notices hints =
     ++ (invariant_notice hints.place hints.invariant ∷ [])
 
 -- nothing is told of groups; or it is told what is judged of them
-abbrev pub AreHintsTold : Spelled → Task → List PlainNotice → Type 0
+abbrev pub AreHintsTold : PlainTexts → Task → List PlainNotice → Type 0
 AreHintsTold read task told =
     (told ≡ [])
-    ⊎ ((hints : PlainHints) × AreHints (texts_of read) task hints × (told ≡ hint_notices hints))
+    ⊎ ((hints : PlainHints) × AreHints read task hints × (told ≡ hint_notices hints))
 
 -- all that is told of two files where a limit is passed: what is likely a mistake in the texts alone
-pub record IsLimitedReport (read : Spelled) (report : PlainReport) : Type 0 where
+pub record IsLimitedReport (read : PlainTexts) (report : PlainReport) : Type 0 where
   pub notices : AreNotices read report.notices
   pub hints : report.hints ≡ []
   pub limit : Limit
@@ -142,7 +120,7 @@ pub record IsLimitedReport (read : Spelled) (report : PlainReport) : Type 0 wher
 
 -- all that is told of two files with this task: what is likely a mistake in the texts, and then in the
 -- task; and what is no mistake, of groups
-pub record IsTaskReport (read : Spelled) (report : PlainReport) : Type 0 where
+pub record IsTaskReport (read : PlainTexts) (report : PlainReport) : Type 0 where
   pub task : Task
   pub grounded : task_value task ≡ task_of read.domain read.problem
   pub of_texts : List PlainNotice
@@ -154,7 +132,7 @@ pub record IsTaskReport (read : Spelled) (report : PlainReport) : Type 0 where
   pub limit : report.limit ≡ None
 
 -- all that is told of two files
-abbrev pub IsReport : Spelled → PlainReport → Type 0
+abbrev pub IsReport : PlainTexts → PlainReport → Type 0
 IsReport read report = IsLimitedReport read report ⊎ IsTaskReport read report
 
 -- what is shown: a JSON document, or the lines
@@ -171,17 +149,30 @@ abbrev pub answer_for : MistakesWords → PlainReport → Answer
 answer_for asked report = answer_as (shown_text asked report) report.notices
 
 -- what is found in two files is shown
-abbrev pub ShowsMistakes : MistakesWords → Spelled → Answer → Type 0
+abbrev pub ShowsMistakes : MistakesWords → PlainTexts → Answer → Type 0
 ShowsMistakes asked read answer =
     (report : PlainReport) × IsReport read report × (answer ≡ answer_for asked report)
 
--- what follows once the files are read as a domain and a problem
-abbrev pub MistakesThen : (Bytes → Held) → MistakesWords → DomainTree → ProblemTree → Answer → Type 0
-MistakesThen held asked domain problem answer =
-    (read : Spelled) × (read.domain ≡ domain) × (read.problem ≡ problem)
-    × HoldTexts held asked.names read × ShowsMistakes asked read answer
+-- a tree, and the text that spells it
+pub record Spelling (X : Type 0) : Type 0 where
+  pub tree : X
+  pub text : Bytes
 
--- the answer: one of the files is refused, or the mistakes are shown
-abbrev pub IsMistakesAnswer : (Bytes → Held) → (Bytes → Type 0) → MistakesWords → Answer → Type 0
-IsMistakesAnswer held failed asked =
-    ReadBoth held failed asked.names.domain asked.names.problem (MistakesThen held asked)
+abbrev pub SpellsAs : {X : Type 0} → (Bytes → X → Type 0) → Bytes → Spelling X → Type 0
+SpellsAs Spells bytes spelling = Spells bytes spelling.tree × (spelling.text ≡ bytes)
+
+abbrev pub texts_in : Spelling DomainTree → Spelling ProblemTree → PlainTexts
+texts_in domain problem = record {
+  domain = domain.tree;
+  problem = problem.tree;
+  domain_text = domain.text;
+  problem_text = problem.text;
+}
+
+-- the domain and the problem are read, with their texts, and what is found in them is shown
+abbrev pub lint_course : MistakesWords → Course
+lint_course asked =
+    of_file asked.names.domain (SpellsAs SpellsDomain) HasDomainFault (λ domain.
+    of_file asked.names.problem (SpellsAs (SpellsProblemOf domain.tree))
+    (λ bytes. HasProblemFault bytes domain.tree) (λ problem.
+    answers (ShowsMistakes asked (texts_in domain problem))))

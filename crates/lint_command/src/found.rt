@@ -16,25 +16,21 @@ ghost use Rattle.lint_command.specs.Mistakes.{
   notices_of,
   shown_text,
 };
-ghost use Rattle.lint_command.specs.ReadValues.{spelled_by};
+ghost use Rattle.lint_command.specs.ReadValues.{AreFit, spelled_by};
 ghost use Rattle.lint_command.specs.Values.{mistakes_words_of};
-ghost use Rattle.pddl_ast.specs.Fits.{FitsDomain, FitsProblem};
 ghost use Rattle.pddl_ast.specs.Values.{domain_value, problem_value};
-ghost use Rattle.pddl_system.specs.Names.{NamesAreWords};
 ghost use Rattle.pddl_system.specs.Sizes.{first_passed};
 ghost use Rattle.pddl_system.specs.Tasks.{task_of};
 ghost use Rattle.pddl_system.specs.Values.{task_value};
 ghost use Rattle.std.specs.Option.{option_map};
 ghost use Rattle.std.specs.Prelude.{
   ◌≡◌,
-  ◌≤◌,
   ◌⊎◌,
   [],
   IfOk,
   MatchBool,
   None,
   Some,
-  length,
   map,
 };
 
@@ -53,13 +49,7 @@ pub(crate) fn shown(
     asked: &MistakesWords<'_>,
     read: &ReadTexts,
 ) -> Result<Shown, Refusal>
-    requires domain_text { length read.now.file.text.items ≤ 1048576 }
-    requires problem_text { length read.now.problem_text.items ≤ 1048576 }
-    requires fits_domain { FitsDomain (domain_value read.now.file.domain) }
-    requires fits_problem { FitsProblem (domain_value read.now.file.domain)
-        (problem_value read.now.problem) }
-    requires names { NamesAreWords (domain_value read.now.file.domain)
-        (problem_value read.now.problem) }
+    requires fit { AreFit read.now }
     ensures { (answer_of result ≡ refused no_memory)
         ⊎ ShowsMistakes (mistakes_words_of asked.now) (spelled_by read.now) (answer_of result) }
 {
@@ -104,13 +94,7 @@ fn text_for(
 
 /// All that is told of two files.
 fn report_of(alloc: Global, read: &ReadTexts) -> Result<Report, AllocError>
-    requires domain_text { length read.now.file.text.items ≤ 1048576 }
-    requires problem_text { length read.now.problem_text.items ≤ 1048576 }
-    requires fits_domain { FitsDomain (domain_value read.now.file.domain) }
-    requires fits_problem { FitsProblem (domain_value read.now.file.domain)
-        (problem_value read.now.problem) }
-    requires names { NamesAreWords (domain_value read.now.file.domain)
-        (problem_value read.now.problem) }
+    requires fit { AreFit read.now }
     ensures { IfOk result (λ report. IsReport (spelled_by read.now) (report_value report)) }
 {
     let notices = notices_in(alloc, read)?;
@@ -127,11 +111,7 @@ fn task_report(
     task: &Task,
     notices: Vec<Notice>,
 ) -> Result<Report, AllocError>
-    requires domain_text { length read.now.file.text.items ≤ 1048576 }
-    requires problem_text { length read.now.problem_text.items ≤ 1048576 }
-    requires fits_domain { FitsDomain (domain_value read.now.file.domain) }
-    requires fits_problem { FitsProblem (domain_value read.now.file.domain)
-        (problem_value read.now.problem) }
+    requires fit { AreFit read.now }
     requires within { first_passed (domain_value read.now.file.domain)
         (problem_value read.now.problem) ≡ None }
     requires task { task_value task.now
@@ -193,8 +173,7 @@ fn named(name: &'static str) -> Option<LimitName>
 
 /// What is told of the mistakes in two files.
 fn notices_in(alloc: Global, read: &ReadTexts) -> Result<Vec<Notice>, AllocError>
-    requires domain_text { length read.now.file.text.items ≤ 1048576 }
-    requires problem_text { length read.now.problem_text.items ≤ 1048576 }
+    requires fit { AreFit read.now }
     ensures { IfOk result
         (λ notices. AreNotices (spelled_by read.now) (map notice_value notices.items)) }
 {
@@ -205,8 +184,7 @@ fn notices_in(alloc: Global, read: &ReadTexts) -> Result<Vec<Notice>, AllocError
 
 /// The mistakes in two files.
 fn found_in(alloc: Global, read: &ReadTexts) -> Result<Mistakes, AllocError>
-    requires domain_text { length read.now.file.text.items ≤ 1048576 }
-    requires problem_text { length read.now.problem_text.items ≤ 1048576 }
+    requires fit { AreFit read.now }
     ensures { let spelled = spelled_by read.now in
         IfOk result (λ found. AreMistakes spelled.domain spelled.problem spelled.domain_text
         spelled.problem_text found.in_domain.items found.in_problem.items) }

@@ -11,17 +11,15 @@ ghost use Rattle.lint_command.specs.Mistakes.{
   IsGoalTold,
   IsGoalToldIn,
   hint_notices as notices_for_hints,
-  texts_of,
   written,
 };
-ghost use Rattle.lint_command.specs.ReadValues.{spelled_by};
+ghost use Rattle.lint_command.specs.ReadValues.{AreFit, spelled_by};
 ghost use Rattle.lint_command.specs.TaskTold.{HasAdded};
-ghost use Rattle.pddl_ast.specs.Fits.{FitsDomain, FitsProblem};
 ghost use Rattle.pddl_ast.specs.Values.{domain_value, problem_value};
 ghost use Rattle.pddl_system.specs.Sizes.{first_passed};
 ghost use Rattle.relaxed_reach.specs.Literals.{has};
 ghost use Rattle.sexpr_text.specs.Forest.{forest_of};
-ghost use Rattle.std.specs.Prelude.{◌≡◌, ◌≤◌, IfOk, IfSome, None, OnOk, length, map};
+ghost use Rattle.std.specs.Prelude.{◌≡◌, IfOk, IfSome, None, OnOk, map};
 
 use command_base::ReadTexts;
 use lint_hints::{GroupHints, Texts, lint_hints};
@@ -40,11 +38,7 @@ pub(crate) fn add_task_notices(
     task: &Task,
     notices: &mut Vec<Notice>,
 ) -> Result<(), AllocError>
-    requires domain_text { length read.now.file.text.items ≤ 1048576 }
-    requires problem_text { length read.now.problem_text.items ≤ 1048576 }
-    requires fits_domain { FitsDomain (domain_value read.now.file.domain) }
-    requires fits_problem { FitsProblem (domain_value read.now.file.domain)
-        (problem_value read.now.problem) }
+    requires fit { AreFit read.now }
     requires within { first_passed (domain_value read.now.file.domain)
         (problem_value read.now.problem) ≡ None }
     ensures { OnOk result (HasAdded (AreTaskNotices (spelled_by read.now) task.now)
@@ -74,10 +68,7 @@ fn add_never_told(
     looked: &Looked<'_>,
     notices: &mut Vec<Notice>,
 ) -> Result<(), AllocError>
-    requires text { length looked.now.read.now.file.text.items ≤ 1048576 }
-    requires fits_domain { FitsDomain (domain_value looked.now.read.now.file.domain) }
-    requires fits_problem { FitsProblem (domain_value looked.now.read.now.file.domain)
-        (problem_value looked.now.read.now.problem) }
+    requires fit { AreFit looked.now.read.now }
     requires within { first_passed (domain_value looked.now.read.now.file.domain)
         (problem_value looked.now.read.now.problem) ≡ None }
     ensures { OnOk result (HasAdded (AreNeverTold (spelled_by looked.now.read.now)
@@ -103,7 +94,7 @@ fn add_goal_told(
     looked: &Looked<'_>,
     notices: &mut Vec<Notice>,
 ) -> Result<(), AllocError>
-    requires { length looked.now.read.now.problem_text.items ≤ 1048576 }
+    requires fit { AreFit looked.now.read.now }
     ensures { OnOk result (HasAdded (IsGoalToldIn (spelled_by looked.now.read.now)
         looked.now.task.now (has looked.now.literals.now)) (map notice_value notices.old.items)
         (map notice_value notices.new.items)) }
@@ -151,8 +142,7 @@ pub(crate) fn hints_in(
     read: &ReadTexts,
     task: &Task,
 ) -> Result<Vec<Notice>, AllocError>
-    requires domain_text { length read.now.file.text.items ≤ 1048576 }
-    requires problem_text { length read.now.problem_text.items ≤ 1048576 }
+    requires fit { AreFit read.now }
     ensures { IfOk result
         (λ hints. AreHintsTold (spelled_by read.now) task.now (map notice_value hints.items)) }
 {
@@ -168,10 +158,9 @@ fn found_hints(
     read: &ReadTexts,
     task: &Task,
 ) -> Result<Option<GroupHints>, AllocError>
-    requires domain_text { length read.now.file.text.items ≤ 1048576 }
-    requires problem_text { length read.now.problem_text.items ≤ 1048576 }
+    requires fit { AreFit read.now }
     ensures { IfOk result (λ found. IfSome found
-        (λ hints. AreHints (texts_of (spelled_by read.now)) task.now (hints_value hints))) }
+        (λ hints. AreHints (spelled_by read.now) task.now (hints_value hints))) }
 {
     let domain_text = read.file.text.as_slice();
     let problem_text = read.problem_text.as_slice();

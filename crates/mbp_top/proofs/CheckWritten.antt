@@ -10,13 +10,15 @@ use Rattle.plan_check.specs.declared.verdicts.Reason.{Reason}
 use Rattle.plan_check.specs.declared.verdicts.Verdict.{Verdict}
 use Rattle.plan_check.specs.declared.verdicts.Verdict.TheVariants.{Yes, No}
 use Rattle.plan_io.specs.Held.{Held}
+use Rattle.plan_rules.specs.Readings.{HasPlanFault}
 use Rattle.plan_rules.specs.Rules.{PlainPlan, table, automaton}
 use Rattle.task_core.specs.Systems.{System}
 use Rattle.command_base.specs.Answers.{Answer, refused, no_memory, status_of, text_of, is_shown}
-use Rattle.check_command.specs.CheckCommand.{CheckThen, ExploreThen, HasBound, IsCheckAnswer, IsChecked, IsFirstAgainst, IsVerdictOf, ShowsVerdict, VerdictThen, verdict_answer}
+use Rattle.check_command.specs.CheckCommand.{ExploreThen, HasBound, IsCheckAnswer, IsFirstAgainst, IsVerdictOf, PlacedThen, ShowsVerdict, VerdictThen, verdict_answer}
 use Rattle.command_base.specs.Following.{HasTooManyStates, most_followed}
+use Rattle.command_base.specs.Courses.{Course, IsFaulty, answers, of_plan}
 use Rattle.command_base.specs.Delivery.{Seen}
-use Rattle.command_base.specs.Grounding.{GroundThen, has_goal_for}
+use Rattle.command_base.specs.Grounding.{has_goal_for}
 use Rattle.command_base.specs.InitialStates.{empty_init}
 use Rattle.plan_meets.specs.Meets.{PlanMeets}
 use Rattle.command_base.specs.PddlTexts.{HoldBoth}
@@ -30,7 +32,7 @@ use Rattle.command_base.proofs.PlanDecides.{plan_grammar}
 use Rattle.command_base.proofs.Deciding.{read_as}
 use Rattle.command_base.proofs.Initials.{shown_initial, with_initial}
 use Rattle.command_base.specs.OneReading.{OneReading}
-use Rattle.command_base.proofs.PddlDecides.{ReadFor, both_as, not_refused, shown_both, shown_goal, shown_grounded, with_goal, within_limits}
+use Rattle.command_base.proofs.PddlDecides.{not_refused, shown_file, shown_task, task_as}
 use Rattle.mbp_top.proofs.DueStatuses.{Done}
 use Rattle.command_base.proofs.Statuses.{shown_at, undisturbed, whole_delivery, written_shown}
 use Rattle.check_command.proofs.YesMeets.{YesSolves, shown_judged, yes_is_met, no_is_not_met}
@@ -51,39 +53,36 @@ shown_kind : (kind : PlanKind) (name : Bytes) (placed : PlacedPlan) (Then : Answ
 shown_kind kind name placed Then a shown (inl (other, is)) = absurd (not_refused _ a is shown)
 shown_kind kind name placed Then a shown (inr (right, then)) = then
 
-shown_then : (held : Bytes → Held) (failed : Bytes → Type 0) (asked : CheckWords) (d : DomainTree) (p : ProblemTree) (a : Answer) → is_shown a ≡ true
-    → HoldBoth held asked.domain asked.problem d p → CheckThen held failed asked d p a → CheckFor held asked a
-shown_then held failed asked d p a shown both (inl (r, is, why)) = absurd (not_refused r a is shown)
-shown_then held failed asked d p a shown both (inr (placed, holds, then)) =
-    let Then : Answer → Type 0 = VerdictThen asked d p placed.plan in
-    let judged = shown_initial (empty_init asked.problem p) (system d p).initial (ShowsVerdict (IsVerdictOf asked.kind d p placed.plan)) a shown
-    (shown_judged (HasTooManyStates d p) (system d p) placed.plan Then a shown
-    (shown_kind asked.kind asked.plan placed (ExploreThen (HasTooManyStates d p) (system d p) placed.plan Then) a shown then)) in
-    record {
-      domain = d;
-      problem = p;
-      plan = placed.plan;
-      both = both;
-      file = record { place = placed.place; holds = holds };
-      verdict = judged.0;
-      of_plan = judged.1;
-      shown = judged.2;
-    }
+-- what follows the loading of the task, and of the plan
+abbrev judged_of : CheckWords → DomainTree → ProblemTree → PlacedPlan → Course
+judged_of asked d p placed = answers (PlacedThen asked d p placed)
 
-check_for : (held : Bytes → Held) (failed : Bytes → Type 0) (asked : CheckWords) (a : Answer) → is_shown a ≡ true
-    → ReadFor held asked.domain asked.problem (IsChecked held failed asked) a → CheckFor held asked a
-check_for held failed asked a shown read =
-    let d = read.domain in
-    let p = read.problem in
-    shown_then held failed asked d p a shown read.both
-    (shown_grounded d p (CheckThen held failed asked d p) a shown
-    (shown_goal asked.kind asked.problem p (GroundThen d p (CheckThen held failed asked d p)) a shown read.result)).1
+abbrev plan_of : CheckWords → DomainTree → ProblemTree → Course
+plan_of asked d p = of_plan (fluent_names d p) (action_names d p) asked.plan (judged_of asked d p)
 
 shown_check : (held : Bytes → Held) (failed : Bytes → Type 0) (asked : CheckWords) (a : Answer) → is_shown a ≡ true
     → (a ≡ refused no_memory) ⊎ IsCheckAnswer held failed asked a → CheckFor held asked a
 shown_check held failed asked a shown (inl is) = absurd (not_refused no_memory a is shown)
 shown_check held failed asked a shown (inr is) =
-    check_for held failed asked a shown (shown_both held failed asked.domain asked.problem (IsChecked held failed asked) a shown is)
+    let read = shown_task held failed asked.domain asked.problem (Some asked.kind) (plan_of asked) a shown is in
+    let d = read.domain in
+    let p = read.problem in
+    let file = shown_file held failed asked.plan (SpellsPlaced (fluent_names d p) (action_names d p)) (IsFaulty (HasPlanFault (fluent_names d p) (action_names d p))) (PlacedThen asked d p) a shown read.then in
+    let placed = file.0 in
+    let Then : Answer → Type 0 = VerdictThen asked d p placed.plan in
+    let judged = shown_initial (empty_init asked.problem p) (system d p).initial (ShowsVerdict (IsVerdictOf asked.kind d p placed.plan)) a shown
+    (shown_judged (HasTooManyStates d p) (system d p) placed.plan Then a shown
+    (shown_kind asked.kind asked.plan placed (ExploreThen (HasTooManyStates d p) (system d p) placed.plan Then) a shown file.2)) in
+    record {
+      domain = d;
+      problem = p;
+      plan = placed.plan;
+      both = read.both;
+      file = record { place = placed.place; holds = file.1 };
+      verdict = judged.0;
+      of_plan = judged.1;
+      shown = judged.2;
+    }
 
 -- what was written at status 0: a yes, and the plan meets the goal
 pub record YesWritten (held : Bytes → Held) (asked : CheckWords) (out out' : Seen) : Type 0 where
@@ -211,17 +210,13 @@ check_status one law held failed tallies words before after out out' err err' st
           → ((status ≡ 0) × PlanMeets asked.kind domain problem plan) ⊎ ((status ≡ 1) × (PlanMeets asked.kind domain problem plan → ⊥)) ⊎ (status ≡ 8)
       go (inl is) = inr (inr (code ∙ ap status_of is))
       go (inr is) =
-          let then = within_limits domain problem (CheckThen held failed asked domain problem) a kept
-          (with_goal asked.kind asked.problem problem (GroundThen domain problem (CheckThen held failed asked domain problem)) a goal
-          (both_as one held failed asked.domain asked.problem (IsChecked held failed asked) domain problem a
-          (told (check asked) asked.domain says (0, omega arith, refl)) (told (check asked) asked.problem says (1, omega arith, refl)) quiet both is)) in
+          let then = task_as one held failed asked.domain asked.problem (Some asked.kind) (plan_of asked) domain problem a
+          (told (check asked) asked.domain says (0, omega arith, refl)) (told (check asked) asked.problem says (1, omega arith, refl)) quiet both goal kept is in
           let placed : PlacedPlan = record { plan = plan; place = file.place } in
-          let Then : PlacedPlan → Answer → Type 0 = λ x. KindThen asked.kind asked.plan x.place x.plan
-          (ExploreThen (HasTooManyStates domain problem) (system domain problem) x.plan (VerdictThen asked domain problem x.plan)) in
           let judged = with_initial (empty_init asked.problem problem) (system domain problem).initial (ShowsVerdict (IsVerdictOf asked.kind domain problem plan)) a some
           (small_judged (HasTooManyStates domain problem) (system domain problem) plan (VerdictThen asked domain problem plan) a few small
           (of_the_kind asked.kind asked.plan placed
           (ExploreThen (HasTooManyStates domain problem) (system domain problem) plan (VerdictThen asked domain problem plan)) a right
           (read_as held failed asked.plan (SpellsPlaced (fluent_names domain problem) (action_names domain problem)) (IsFaultyPlan (fluent_names domain problem) (action_names domain problem))
-          Then placed a (told (check asked) asked.plan says (2, omega arith, refl)) (quiet asked.plan) (plan_grammar one (fluent_names domain problem) (action_names domain problem)) file.holds then))) in
+          (PlacedThen asked domain problem) placed a (told (check asked) asked.plan says (2, omega arith, refl)) (quiet asked.plan) (plan_grammar one (fluent_names domain problem) (action_names domain problem)) file.holds then))) in
           verdict_status law asked.kind domain problem plan judged.0 status judged.1 (code ∙ ap status_of judged.2)

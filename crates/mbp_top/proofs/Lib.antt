@@ -2,9 +2,9 @@ pub mod AllFetched
 pub mod ByCommand
 pub mod CertificateWritten
 pub mod CheckWritten
+pub mod CourseFiles
 pub mod DrillStatuses
 pub mod DrillWritten
-pub mod MemoryFetches
 pub mod GroundWritten
 mod PlanExamples
 pub mod PlanWritten

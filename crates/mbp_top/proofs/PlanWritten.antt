@@ -10,8 +10,9 @@ use Rattle.pddl_ast.specs.Trees.{DomainTree, FormulaTree, ProblemTree, TemporalT
 use Rattle.pddl_system.specs.Sizes.{first_passed}
 use Rattle.pddl_system.specs.Systems.{system}
 use Rattle.command_base.specs.Answers.{Answer, Refusal, refused, no_memory, full, status_of, status_of_refusal, text_of, is_shown}
+use Rattle.command_base.specs.Courses.{Course, answers}
 use Rattle.command_base.specs.Delivery.{Seen}
-use Rattle.command_base.specs.Grounding.{GroundThen, has_goal_for}
+use Rattle.command_base.specs.Grounding.{has_goal_for}
 use Rattle.plan_command.specs.Enough.{IsTightPlan}
 use Rattle.command_base.specs.InitialStates.{empty_init}
 use Rattle.command_base.specs.PddlTexts.{HoldBoth, IsFaultyDomain, IsFaultyProblem, ReadBoth}
@@ -26,7 +27,7 @@ use Rattle.command_base.specs.Words.{Bytes, PlanKind, PlanWords, plan, SaysPlan,
 use Rattle.mbp_top.proofs.ByCommand.{of_command}
 use Rattle.command_base.specs.OneReading.{OneReading}
 use Rattle.command_base.proofs.Initials.{shown_initial, with_initial}
-use Rattle.command_base.proofs.PddlDecides.{ReadFor, both_as, not_refused, shown_both, shown_goal, shown_grounded, with_goal, within_limits}
+use Rattle.command_base.proofs.PddlDecides.{both_as, not_refused, shown_task, task_as}
 use Rattle.mbp_top.proofs.DueStatuses.{Done}
 use Rattle.command_base.proofs.Statuses.{shown_at, undisturbed, whole_delivery, written_shown, written_full}
 
@@ -37,20 +38,17 @@ pub record PlanFor (held : Bytes → Held) (asked : PlanWords) (answer : Answer)
   pub both : HoldBoth held asked.domain asked.problem domain problem
   pub result : IsResultOf asked.certified asked.kind asked.problem domain problem answer
 
-plan_for : (held : Bytes → Held) (asked : PlanWords) (a : Answer) → is_shown a ≡ true → ReadFor held asked.domain asked.problem (IsPlanned asked) a → PlanFor held asked a
-plan_for held asked a shown read = record {
-  domain = read.domain;
-  problem = read.problem;
-  both = read.both;
-  result = (shown_grounded read.domain read.problem (PlanThen asked read.domain read.problem) a shown
-      (shown_goal asked.kind asked.problem read.problem (GroundThen read.domain read.problem (PlanThen asked read.domain read.problem)) a shown read.result)).1;
-}
+-- what follows the loading of the task, but that the table of nodes is full
+abbrev planned_of : PlanWords → DomainTree → ProblemTree → Course
+planned_of asked d p = answers (PlanThen asked d p)
 
 shown_plan : (held : Bytes → Held) (failed : Bytes → Type 0) (asked : PlanWords) (a : Answer) → is_shown a ≡ true
     → (a ≡ refused no_memory) ⊎ IsPlanAnswer held failed asked a → PlanFor held asked a
 shown_plan held failed asked a shown (inl is) = absurd (not_refused no_memory a is shown)
 shown_plan held failed asked a shown (inr (inl (may, is))) = absurd (not_refused (full asked.options.nodes) a is shown)
-shown_plan held failed asked a shown (inr (inr is)) = plan_for held asked a shown (shown_both held failed asked.domain asked.problem (IsPlanned asked) a shown is)
+shown_plan held failed asked a shown (inr (inr is)) =
+    let read = shown_task held failed asked.domain asked.problem (Some asked.kind) (planned_of asked) a shown is in
+    record { domain = read.domain; problem = read.problem; both = read.both; result = read.then }
 
 shown_parts : (name : Bytes) (p : ProblemTree) (Then : Answer → Type 0) (a : Answer) → is_shown a ≡ true → ContextGoalThen name p (λ goal. Then) a → Then a
 shown_parts name p Then a shown (inl (none, is)) = absurd (not_refused _ a is shown)
@@ -239,8 +237,6 @@ plan_status one held failed tallies words before after out out' err err' status 
           (told (plan asked) asked.domain says (0, omega arith, refl)) (told (plan asked) asked.problem says (1, omega arith, refl)) quiet both may))
       go (inr (inr is)) =
           result_code asked.certified asked.kind asked.problem domain problem a status goal some
-          (within_limits domain problem (PlanThen asked domain problem) a kept
-          (with_goal asked.kind asked.problem problem (GroundThen domain problem (PlanThen asked domain problem)) a (sought_has_goal asked.kind problem goal)
-          (both_as one held failed asked.domain asked.problem (IsPlanned asked) domain problem a
-          (told (plan asked) asked.domain says (0, omega arith, refl)) (told (plan asked) asked.problem says (1, omega arith, refl)) quiet both is)))
+          (task_as one held failed asked.domain asked.problem (Some asked.kind) (planned_of asked) domain problem a
+          (told (plan asked) asked.domain says (0, omega arith, refl)) (told (plan asked) asked.problem says (1, omega arith, refl)) quiet both (sought_has_goal asked.kind problem goal) kept is)
           code

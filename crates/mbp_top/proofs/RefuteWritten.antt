@@ -1,12 +1,12 @@
 -- `refute`: what was written at status 0, 1 and 5, and which statuses come.
-use Rattle.std.proofs.Common.{◌≡◌, ◌≢◌, ℕ, List, [], ◌⊎◌, inl, inr, refl, sym, subst, arith, ◌∙◌, ap, true, None}
+use Rattle.std.proofs.Common.{◌≡◌, ◌≢◌, ℕ, List, [], ◌⊎◌, inl, inr, refl, sym, subst, arith, ◌∙◌, ap, true, None, Some}
 use Rattle.std.specs.Io.KnownBytes.{append_known}
 use Rattle.pddl_ast.specs.Trees.{DomainTree, ProblemTree}
 use Rattle.pddl_system.specs.Sizes.{first_passed}
 use Rattle.pddl_system.specs.Systems.{fluent_names, system}
 use Rattle.pddl_system.proofs.States.{they_have_a_system}
 use Rattle.plan_certs.specs.Certificates.{IsAccepted, PlainCertificate}
-use Rattle.plan_certs.specs.Readings.{SpellsPlain}
+use Rattle.plan_certs.specs.Readings.{HasCertificateFault, SpellsPlain}
 use Rattle.plan_io.specs.Held.{Held, Untold}
 use Rattle.cert_check.specs.Judgements.{IsVerdict}
 use Rattle.cert_check.specs.declared.verdict.Flaw.{Flaw}
@@ -15,12 +15,13 @@ use Rattle.cert_check.specs.declared.verdict.Judged.TheVariants.{Accepted, Rejec
 use Rattle.task_core.specs.Solutions.{HasNoSolution}
 use Rattle.task_core.specs.Systems.{System}
 use Rattle.command_base.specs.Answers.{Answer, full, is_shown, no_memory, refused, status_of, status_of_refusal, text_of}
+use Rattle.command_base.specs.Courses.{Course, IsFaulty, answers, of_file}
 use Rattle.command_base.specs.Delivery.{Seen}
-use Rattle.command_base.specs.Grounding.{GroundThen, for_tables, has_goal_for}
+use Rattle.command_base.specs.Grounding.{for_tables, has_goal_for}
 use Rattle.command_base.specs.InitialStates.{empty_init}
 use Rattle.command_base.specs.OneReading.{OneReading}
 use Rattle.command_base.specs.PddlTexts.{HoldBoth, IsFaultyDomain, IsFaultyProblem, ReadBoth}
-use Rattle.refute_command.specs.RefuteCommand.{HoldsCertificate, IsFaultyCertificate, IsRefuteAnswer, IsRefuted, IsTightVerdict, JudgeThen, MayRefuteRunOut, RefuteThen, ShowsJudged, judged_answer}
+use Rattle.refute_command.specs.RefuteCommand.{HoldsCertificate, IsFaultyCertificate, IsRefuteAnswer, IsRefuted, IsTightVerdict, JudgeThen, MayRefuteRunOut, ShowsJudged, judged_answer}
 use Rattle.replay_command.specs.ReplayCommand.{Tallies}
 use Rattle.mbp_top.specs.Told.{AreFilesTold}
 use Rattle.command_base.specs.Faults.{NoFault}
@@ -28,7 +29,7 @@ use Rattle.command_base.specs.Words.{Bytes, RefuteWords, SaysRefute, refute}
 use Rattle.mbp_top.proofs.ByCommand.{of_command}
 use Rattle.command_base.proofs.Deciding.{one_tree, read_as}
 use Rattle.command_base.proofs.Initials.{shown_initial, with_initial}
-use Rattle.command_base.proofs.PddlDecides.{ReadFor, both_as, not_refused, shown_both, shown_goal, shown_grounded, with_goal, within_limits}
+use Rattle.command_base.proofs.PddlDecides.{both_as, not_refused, shown_file, shown_task, task_as}
 use Rattle.plan_command.proofs.Meetings.{AcceptedMeansNone}
 use Rattle.mbp_top.proofs.PlanWritten.{refused_not_full}
 use Rattle.refute_command.proofs.RefuteDecides.{certificate_grammar, not_accepted}
@@ -46,37 +47,31 @@ pub record RefuteFor (held : Bytes → Held) (asked : RefuteWords) (answer : Ans
   pub of_certificate : IsVerdict (system domain problem) certificate judged
   pub shown : answer ≡ judged_answer judged
 
-shown_then : (held : Bytes → Held) (failed : Bytes → Type 0) (asked : RefuteWords) (d : DomainTree) (p : ProblemTree) (a : Answer) → is_shown a ≡ true
-    → HoldBoth held asked.domain asked.problem d p → RefuteThen held failed asked d p a → RefuteFor held asked a
-shown_then held failed asked d p a shown both (inl (r, is, why)) = absurd (not_refused r a is shown)
-shown_then held failed asked d p a shown both (inr (certificate, holds, then)) =
-    let judged = shown_initial (empty_init asked.problem p) (system d p).initial (ShowsJudged (system d p) certificate) a shown then in
-    record {
-      domain = d;
-      problem = p;
-      certificate = certificate;
-      both = both;
-      file = holds;
-      judged = judged.0;
-      of_certificate = judged.1;
-      shown = judged.2;
-    }
-
-refute_for : (held : Bytes → Held) (failed : Bytes → Type 0) (asked : RefuteWords) (a : Answer) → is_shown a ≡ true
-    → ReadFor held asked.domain asked.problem (IsRefuted held failed asked) a → RefuteFor held asked a
-refute_for held failed asked a shown read =
-    let d = read.domain in
-    let p = read.problem in
-    shown_then held failed asked d p a shown read.both
-    (shown_grounded d p (RefuteThen held failed asked d p) a shown
-    (shown_goal for_tables asked.problem p (GroundThen d p (RefuteThen held failed asked d p)) a shown read.result)).1
+-- what follows the loading of the task, but that the table of nodes is full
+abbrev certificate_of : RefuteWords → DomainTree → ProblemTree → Course
+certificate_of asked d p = of_file asked.certificate (SpellsPlain (fluent_names d p)) (HasCertificateFault (fluent_names d p)) (λ certificate. answers (JudgeThen asked d p certificate))
 
 shown_refute : (held : Bytes → Held) (failed : Bytes → Type 0) (asked : RefuteWords) (a : Answer) → is_shown a ≡ true
     → (a ≡ refused no_memory) ⊎ IsRefuteAnswer held failed asked a → RefuteFor held asked a
 shown_refute held failed asked a shown (inl is) = absurd (not_refused no_memory a is shown)
 shown_refute held failed asked a shown (inr (inl (may, is))) = absurd (not_refused (full asked.options.nodes) a is shown)
 shown_refute held failed asked a shown (inr (inr is)) =
-    refute_for held failed asked a shown (shown_both held failed asked.domain asked.problem (IsRefuted held failed asked) a shown is)
+    let read = shown_task held failed asked.domain asked.problem (Some for_tables) (certificate_of asked) a shown is in
+    let d = read.domain in
+    let p = read.problem in
+    let names = fluent_names d p in
+    let file = shown_file held failed asked.certificate (SpellsPlain names) (IsFaulty (HasCertificateFault names)) (JudgeThen asked d p) a shown read.then in
+    let judged = shown_initial (empty_init asked.problem p) (system d p).initial (ShowsJudged (system d p) file.0) a shown file.2 in
+    record {
+      domain = d;
+      problem = p;
+      certificate = file.0;
+      both = read.both;
+      file = file.1;
+      judged = judged.0;
+      of_certificate = judged.1;
+      shown = judged.2;
+    }
 
 -- what was written at status 0: that the certificate is accepted, and so there is no plan
 pub record AcceptanceWritten (held : Bytes → Held) (asked : RefuteWords) (out out' : Seen) : Type 0 where
@@ -243,9 +238,7 @@ refute_status one held failed tallies words before after out out' err err' statu
           absurd (room (tight_of one held asked domain problem certificate told_certificate file
           (may_for one held failed asked domain problem a told_domain told_problem quiet both may)))
       go (inr (inr is)) =
-          let then = within_limits domain problem (RefuteThen held failed asked domain problem) a kept
-          (with_goal for_tables asked.problem problem (GroundThen domain problem (RefuteThen held failed asked domain problem)) a goal
-          (both_as one held failed asked.domain asked.problem (IsRefuted held failed asked) domain problem a told_domain told_problem quiet both is)) in
+          let then = task_as one held failed asked.domain asked.problem (Some for_tables) (certificate_of asked) domain problem a told_domain told_problem quiet both goal kept is in
           let Then : PlainCertificate → Answer → Type 0 = JudgeThen asked domain problem in
           let judged = with_initial (empty_init asked.problem problem) (system domain problem).initial (ShowsJudged (system domain problem) certificate) a some
           (read_as held failed asked.certificate (SpellsPlain (fluent_names domain problem)) (IsFaultyCertificate (fluent_names domain problem))

@@ -5,20 +5,22 @@ use Rattle.pddl_ast.specs.Trees.{DomainTree, ProblemTree}
 use Rattle.pddl_system.specs.Sizes.{first_passed}
 use Rattle.pddl_system.specs.Systems.{action_names, fluent_names, system}
 use Rattle.plan_io.specs.Held.{Held}
+use Rattle.plan_rules.specs.Readings.{HasPlanFault}
 use Rattle.plan_rules.specs.Rules.{PlainPlan}
-use Rattle.run_replay.specs.Records.{RecordTree, SpellsRecord}
+use Rattle.run_replay.specs.Records.{HasRecordFault, RecordTree, SpellsRecord}
 use Rattle.run_replay.specs.Traces.{Ending, Terminal, Ended, Capped, Stray, Unexecutable}
 use Rattle.run_replay.specs.declared.worlds.Step.{Step}
 use Rattle.task_core.specs.Systems.{System}
 use Rattle.task_core.specs.Vectors.{Vector}
 use Rattle.command_base.specs.Answers.{Answer, Refusal, refused, no_memory, status_of, text_of, is_shown}
+use Rattle.command_base.specs.Courses.{Course, IsAnswerIn, IsFaulty, answers, of_file, of_plan}
 use Rattle.command_base.specs.Following.{HasTooManyStates}
 use Rattle.command_base.specs.Delivery.{Seen}
 use Rattle.command_base.specs.InitialStates.{empty_init}
 use Rattle.command_base.specs.PddlTexts.{HoldBoth}
 use Rattle.command_base.specs.PlanFiles.{IsFaultyPlan, PlacedPlan, SpellsPlaced}
 use Rattle.command_base.specs.Reading.{Holds}
-use Rattle.replay_command.specs.ReplayCommand.{AreToldAs, FirstThen, HoldRun, IsFaultyRecord, IsFirstState, IsReplay, IsReplayAnswer, IsReplayed, RecordThen, ReplayThen, Tallies, ended_answer, ended_status, replay_text, trace_under}
+use Rattle.replay_command.specs.ReplayCommand.{AreToldAs, FirstThen, HoldRun, IsFirstState, IsReplayAnswer, IsReplayed, RunThen, Tallies, ended_answer, ended_status, replay_text, trace_under}
 use Rattle.mbp_top.specs.Told.{AreFilesTold}
 use Rattle.command_base.specs.Faults.{NoFault}
 use Rattle.command_base.specs.Words.{Bytes, ReplayWords, replay, SaysReplay}
@@ -26,7 +28,7 @@ use Rattle.mbp_top.proofs.ByCommand.{of_command}
 use Rattle.command_base.proofs.PlanDecides.{plan_grammar}
 use Rattle.command_base.proofs.Deciding.{read_as}
 use Rattle.command_base.specs.OneReading.{OneReading}
-use Rattle.command_base.proofs.PddlDecides.{both_as, not_refused, shown_both, shown_grounded, within_limits}
+use Rattle.command_base.proofs.PddlDecides.{not_refused, shown_file, shown_task, task_as}
 use Rattle.replay_command.proofs.ReplayDecides.{record_grammar}
 use Rattle.mbp_top.proofs.DueStatuses.{Done}
 use Rattle.command_base.proofs.Statuses.{shown_at, undisturbed, whole_delivery, written_shown}
@@ -39,11 +41,16 @@ record RunFor (held : Bytes → Held) (tallies : Tallies) (asked : ReplayWords) 
   files : HoldRun held asked d p plan recorded first
   result : IsReplayed tallies (system d p) (action_names d p) (trace_under (system d p) plan first recorded.words) answer
 
+-- what follows the loading of the task, and of the plan
+abbrev record_of : Tallies → ReplayWords → DomainTree → ProblemTree → PlacedPlan → Course
+record_of tallies asked d p placed = of_file asked.recorded SpellsRecord HasRecordFault (λ recorded. answers (RunThen tallies asked d p placed.plan recorded))
+
+abbrev plan_of : Tallies → ReplayWords → DomainTree → ProblemTree → Course
+plan_of tallies asked d p = of_plan (fluent_names d p) (action_names d p) asked.plan (record_of tallies asked d p)
+
 shown_first : (held : Bytes → Held) (tallies : Tallies) (asked : ReplayWords) (d : DomainTree) (p : ProblemTree) (placed : PlacedPlan) (recorded : RecordTree) (a : Answer) → is_shown a ≡ true
     → Holds held (SpellsPlaced (fluent_names d p) (action_names d p)) asked.plan placed → Holds held SpellsRecord asked.recorded recorded
-    → FirstThen (HasTooManyStates d p) (empty_init asked.problem p) (system d p).initial asked.recorded recorded (λ first.
-    IsReplayed tallies (system d p) (action_names d p) (trace_under (system d p) placed.plan first recorded.words)) a
-    → RunFor held tallies asked d p a
+    → RunThen tallies asked d p placed.plan recorded a → RunFor held tallies asked d p a
 shown_first held tallies asked d p placed recorded a shown holds holds' (inl (many, is)) = absurd (not_refused _ a is shown)
 shown_first held tallies asked d p placed recorded a shown holds holds' (inr (few, inl (none, is))) = absurd (not_refused _ a is shown)
 shown_first held tallies asked d p placed recorded a shown holds holds' (inr (few, inr (some, inl (far, is)))) = absurd (not_refused _ a is shown)
@@ -54,19 +61,6 @@ shown_first held tallies asked d p placed recorded a shown holds holds' (inr (fe
   files = record { plan_file = record { place = placed.place; holds = holds }; record_file = holds'; first_state = there };
   result = then;
 }
-
-shown_record : (held : Bytes → Held) (failed : Bytes → Type 0) (tallies : Tallies) (asked : ReplayWords) (d : DomainTree) (p : ProblemTree) (placed : PlacedPlan) (a : Answer) → is_shown a ≡ true
-    → Holds held (SpellsPlaced (fluent_names d p) (action_names d p)) asked.plan placed
-    → RecordThen held failed tallies asked.recorded (action_names d p) (HasTooManyStates d p) (empty_init asked.problem p) (system d p) placed.plan a
-    → RunFor held tallies asked d p a
-shown_record held failed tallies asked d p placed a shown holds (inl (r, is, why)) = absurd (not_refused r a is shown)
-shown_record held failed tallies asked d p placed a shown holds (inr (recorded, holds', then)) = shown_first held tallies asked d p placed recorded a shown holds holds' then
-
-shown_files : (held : Bytes → Held) (failed : Bytes → Type 0) (tallies : Tallies) (asked : ReplayWords) (d : DomainTree) (p : ProblemTree) (a : Answer) → is_shown a ≡ true
-    → ReplayThen held failed tallies asked (fluent_names d p) (action_names d p) (HasTooManyStates d p) (empty_init asked.problem p) (system d p) a
-    → RunFor held tallies asked d p a
-shown_files held failed tallies asked d p a shown (inl (r, is, why)) = absurd (not_refused r a is shown)
-shown_files held failed tallies asked d p a shown (inr (placed, holds, then)) = shown_record held failed tallies asked d p placed a shown holds then
 
 -- what is shown of a trace is its text, and the status is that of its end
 ended_text : (text : Bytes) (ending : Ending) → is_shown (ended_answer text ending) ≡ true → text_of (ended_answer text ending) ≡ text
@@ -103,11 +97,14 @@ shown_replay : (held : Bytes → Held) (failed : Bytes → Type 0) (tallies : Ta
     → (a ≡ refused no_memory) ⊎ IsReplayAnswer held failed tallies asked a → RunWritten held tallies asked out out'
 shown_replay held failed tallies asked a out out' shown written (inl is) = absurd (not_refused no_memory a is shown)
 shown_replay held failed tallies asked a out out' shown written (inr is) =
-    let trees = shown_both held failed asked.domain asked.problem (IsReplay held failed tallies asked) a shown is in
+    let trees = shown_task held failed asked.domain asked.problem None (plan_of tallies asked) a shown is in
     let d = trees.domain in
     let p = trees.problem in
-    let grounded = shown_grounded d p (ReplayThen held failed tallies asked (fluent_names d p) (action_names d p) (HasTooManyStates d p) (empty_init asked.problem p) (system d p)) a shown trees.result in
-    let run = shown_files held failed tallies asked d p a shown grounded.1 in
+    let names = fluent_names d p in
+    let actions = action_names d p in
+    let placed = shown_file held failed asked.plan (SpellsPlaced names actions) (IsFaulty (HasPlanFault names actions)) (λ x. IsAnswerIn held failed (record_of tallies asked d p x)) a shown trees.then in
+    let read = shown_file held failed asked.recorded SpellsRecord (IsFaulty HasRecordFault) (RunThen tallies asked d p placed.0.plan) a shown placed.2 in
+    let run = shown_first held tallies asked d p placed.0 read.0 a shown placed.1 read.1 read.2 in
     let trace = trace_under (system d p) run.plan run.first run.recorded.words in
     let text = replay_text tallies (action_names d p) trace run.result.told in
     record {
@@ -118,7 +115,7 @@ shown_replay held failed tallies asked a out out' shown written (inr is) =
       first = run.first;
       told = run.result.told;
       both = trees.both;
-      within = grounded.0;
+      within = trees.within;
       files = run.files;
       steps = run.result.steps;
       written = written text (ap text_of run.result.shown ∙ ended_text text trace.ending (subst (λ b. is_shown b ≡ true) run.result.shown shown));
@@ -165,15 +162,13 @@ run_status one held failed tallies words before after out out' err err' status a
       go (inr is) =
           let names = fluent_names domain problem in
           let actions = action_names domain problem in
-          let then = within_limits domain problem (ReplayThen held failed tallies asked names actions (HasTooManyStates domain problem) (empty_init asked.problem problem) sys) a kept
-          (both_as one held failed asked.domain asked.problem (IsReplay held failed tallies asked) domain problem a
-          (told (replay asked) asked.domain says (0, omega arith, refl)) (told (replay asked) asked.problem says (1, omega arith, refl)) quiet both is) in
+          let then = task_as one held failed asked.domain asked.problem None (plan_of tallies asked) domain problem a
+          (told (replay asked) asked.domain says (0, omega arith, refl)) (told (replay asked) asked.problem says (1, omega arith, refl)) quiet both refl kept is in
           let placed : PlacedPlan = record { plan = plan; place = files.plan_file.place } in
           let of_record = read_as held failed asked.plan (SpellsPlaced names actions) (IsFaultyPlan names actions)
-          (λ x. RecordThen held failed tallies asked.recorded actions (HasTooManyStates domain problem) (empty_init asked.problem problem) sys x.plan) placed a
+          (λ x. IsAnswerIn held failed (record_of tallies asked domain problem x)) placed a
           (told (replay asked) asked.plan says (2, omega arith, refl)) (quiet asked.plan) (plan_grammar one names actions) files.plan_file.holds then in
-          let of_first = read_as held failed asked.recorded SpellsRecord IsFaultyRecord
-          (λ r. FirstThen (HasTooManyStates domain problem) (empty_init asked.problem problem) sys.initial asked.recorded r (λ s. IsReplayed tallies sys actions (trace_under sys plan s r.words))) recorded a
+          let of_first = read_as held failed asked.recorded SpellsRecord (IsFaulty HasRecordFault) (RunThen tallies asked domain problem plan) recorded a
           (told (replay asked) asked.recorded says (3, omega arith, refl)) (quiet asked.recorded) (record_grammar one) files.record_file of_record in
           let run = first_as (HasTooManyStates domain problem) (empty_init asked.problem problem) sys.initial asked.recorded recorded first (λ s. IsReplayed tallies sys actions (trace_under sys plan s recorded.words)) a
           few files.first_state of_first in

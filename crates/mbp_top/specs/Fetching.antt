@@ -1,21 +1,27 @@
--- Which files a command fetches. `held`, `failed` and `fetched` are what the shelf tells.
-use Rattle.plan_io.specs.Fetches.{FetchesNothing}
+-- The course of each command, and what is fetched for its answers. `held`, `failed` and `fetched` are what
+-- the shelf tells, and `tallies` is as in ReplayCommand.
 use Rattle.plan_io.specs.Held.{Held}
-use Rattle.check_command.specs.CheckCommand.{FetchesToCheck}
+use Rattle.check_command.specs.CheckCommand.{check_course}
 use Rattle.command_base.specs.Answers.{Answer}
+use Rattle.command_base.specs.Courses.{Course, GoesIn, answers}
 use Rattle.command_base.specs.Words.{Bytes, Command, check, drill, ground, plan, refute, replay}
-use Rattle.ground_command.specs.GroundCommand.{FetchesToGround}
-use Rattle.plan_command.specs.PlanCommand.{FetchesToPlan}
-use Rattle.refute_command.specs.RefuteFetches.{FetchesToRefute}
-use Rattle.replay_command.specs.RunFetches.{FetchesToReplay}
+use Rattle.drill_command.specs.DrillCommand.{IsDrillAnswer}
+use Rattle.ground_command.specs.GroundCommand.{ground_course}
+use Rattle.plan_command.specs.PlanCommand.{plan_course}
+use Rattle.refute_command.specs.RefuteCommand.{refute_course}
+use Rattle.replay_command.specs.ReplayCommand.{Tallies, replay_course}
+
+abbrev pub course_of : Tallies → Command → Course
+course_of tallies (plan asked) = plan_course asked
+course_of tallies (ground asked) = ground_course asked
+course_of tallies (check asked) = check_course asked
+course_of tallies (replay asked) = replay_course tallies asked
+course_of tallies (drill asked) = answers (IsDrillAnswer asked)
+course_of tallies (refute asked) = refute_course asked
 
 -- the fetches of a command with this answer: of its files in their order, each once, up to the one
 -- that decides the answer
 abbrev pub FetchesFiles : {S : Type 0} → (Bytes → Held) → (Bytes → Type 0)
-    → (S → Bytes → S → Type 0) → Command → Answer → S → S → Type 0
-FetchesFiles {S} held failed fetched (plan asked) = FetchesToPlan held failed fetched asked
-FetchesFiles {S} held failed fetched (ground asked) = FetchesToGround held failed fetched asked
-FetchesFiles {S} held failed fetched (check asked) = FetchesToCheck held failed fetched asked
-FetchesFiles {S} held failed fetched (replay asked) = FetchesToReplay held failed fetched asked
-FetchesFiles {S} held failed fetched (drill asked) = λ answer. FetchesNothing
-FetchesFiles {S} held failed fetched (refute asked) = FetchesToRefute held failed fetched asked
+    → (S → Bytes → S → Type 0) → Tallies → Command → Answer → S → S → Type 0
+FetchesFiles {S} held failed fetched tallies command =
+    GoesIn held failed fetched (course_of tallies command)

@@ -1,52 +1,44 @@
 //! From the words to the answer.
 
-ghost use Rattle.command_base.specs.Shelves.{KeepsShelf};
 ghost use Rattle.command_base.specs.Values.{answer_of};
-ghost use Rattle.command_base.specs.Words.{Command as SaidCommand, SayNothing, Says};
-ghost use Rattle.mbp_top.specs.Causes.{HasCause};
-ghost use Rattle.mbp_top.specs.Fetching.{FetchesFiles};
-ghost use Rattle.plan_io.specs.Fetches.{FailedLast};
+ghost use Rattle.mbp_top.specs.Runs.{IsAnswered};
 ghost use Rattle.run_replay.specs.TraceTexts.{tallies_of};
 ghost use Rattle.std.specs.Prelude.{◌≡◌, All, map, string_bytes};
 
-use check_command::check_files;
-use command_base::{Command, Refusal, Shown, read_words};
+use crate::runs::Handed;
+use check_command::CheckJob;
+use command_base::{Command, Refusal, Shown, carry_out, read_words};
 use drill_command::run_drill;
-use ground_command::ground_files;
-use plan_command::plan_files;
+use ground_command::GroundJob;
+use plan_command::PlanJob;
 use plan_io::Shelf;
-use refute_command::refute_files;
-use replay_command::replay_files;
-use run_replay::{Monitor, World};
+use refute_command::RefuteJob;
+use replay_command::replay;
 use std::alloc::Global;
 
 /// Does what the words say, and gives the answer. `replay` alone uses the world and the monitors.
 pub(crate) fn answer<S: Shelf>(
     alloc: Global,
-    words: &[String],
     shelf: &mut S,
-    world: &mut Box<dyn World>,
-    monitors: &mut Vec<Box<dyn Monitor>>,
+    handed: Handed<'_>,
 ) -> Result<Shown, Refusal>
-    requires untold { All (λ monitor. (shown monitor).counted ≡ 0) monitors.old.items }
-    ensures cause { let failed = FailedLast S.fetched S.faults shelf.old shelf.new in
-        HasCause (S.held shelf.old) failed
-        (tallies_of (map (λ monitor. shown monitor) monitors.old.items))
-        (map string_bytes words.now) (answer_of result) }
-    ensures fetches { let failed = FailedLast S.fetched S.faults shelf.old shelf.new in
-        (command : SaidCommand) → Says (map string_bytes words.now) command
-        → FetchesFiles (S.held shelf.old) failed S.fetched command (answer_of result)
-        shelf.old shelf.new }
-    ensures no_fetch { SayNothing (map string_bytes words.now) → shelf.new ≡ shelf.old }
-    ensures shelf { KeepsShelf S.held S.faults (answer_of result) shelf.old shelf.new }
+    requires untold { All (λ monitor. (shown monitor).counted ≡ 0) handed.monitors.items }
+    ensures { IsAnswered S.held S.faults S.fetched
+        (tallies_of (map (λ monitor. shown monitor) handed.monitors.items))
+        (map string_bytes handed.words.now) (answer_of result) shelf.old shelf.new }
 {
+    let Handed {
+        words,
+        mut world,
+        mut monitors,
+    } = handed;
     match read_words(words) {
-        Command::Plan(asked) => plan_files(alloc, shelf, &asked),
-        Command::Ground(asked) => ground_files(alloc, shelf, &asked),
-        Command::Check(asked) => check_files(alloc, shelf, &asked),
-        Command::Replay(asked) => replay_files(alloc, shelf, &asked, world, monitors),
+        Command::Plan(asked) => carry_out(alloc, shelf, PlanJob { asked }),
+        Command::Ground(asked) => carry_out(alloc, shelf, GroundJob { asked }),
+        Command::Check(asked) => carry_out(alloc, shelf, CheckJob { asked }),
+        Command::Replay(asked) => replay(alloc, shelf, &asked, &mut world, &mut monitors),
         Command::Drill(asked) => run_drill(alloc, &asked),
-        Command::Refute(asked) => refute_files(alloc, shelf, &asked),
+        Command::Refute(asked) => carry_out(alloc, shelf, RefuteJob { asked }),
         Command::Nothing => Err(Refusal::NoCommand),
     }
 }

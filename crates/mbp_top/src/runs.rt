@@ -23,15 +23,15 @@ pub(crate) struct Handed<'a> {
 /// Does what the words say, writes the answer, and gives the exit status.
 pub(crate) fn carry_out<S: Shelf, O: Sink, E: Sink>(
     alloc: Global,
-    handed: &mut Handed<'_>,
+    handed: Handed<'_>,
     shelf: &mut S,
     out: &mut O,
     err: &mut E,
 ) -> u8
-    requires untold { All (λ monitor. (shown monitor).counted ≡ 0) handed.old.monitors.items }
+    requires untold { All (λ monitor. (shown monitor).counted ≡ 0) handed.monitors.items }
     ensures { HasRun S.held S.faults S.fetched (record {
-      words = map string_bytes handed.old.words.now;
-      handed = tallies_of (map (λ monitor. shown monitor) handed.old.monitors.items);
+      words = map string_bytes handed.words.now;
+      handed = tallies_of (map (λ monitor. shown monitor) handed.monitors.items);
       shelf = shelf.old;
       shelf_after = shelf.new;
       out = seen (O.written out.old) (O.faults out.old);
@@ -41,12 +41,6 @@ pub(crate) fn carry_out<S: Shelf, O: Sink, E: Sink>(
       status = result;
     }) }
 {
-    let found = answer(
-        alloc,
-        handed.words,
-        shelf,
-        &mut handed.world,
-        &mut handed.monitors,
-    );
+    let found = answer(alloc, shelf, handed);
     deliver(alloc, &found, out, err)
 }

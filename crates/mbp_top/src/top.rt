@@ -184,10 +184,10 @@ pub fn run<S: Shelf, O: Sink, E: Sink>(
     // promise.
     texts_are_read_one_way();
     yes_is_solution();
-    let mut handed = Handed {
+    let handed = Handed {
         words,
         world,
         monitors,
     };
-    carry_out(alloc, &mut handed, shelf, out, err)
+    carry_out(alloc, handed, shelf, out, err)
 }

@@ -1,6 +1,6 @@
 -- The answer for a plan that was found, for a system and names that are equal, and for what was
 -- read.
-use Rattle.std.proofs.Common.{◌≡◌, ◌≢◌, ◌⊎◌, ℕ, List, [], Contains, subst, sym, ap, ◌∙◌, inl, inr, refl, None, IsSome, Bool, true, false, ◌++◌}
+use Rattle.std.proofs.Common.{◌≡◌, ◌≢◌, ℕ, List, [], Contains, subst, sym, ap, ◌∙◌, inl, inr, refl, IsSome, Bool, true, false, ◌++◌}
 use Rattle.std.specs.Prelude.{IfOk, Result, Ok, Err}
 use Rattle.dd_sets.specs.declared.errors.SetErr.{SetErr}
 use Rattle.plan_theory.specs.Found.{IsPlannersAnswer}
@@ -9,7 +9,6 @@ use Rattle.plan_theory.specs.declared.answers.Found.{Found}
 use Rattle.plan_theory.specs.declared.answers.Found.TheVariants.{NoPlan, Plan}
 use Rattle.pddl_ast.specs.Trees.{DomainTree, ProblemTree}
 use Rattle.pddl_system.specs.Systems.{action_names, fluent_names, system}
-use Rattle.pddl_system.specs.Sizes.{first_passed}
 use Rattle.task_core.specs.Tasks.{action_names as names_of_actions, fluent_names as names_of_fluents, initial_states, system_of}
 use Rattle.task_core.specs.declared.tasks.Task.{Task}
 use Rattle.task_core.specs.Systems.{IsSystem, System}
@@ -32,16 +31,15 @@ use Rattle.plan_rules.specs.declared.rules.TablePlan.{TablePlan}
 use Rattle.plan_theory.specs.Bounds.{PathsAreWithin, ReachesGoalWithin}
 use Rattle.plan_theory.specs.Layers.{IsLastLayer}
 use Rattle.plan_theory.specs.LayerPlans.{printed_rules}
-use Rattle.command_base.specs.Answers.{Answer, affirmed, denied, full, no_memory, refused}
+use Rattle.command_base.specs.Answers.{Answer, affirmed, denied, refused}
 use Rattle.plan_command.specs.Enough.{IsTightForClass, IsTightPlan}
 use Rattle.task_sets.specs.FullTables.{IsTightToEncode, IsTightToEncodeBoth}
 use Rattle.task_sets.specs.NodeRoom.{IsTightLimit}
 use Rattle.plan_command.specs.FoundPlans.{IsFoundCertificate, IsFoundPlan, IsSearched, IsTableResult}
 use Rattle.command_base.specs.Grounded.{IsTaskOf}
-use Rattle.command_base.specs.Grounding.{has_goal_for}
+use Rattle.command_base.specs.Courses.{IsAnswerIn}
 use Rattle.command_base.specs.InitialStates.{empty_init}
-use Rattle.command_base.specs.PddlTexts.{HoldBoth, ReadBoth}
-use Rattle.plan_command.specs.PlanCommand.{IsPlanAnswer, IsPlanned, IsResultOf, IsShortest, MayBeTooFew, PlanThen, is_sought, no_plan_text}
+use Rattle.plan_command.specs.PlanCommand.{IsPlanAnswer, IsResultOf, IsShortest, MayBeTooFew, PlanThen, is_sought, no_plan_text, plan_course}
 use Rattle.command_base.specs.Words.{Bytes, PlanKind, PlanWords, of_class}
 use Rattle.command_base.proofs.TaskNames.{same_actions, same_fluents}
 use Rattle.plan_command.proofs.Meetings.{followed, of_system}
@@ -146,21 +144,15 @@ certificate_is_result class t certificate text found spelled is = inr (record {
 pub none_is_result : (class : Class) (t : Task) → HasNoSolution class (system_of t) → IsTableResult false class (system_of t) (names_of_fluents t) (names_of_actions t) (denied no_plan_text)
 none_is_result class t none = inr (record { text = no_plan_text; shown = refl; none = none; written = refl })
 
--- after both files were read: the table of nodes is full, or what follows
-pub after_plan : (held : Bytes → Held) (failed : Bytes → Type 0) (asked : PlanWords) (d : DomainTree) (p : ProblemTree) (a : Answer)
-    → HoldBoth held asked.domain asked.problem d p
-    → (a ≡ refused no_memory) ⊎ (MayBeTooFew asked d p × (a ≡ refused (full asked.options.nodes))) ⊎ IsPlanned asked d p a
-    → (a ≡ refused no_memory) ⊎ IsPlanAnswer held failed asked a
-after_plan held failed asked d p a both (inl memory) = inl memory
-after_plan held failed asked d p a both (inr (inl (few, is))) = inr (inl (record { domain = d; problem = p; both = both; few = few }, is))
-after_plan held failed asked d p a both (inr (inr then)) = inr (inr (inr (d, both.holds_domain, inr (p, both.holds_problem, then))))
-
--- one of the files is refused
-pub before_plan : (held : Bytes → Held) (failed : Bytes → Type 0) (asked : PlanWords) (a : Answer)
-    → (a ≡ refused no_memory) ⊎ ReadBoth held failed asked.domain asked.problem (IsPlanned asked) a
-    → (a ≡ refused no_memory) ⊎ IsPlanAnswer held failed asked a
-before_plan held failed asked a (inl memory) = inl memory
-before_plan held failed asked a (inr read) = inr (inr read)
+-- an answer in the course of the command is one of it: that the table of nodes is full stands in front
+pub plan_answer : (held : Bytes → Held) (failed : Bytes → Type 0) (asked : PlanWords) (a : Answer) → IsAnswerIn held failed (plan_course asked) a → IsPlanAnswer held failed asked a
+plan_answer held failed asked a (inl why) = inr (inl why)
+plan_answer held failed asked a (inr (d, holds, inl why)) = inr (inr (d, holds, inl why))
+plan_answer held failed asked a (inr (d, holds, inr (p, holds', inl none))) = inr (inr (d, holds, inr (p, holds', inl none)))
+plan_answer held failed asked a (inr (d, holds, inr (p, holds', inr (some, inl passed)))) = inr (inr (d, holds, inr (p, holds', inr (some, inl passed))))
+plan_answer held failed asked a (inr (d, holds, inr (p, holds', inr (some, inr (within, inl (few, is)))))) =
+    inl (record { domain = d; problem = p; both = record { holds_domain = holds; holds_problem = holds' }; few = few }, is)
+plan_answer held failed asked a (inr (d, holds, inr (p, holds', inr (some, inr (within, inr then))))) = inr (inr (d, holds, inr (p, holds', inr (some, inr (within, then)))))
 
 -- what a planner found, with what the law of shortest plans says of it
 pub found_plan : (class : Class) (t : Task) (r : Result Found SetErr)
@@ -169,11 +161,3 @@ pub found_plan : (class : Class) (t : Task) (r : Result Found SetErr)
 found_plan class t (Err e) shortest answer = tt
 found_plan class t (Ok NoPlan) shortest answer = answer
 found_plan class t (Ok (Plan p)) shortest answer = record { answer = answer; shortest = shortest (rules_of p) answer.printed }
-
--- once the goal and the limits are found to be as they are wanted, what follows is the answer
-pub planned_then : (asked : PlanWords) (d : DomainTree) (p : ProblemTree) (a : Answer) → has_goal_for asked.kind p ≡ true → first_passed d p ≡ None
-    → (a ≡ refused no_memory) ⊎ (MayBeTooFew asked d p × (a ≡ refused (full asked.options.nodes))) ⊎ PlanThen asked d p a
-    → (a ≡ refused no_memory) ⊎ (MayBeTooFew asked d p × (a ≡ refused (full asked.options.nodes))) ⊎ IsPlanned asked d p a
-planned_then asked d p a goal within (inl memory) = inl memory
-planned_then asked d p a goal within (inr (inl few)) = inr (inl few)
-planned_then asked d p a goal within (inr (inr then)) = inr (inr (inr (goal, inr (within, then))))

@@ -2,7 +2,7 @@
 -- printed, when the table of nodes may be too small, and the answer of the command. The names are
 -- those of the system's fluents and actions, by their numbers.
 use Rattle.std.specs.Prelude.{◌≡◌, ℕ, ◌⊎◌, ⊤, List, Contains, ◌++◌, codes, None, Some, is_some}
-use Rattle.std.specs.Prelude.{Bool, false, true, [], ◌∷◌}
+use Rattle.std.specs.Prelude.{Bool, false, true, []}
 use Rattle.pddl_ast.specs.Trees.{DomainTree, FormulaTree, ProblemTree}
 use Rattle.pddl_system.specs.Sizes.{first_passed}
 use Rattle.pddl_system.specs.Systems.{system, fluent_names, action_names}
@@ -35,8 +35,7 @@ use Rattle.ctl_syntax.specs.ContextGoals.{PlainGoal}
 use Rattle.plan_command.specs.ContextGoals.{ContextGoalThen, context_goal, is_short_goal}
 use Rattle.plan_command.specs.GoalSets.{GoalSets, contexts_for, goal_sets, rules_for}
 use Rattle.command_base.specs.Words.{Bytes, PlanKind, PlanWords, of_class, with_contexts}
-use Rattle.command_base.specs.Fetching.{FetchDomain}
-use Rattle.plan_io.specs.Fetches.{Fetches}
+use Rattle.command_base.specs.Courses.{Course, answers, task_course}
 
 -- the plan is written for the kind: a table for the class, or an automaton
 abbrev pub IsWrittenFor : PlanKind → PlainPlan → Type 0
@@ -222,9 +221,15 @@ IsPlanAnswer held failed asked answer =
     (MayRunOut held asked × (answer ≡ refused (full asked.options.nodes)))
     ⊎ ReadBoth held failed asked.domain asked.problem (IsPlanned asked) answer
 
--- the fetches of the command with this answer: of its files in their order, each once, up to the one
--- that decides the answer. `fetched` is what the shelf tells
-abbrev pub FetchesToPlan : {S : Type 0} → (Bytes → Held) → (Bytes → Type 0)
-    → (S → Bytes → S → Type 0) → PlanWords → Answer → S → S → Type 0
-FetchesToPlan {S} held failed fetched asked answer =
-    FetchDomain held failed fetched asked.domain answer (Fetches fetched (asked.problem ∷ []))
+-- the answer once the goal is of the kind and the limits are kept: that the table of nodes is full, where
+-- it may be, or what was found
+abbrev pub PlannedThen : PlanWords → DomainTree → ProblemTree → Answer → Type 0
+PlannedThen asked domain problem answer =
+    (MayBeTooFew asked domain problem × (answer ≡ refused (full asked.options.nodes)))
+    ⊎ PlanThen asked domain problem answer
+
+-- the course of the command
+abbrev pub plan_course : PlanWords → Course
+plan_course asked =
+    task_course asked.domain asked.problem (Some asked.kind) (λ domain problem.
+    answers (PlannedThen asked domain problem))

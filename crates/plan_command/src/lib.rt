@@ -14,5 +14,5 @@ mod planned;
 
 pub use class_search::find_plan;
 pub use context_goals::{most_parts, part_count, part_limit};
-pub use plan_command::{certified_text, find_grounded, plan_files, plan_grounded};
+pub use plan_command::{PlanJob, certified_text, find_grounded, plan_grounded};
 pub use planned::Planned;

@@ -3,27 +3,20 @@
 ghost use Rattle.command_base.specs.Answers.{affirmed, full, no_memory, refused};
 ghost use Rattle.command_base.specs.Grounded.{IsGroundedOf, IsTaskOf};
 ghost use Rattle.command_base.specs.Grounding.{has_goal_for};
-ghost use Rattle.command_base.specs.Shelves.{KeepsShelf};
 ghost use Rattle.command_base.specs.Values.{answer_of, bytes_of, kind_of, plan_words_of};
 ghost use Rattle.command_base.specs.Words.{IsNodeLimit, of_class};
-ghost use Rattle.pddl_ast.specs.Fits.{FitsDomain, FitsProblem};
 ghost use Rattle.pddl_ast.specs.Values.{domain_value, problem_value};
-ghost use Rattle.pddl_system.specs.Names.{NamesAreWords};
 ghost use Rattle.plan_certs.specs.Named.{IsCertificateOf, plain_certificate};
 ghost use Rattle.plan_certs.specs.Readings.{SpellsPlain as SpellsCertificate};
 ghost use Rattle.plan_certs.specs.Texts.{certificate_text};
 ghost use Rattle.plan_command.specs.Enough.{IsTightForClass};
 ghost use Rattle.plan_command.specs.FoundPlans.{IsTableResult};
 ghost use Rattle.plan_command.specs.PlanCommand.{
-  FetchesToPlan,
-  IsPlanAnswer,
-  IsPlanned,
   MayBeTooFew,
   PlanThen,
   no_plan_text,
 };
 ghost use Rattle.plan_command.specs.Plannings.{IsPlannedFor, planned_answer, shown_planned};
-ghost use Rattle.plan_io.specs.Fetches.{FailedLast};
 ghost use Rattle.plan_rules.specs.Plans.{IsPlanOf, plan_text};
 ghost use Rattle.std.specs.Prelude.{
   ◌≡◌,
@@ -52,7 +45,7 @@ use crate::class_search::{ClassSearch, Sought, search_task};
 use crate::context_command::plan_contexts;
 use crate::planned::Planned;
 use command_base::{
-    PlanKind, PlanWords, Refusal, Shown, Text, check_goal, ground_both, no_initial, read_both,
+    Job, LoadedTask, PlanKind, PlanWords, Refusal, Shown, TaskFiles, Text, load, no_initial,
 };
 use dd_sets::SetErr;
 use ground_task::Grounded;
@@ -71,46 +64,49 @@ pub(crate) struct PlanRequest<'a> {
     pub(crate) problem: &'a Problem,
 }
 
-/// The plan for the domain and the problem in two files, or that there is none.
-pub fn plan_files<S: Shelf>(
-    alloc: Global,
-    shelf: &mut S,
-    asked: &PlanWords,
-) -> Result<Shown, Refusal>
-    requires room { IsNodeLimit asked.now.options.nodes }
-    ensures answer { let failed = FailedLast S.fetched S.faults shelf.old shelf.new in
-        (answer_of result ≡ refused no_memory)
-        ⊎ IsPlanAnswer (S.held shelf.old) failed (plan_words_of asked.now) (answer_of result) }
-    ensures fetches { let failed = FailedLast S.fetched S.faults shelf.old shelf.new in
-        FetchesToPlan (S.held shelf.old) failed S.fetched (plan_words_of asked.now)
-        (answer_of result) shelf.old shelf.new }
-    ensures shelf { KeepsShelf S.held S.faults (answer_of result) shelf.old shelf.new }
-{
-    let (domain, problem) = read_both(alloc, shelf, asked.domain, asked.problem)?;
-    plan_problem(alloc, asked, &domain, &problem)
+/// The command `plan`: the plan for the domain and the problem in two files, or that there is none.
+#[derive(Drop)]
+pub struct PlanJob<'a> {
+    pub asked: PlanWords<'a>,
 }
 
-/// The plan for a problem, whose goal is to be one for plans of the kind.
-fn plan_problem(
-    alloc: Global,
-    asked: &PlanWords,
-    domain: &Domain,
-    problem: &Problem,
-) -> Result<Shown, Refusal>
-    requires room { IsNodeLimit asked.now.options.nodes }
-    requires fits_domain { FitsDomain (domain_value domain.now) }
-    requires fits_problem { FitsProblem (domain_value domain.now) (problem_value problem.now) }
-    requires names { NamesAreWords (domain_value domain.now) (problem_value problem.now) }
-    ensures { let asked = plan_words_of asked.now in
-        (answer_of result ≡ refused no_memory)
-        ⊎ (MayBeTooFew asked (domain_value domain.now) (problem_value problem.now)
-        × (answer_of result ≡ refused (full asked.options.nodes)))
-        ⊎ IsPlanned asked (domain_value domain.now) (problem_value problem.now)
-        (answer_of result) }
-{
-    check_goal(alloc, asked.kind, asked.problem, problem)?;
-    let grounded = ground_both(alloc, domain, problem)?;
-    plan_grounded(alloc, asked, domain, problem, &grounded)
+impl Job for PlanJob<'_> {
+    ghost use Rattle.command_base.specs.Loading.{IsLoaded};
+    ghost use Rattle.command_base.specs.Values.{kind_of, plan_words_of};
+    ghost use Rattle.command_base.specs.Words.{IsNodeLimit};
+    ghost use Rattle.pddl_ast.specs.Values.{domain_value, problem_value};
+    ghost use Rattle.plan_command.specs.PlanCommand.{PlannedThen, plan_course};
+    ghost use Rattle.std.specs.Prelude.{Some};
+
+    type Loaded = LoadedTask;
+
+    ghost course = { λ self. plan_course (plan_words_of self.asked) };
+
+    ghost allowed = { λ self. IsNodeLimit self.asked.options.nodes };
+
+    ghost fits = { λ self loaded. IsLoaded (Some (kind_of self.asked.kind)) loaded };
+
+    ghost follows = { λ self loaded. PlannedThen (plan_words_of self.asked)
+        (domain_value loaded.domain) (problem_value loaded.problem) };
+
+    fn load<S: Shelf>(&self, alloc: Global, shelf: &mut S) -> Result<LoadedTask, Refusal> {
+        let files = TaskFiles {
+            domain: self.asked.domain,
+            problem: self.asked.problem,
+            goal: Some(self.asked.kind),
+        };
+        let loaded = load(alloc, shelf, &files)?;
+        Ok(loaded)
+    }
+
+    fn answer(self, alloc: Global, loaded: LoadedTask) -> Result<Shown, Refusal> {
+        let LoadedTask {
+            domain,
+            problem,
+            grounded,
+        } = &loaded;
+        plan_grounded(alloc, &self.asked, domain, problem, grounded)
+    }
 }
 
 /// The plan for a task and its goals, which are those of the domain and the problem.

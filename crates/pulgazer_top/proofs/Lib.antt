@@ -1,5 +1,4 @@
 mod Answering
-mod FetchedFiles
 mod NodeNumbers
 mod Pushing
 mod Scanning

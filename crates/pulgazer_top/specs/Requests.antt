@@ -1,5 +1,6 @@
 -- Which command lines ask for what.
 use Rattle.std.specs.Prelude.{◌&&◌, ◌||◌, Bool, true, false, ℕ, if◌then◌else◌, List, [], ◌∷◌, Option, None, Some, Result, Ok, Err, codes, decimal, is_some, nat_le}
+use Rattle.std.specs.Option.{option_map}
 use Rattle.std.specs.Str.{bytes_eq}
 use Rattle.std.specs.Str.Parse.{digits_value}
 use Rattle.command_base.specs.Words.{Bytes, PlanKind, default_nodes, most_nodes, of_class, with_contexts}
@@ -9,7 +10,8 @@ use Rattle.controller_code.specs.declared.texts.Language.TheVariants.{C, Python,
 use Rattle.control_command.specs.declared.words.Form.{Form}
 use Rattle.control_command.specs.declared.words.Form.TheVariants.{Code as AsCode, Json as AsJson, Text}
 use Rattle.control_command.specs.declared.words.Shape.{Shape}
-use Rattle.draw_command.specs.Words.{PictureForm, as_graph, as_graph_with, as_page, as_page_with, as_rules}
+use Rattle.draw_command.specs.declared.words.PictureForm.{PictureForm}
+use Rattle.draw_command.specs.declared.words.PictureForm.TheVariants.{Graph, Page as PageForm, Rules as RulesForm}
 use Rattle.explain_command.specs.declared.words.ShownAs.{ShownAs}
 use Rattle.explain_command.specs.declared.words.ShownAs.TheVariants.{Document, Run, Verdict}
 use Rattle.task_core.specs.declared.classes.Class.TheVariants.{Cyclic, Strong, Weak}
@@ -229,24 +231,27 @@ trace_asked (a ∷ b ∷ c ∷ []) = Err (operand_mistake (operand_names Trace) 
 trace_asked (a ∷ b ∷ c ∷ d ∷ e ∷ more) =
     Err (operand_mistake (operand_names Trace) (a ∷ b ∷ c ∷ d ∷ e ∷ more))
 
--- `draw DOMAIN PROBLEM PLAN`: rule by rule, or with the run of an explanation, or as a page
-abbrev pub drawn_for : Bool → Option Bytes → PictureForm
-drawn_for false None = as_graph
-drawn_for false (Some file) = as_graph_with (as_file file)
-drawn_for true None = as_page
-drawn_for true (Some file) = as_page_with (as_file file)
-
-abbrev pub drawn_said : List Said → Result PictureForm Mistake
-drawn_said options =
+-- `draw DOMAIN PROBLEM PLAN`: rule by rule, or as a page; else with the run of an explanation too
+abbrev pub form_drawn : List Said → Result PictureForm Mistake
+form_drawn options =
     if is_said options Rules then
     (if is_said options Page || is_said options Explanation
-    then Err (mistake (option_word Rules) Alone) else Ok as_rules)
-    else Ok (drawn_for (is_said options Page) (value_of options (option_word Explanation)))
+    then Err (mistake (option_word Rules) Alone) else Ok RulesForm)
+    else Ok (if is_said options Page then PageForm else Graph)
+
+abbrev pub explanation_said : List Said → Option Bytes
+explanation_said options = option_map as_file (value_of options (option_word Explanation))
 
 abbrev pub draw_for : Bytes → Bytes → Bytes → List Said → Result Asked Mistake
 draw_for domain problem plan options =
-    and_then (drawn_said options) (λ form.
-    Ok (draw (record { domain = domain; problem = problem; plan = plan; form = form })))
+    and_then (form_drawn options) (λ form.
+    Ok (draw (record {
+      domain = domain;
+      problem = problem;
+      plan = plan;
+      form = form;
+      explanation = explanation_said options;
+    })))
 
 abbrev pub draw_asked : List Bytes → List Said → Result Asked Mistake
 draw_asked (domain ∷ problem ∷ plan ∷ []) options = draw_for domain problem plan options
@@ -280,12 +285,12 @@ input_again (word ∷ words) = (is_input word && has_input words) || input_again
 
 abbrev pub is_input_value : Option Bytes → Bool
 is_input_value None = false
-is_input_value (Some word) = is_input (as_file word)
+is_input_value (Some file) = is_input file
 
 abbrev pub reads_input_twice : List Bytes → List Said → Bool
 reads_input_twice operands options =
     input_again operands
-    || (has_input operands && is_input_value (value_of options (option_word Explanation)))
+    || (has_input operands && is_input_value (explanation_said options))
 
 abbrev pub as_request : Subcommand → Result Asked Mistake → Request
 as_request sub (Ok asked) = asks asked

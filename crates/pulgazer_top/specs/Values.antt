@@ -4,9 +4,7 @@ use Rattle.command_base.specs.Values.{kind_of, plan_words_of, replay_words_of}
 use Rattle.command_base.specs.Words.{PlanKind}
 use Rattle.command_base.specs.declared.words.PlanKind.{PlanKind as CodePlanKind}
 use Rattle.control_command.specs.Values.{request_value}
-use Rattle.draw_command.specs.Values.{form_value, picture_words_of}
-use Rattle.draw_command.specs.Words.{PictureForm}
-use Rattle.draw_command.specs.declared.words.PictureForm.{PictureForm as CodePictureForm}
+use Rattle.draw_command.specs.Values.{picture_words_of}
 use Rattle.explain_command.specs.Values.{explain_words_of}
 use Rattle.lint_command.specs.Values.{mistakes_words_of}
 use Rattle.pulgazer_top.specs.Asked.{Asked, Request, asks, control, draw, fails, helps, judge, lint, trace, why}
@@ -72,9 +70,6 @@ judge_result = result_of judge_of
 
 abbrev pub kind_result : Result CodePlanKind CodeMistake → Result PlanKind Mistake
 kind_result = result_of kind_of
-
-abbrev pub drawn_result : Result CodePictureForm CodeMistake → Result PictureForm Mistake
-drawn_result = result_of form_value
 
 abbrev pub plain_result : {A : Type 0} → Result A CodeMistake → Result A Mistake
 plain_result = result_of (λ found. found)

@@ -1,24 +1,22 @@
 //! The answer to what is asked for.
 
-ghost use Rattle.command_base.specs.Answers.{no_memory, refused};
-ghost use Rattle.command_base.specs.Shelves.{KeepsShelf};
+ghost use Rattle.command_base.specs.Courses.{CarriedOut};
 ghost use Rattle.command_base.specs.Values.{answer_of};
-ghost use Rattle.plan_io.specs.Fetches.{FailedLast};
 ghost use Rattle.pulgazer_top.specs.Allowed.{IsAllowed};
-ghost use Rattle.pulgazer_top.specs.Runs.{FetchesFor, IsAnswer, exit_status as exit_for};
+ghost use Rattle.pulgazer_top.specs.Runs.{course_of, exit_status as exit_for};
 ghost use Rattle.pulgazer_top.specs.Values.{asked_of};
-ghost use Rattle.std.specs.Prelude.{◌≡◌, ◌⊎◌};
+ghost use Rattle.std.specs.Prelude.{◌≡◌};
 
 use crate::requests::Asked;
-use command_base::{Refusal, Shown};
-use control_command::controller;
-use draw_command::picture_files;
-use explain_command::explain_files;
-use lint_command::mistakes_in_files;
+use command_base::{Refusal, Shown, carry_out};
+use control_command::{ControlJob, ControlRequest, FairJob};
+use draw_command::DrawJob;
+use explain_command::ExplainJob;
+use lint_command::LintJob;
 use plan_io::Shelf;
 use std::alloc::Global;
-use trace_command::trace_files;
-use why_command::why_files;
+use trace_command::TraceJob;
+use why_command::WhyJob;
 
 /// The exit status where the answer is no.
 const NO: u8 = 1;
@@ -33,21 +31,19 @@ pub(crate) fn answer<S: Shelf>(
     asked: &Asked<'_>,
 ) -> Result<Shown, Refusal>
     requires { IsAllowed (asked_of asked.now) }
-    ensures answer { let failed = FailedLast S.fetched S.faults shelf.old shelf.new in
-        (answer_of result ≡ refused no_memory)
-        ⊎ IsAnswer (S.held shelf.old) failed (asked_of asked.now) (answer_of result) }
-    ensures fetches { let failed = FailedLast S.fetched S.faults shelf.old shelf.new in
-        FetchesFor (S.held shelf.old) failed S.fetched (asked_of asked.now) (answer_of result)
+    ensures { CarriedOut S.held S.faults S.fetched (course_of (asked_of asked.now)) (answer_of result)
         shelf.old shelf.new }
-    ensures shelf { KeepsShelf S.held S.faults (answer_of result) shelf.old shelf.new }
 {
-    match asked {
-        Asked::Control(asked) => controller(alloc, shelf, asked),
-        Asked::Judge(asked) => explain_files(alloc, shelf, asked),
-        Asked::Why(asked) => why_files(alloc, shelf, asked),
-        Asked::Lint(asked) => mistakes_in_files(alloc, shelf, asked),
-        Asked::Trace(asked) => trace_files(alloc, shelf, asked),
-        Asked::Draw(asked) => picture_files(alloc, shelf, asked),
+    match *asked {
+        Asked::Control(ControlRequest::Plan(asked)) => {
+            carry_out(alloc, shelf, ControlJob { asked })
+        }
+        Asked::Control(ControlRequest::Fair(asked)) => carry_out(alloc, shelf, FairJob { asked }),
+        Asked::Judge(asked) => carry_out(alloc, shelf, ExplainJob { asked }),
+        Asked::Why(asked) => carry_out(alloc, shelf, WhyJob { asked }),
+        Asked::Lint(asked) => carry_out(alloc, shelf, LintJob { asked }),
+        Asked::Trace(asked) => carry_out(alloc, shelf, TraceJob { asked }),
+        Asked::Draw(asked) => carry_out(alloc, shelf, DrawJob { asked }),
     }
 }
 

@@ -2,7 +2,6 @@
 
 ghost use Rattle.command_base.specs.Values.{kind_of};
 ghost use Rattle.control_command.specs.Values.{request_value};
-ghost use Rattle.draw_command.specs.Values.{form_value};
 ghost use Rattle.pulgazer_top.specs.Requests.{
   as_request as the_request,
   by_kind as by_one_kind,
@@ -14,9 +13,9 @@ ghost use Rattle.pulgazer_top.specs.Requests.{
   control_request as control_of,
   draw_asked as picture_wanted,
   draw_for as picture_with,
-  drawn_for as form_drawn,
-  drawn_said as form_of_picture,
+  explanation_said as explanation_wanted,
   explained_as as explained_by,
+  form_drawn as form_of_picture,
   form_for as form_with,
   form_said as form_wanted,
   has_certificates as may_be_certified,
@@ -50,7 +49,6 @@ ghost use Rattle.pulgazer_top.specs.Requests.{
 ghost use Rattle.pulgazer_top.specs.Values.{
   asked_of,
   asked_result,
-  drawn_result,
   given_of,
   judge_of,
   judge_result,
@@ -62,7 +60,7 @@ ghost use Rattle.pulgazer_top.specs.Values.{
   scan_of,
 };
 ghost use Rattle.pulgazer_top.specs.Scans.{value_of};
-ghost use Rattle.std.specs.Option.{option_map};
+ghost use Rattle.std.specs.Option.{option_copied, option_map};
 ghost use Rattle.std.specs.Prelude.{◌≡◌, ◌↔◌, IfOk, IsTrue, MatchOption, true, decimal, map, string_bytes, ℕ};
 ghost use Rattle.command_base.specs.Words.{IsNodeLimit, MayBeCertified, with_contexts};
 ghost use Rattle.pulgazer_top.specs.Allowed.{IsAllowed, IsControlAllowed, IsRequestAllowed};
@@ -460,18 +458,19 @@ fn draw_for<'a>(
         ≡ picture_with domain.now problem.now plan.now (map said_of options.now) }
     ensures allowed { IfOk result (λ asked. IsAllowed (asked_of asked)) }
 {
-    let form = drawn_said(options)?;
+    let form = form_drawn(options)?;
     Ok(Asked::Draw(PictureWords {
         domain,
         problem,
         plan,
         form,
+        explanation: explanation_said(options),
     }))
 }
 
 /// How the plan is to be shown.
-fn drawn_said<'a>(options: &[Said<'a>]) -> Result<PictureForm<'a>, Mistake<'a>>
-    ensures { drawn_result result ≡ form_of_picture (map said_of options.now) }
+fn form_drawn<'a>(options: &[Said<'a>]) -> Result<PictureForm, Mistake<'a>>
+    ensures { plain_result result ≡ form_of_picture (map said_of options.now) }
 {
     if is_said(options, CommandOption::Rules) {
         if is_said(options, CommandOption::Page) || is_said(options, CommandOption::Explanation) {
@@ -482,20 +481,19 @@ fn drawn_said<'a>(options: &[Said<'a>]) -> Result<PictureForm<'a>, Mistake<'a>>
         }
         return Ok(PictureForm::Rules);
     }
-    Ok(drawn_for(
-        is_said(options, CommandOption::Page),
-        value_said(options, CommandOption::Explanation.word()),
-    ))
+    if is_said(options, CommandOption::Page) {
+        return Ok(PictureForm::Page);
+    }
+    Ok(PictureForm::Graph)
 }
 
-fn drawn_for<'a>(page: bool, explanation: Option<&'a str>) -> PictureForm<'a>
-    ensures { form_value result ≡ form_drawn page (option_map (λ file. file.now) explanation.entry) }
+/// The file of the explanation whose run is to be shown.
+fn explanation_said<'a>(options: &[Said<'a>]) -> Option<&'a str>
+    ensures { option_copied result ≡ explanation_wanted (map said_of options.now) }
 {
-    match (page, explanation) {
-        (false, None) => PictureForm::Graph,
-        (false, Some(file)) => PictureForm::GraphWith(file_named(file)),
-        (true, None) => PictureForm::Page,
-        (true, Some(file)) => PictureForm::PageWith(file_named(file)),
+    match value_said(options, CommandOption::Explanation.word()) {
+        Some(word) => Some(file_named(word)),
+        None => None,
     }
 }
 
@@ -709,9 +707,7 @@ fn surplus<'a>(operands: &[&'a str]) -> Mistake<'a>
 fn reads_input_twice(operands: &[&str], options: &[Said<'_>]) -> bool
     ensures { result ≡ input_is_twice (map (λ word. word.now) operands.now) (map said_of options.now) }
 {
-    input_again(operands)
-        || (has_input(operands)
-            && is_input_value(value_said(options, CommandOption::Explanation.word())))
+    input_again(operands) || (has_input(operands) && is_input_value(explanation_said(options)))
 }
 
 fn is_input_value(file: Option<&str>) -> bool
@@ -719,7 +715,7 @@ fn is_input_value(file: Option<&str>) -> bool
 {
     match file {
         None => false,
-        Some(word) => is_input(file_named(word)),
+        Some(file) => is_input(file),
     }
 }
 

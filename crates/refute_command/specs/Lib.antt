@@ -1,3 +1,2 @@
-pub mod RefuteFetches
 pub mod FoundVerdicts
 pub mod RefuteCommand

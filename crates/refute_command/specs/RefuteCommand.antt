@@ -1,5 +1,5 @@
 -- The command `refute`: the verdict on a certificate that there is no plan of a class.
-use Rattle.std.specs.Prelude.{◌≡◌, ℕ, ◌+◌, ◌*◌, ◌<◌, ◌⊎◌, ◌++◌, List, [], IsSome, None, codes, true}
+use Rattle.std.specs.Prelude.{◌≡◌, ℕ, ◌+◌, ◌*◌, ◌<◌, ◌⊎◌, ◌++◌, List, [], IsSome, None, Some, codes, true}
 use Rattle.dd_nodes.specs.Subfunctions.{nodes as node_count}
 use Rattle.dd_sets.specs.Frames.{Owns}
 use Rattle.dd_sets.specs.LiveSets.{live_sets}
@@ -30,6 +30,7 @@ use Rattle.task_core.specs.declared.tasks.Task.{Task}
 use Rattle.command_base.specs.Answers.{Answer, Refusal, affirmed, denied, full, refused, text_fault}
 use Rattle.task_sets.specs.FullTables.{IsFull, IsFullForBoth, IsTightToEncodeBoth}
 use Rattle.task_sets.specs.NodeRoom.{IsTightLimit}
+use Rattle.command_base.specs.Courses.{Course, answers, of_file, task_course}
 use Rattle.command_base.specs.Grounded.{IsTaskOf}
 use Rattle.command_base.specs.Grounding.{GoalThen, GroundThen, for_tables, has_goal_for}
 use Rattle.command_base.specs.InitialStates.{InitialThen, empty_init}
@@ -162,3 +163,19 @@ abbrev pub IsRefuteAnswer : (Bytes → Held) → (Bytes → Type 0) → RefuteWo
 IsRefuteAnswer held failed asked answer =
     (MayRefuteRunOut held asked × (answer ≡ refused (full asked.options.nodes)))
     ⊎ ReadBoth held failed asked.domain asked.problem (IsRefuted held failed asked) answer
+
+-- the answer once the certificate is read: that the table of nodes is full, where it may be, or the verdict
+abbrev pub JudgedThen : RefuteWords → DomainTree → ProblemTree → PlainCertificate → Answer → Type 0
+JudgedThen asked domain problem certificate answer =
+    (IsTightVerdict asked.options.nodes domain problem certificate
+    × ((system domain problem).initial ≡ [] → IsTightToEncodeBoth asked.options.nodes domain problem)
+    × (answer ≡ refused (full asked.options.nodes)))
+    ⊎ JudgeThen asked domain problem certificate answer
+
+-- the course of the command: a goal by reachability is wanted, and the certificate is read
+abbrev pub refute_course : RefuteWords → Course
+refute_course asked =
+    task_course asked.domain asked.problem (Some for_tables) (λ domain problem.
+    of_file asked.certificate (SpellsPlain (fluent_names domain problem))
+    (HasCertificateFault (fluent_names domain problem)) (λ certificate.
+    answers (JudgedThen asked domain problem certificate)))

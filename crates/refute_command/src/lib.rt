@@ -1,8 +1,8 @@
 //! The command `refute`: the verdict on a certificate that there is no plan. `specs/RefuteCommand` says
-//! its answers, and `specs/RefuteFetches` which files it fetches. No planner.
+//! its answers. No planner.
 #![tactic(auto)]
 
 mod certificate_files;
 mod refute_command;
 
-pub use refute_command::refute_files;
+pub use refute_command::{LoadedCertificate, RefuteJob};

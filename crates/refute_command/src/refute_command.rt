@@ -1,39 +1,30 @@
 //! The command `refute`.
 
 ghost use Rattle.command_base.specs.Answers.{full, no_memory, refused};
-ghost use Rattle.command_base.specs.Fetching.{Stops};
-ghost use Rattle.command_base.specs.Grounding.{GoalThen, GroundThen, for_tables, has_goal_for};
 ghost use Rattle.command_base.specs.InitialStates.{InitialThen, empty_init};
-ghost use Rattle.command_base.specs.Shelves.{KeepsShelf};
-ghost use Rattle.command_base.specs.Values.{answer_of, refute_words_of, shown_of};
+ghost use Rattle.command_base.specs.Values.{answer_of, shown_of};
 ghost use Rattle.command_base.specs.Words.{IsNodeLimit};
-ghost use Rattle.pddl_ast.specs.Fits.{FitsDomain, FitsProblem};
-ghost use Rattle.pddl_ast.specs.Values.{domain_value, problem_value};
-ghost use Rattle.pddl_system.specs.Names.{NamesAreWords};
-ghost use Rattle.pddl_system.specs.Sizes.{first_passed};
+ghost use Rattle.pddl_ast.specs.Values.{problem_value};
 ghost use Rattle.plan_certs.specs.Named.{IsCertificateOf, plain_certificate};
-ghost use Rattle.plan_io.specs.Fetches.{FailedLast, Fetches};
-ghost use Rattle.refute_command.specs.FoundVerdicts.{IsJudgedFrom, IsRefutedOrFull};
+ghost use Rattle.refute_command.specs.FoundVerdicts.{IsJudgedFrom};
 ghost use Rattle.refute_command.specs.RefuteCommand.{
-  IsRefuteAnswer,
   IsTightToJudge,
   IsToBeJudged,
   ShowsJudged,
   judged_answer,
 };
-ghost use Rattle.refute_command.specs.RefuteFetches.{FetchesToRefute};
-ghost use Rattle.std.specs.Prelude.{◌≡◌, ◌⊎◌, [], ◌∷◌, IsErrOf, IsSome, None, true};
+ghost use Rattle.std.specs.Prelude.{◌≡◌, ◌⊎◌, [], IsErrOf, IsSome};
 ghost use Rattle.task_core.specs.Tasks.{fluent_count, initial_states, system_of};
 ghost use Rattle.task_sets.specs.FullTables.{IsTightToEncode};
 
 use crate::certificate_files::read_certificate_file;
 use cert_check::{Flaw, Judged, refute};
 use command_base::{
-    PlanKind, Refusal, RefuteWords, Shown, Text, check_goal, ground_both, no_initial, read_both,
+    Job, LoadedTask, PlanKind, Refusal, RefuteWords, Shown, TaskFiles, Text, load, no_initial,
 };
 use dd_sets::{SetErr, tight_is_monotone};
 use encode_task::{Enc, kept_sets_bound_nodes};
-use pddl_ast::{Domain, Problem};
+use pddl_ast::Problem;
 use plan_certs::Certificate;
 use plan_io::Shelf;
 use plan_rules::Class;
@@ -41,54 +32,64 @@ use std::alloc::Global;
 use task_core::Task;
 use task_sets::{SetSearch, search_in_tries};
 
-/// The verdict on the certificate in a file, for the domain and the problem in two files.
-pub fn refute_files<S: Shelf>(
-    alloc: Global,
-    shelf: &mut S,
-    asked: &RefuteWords,
-) -> Result<Shown, Refusal>
-    requires room { IsNodeLimit asked.now.options.nodes }
-    ensures answer { let failed = FailedLast S.fetched S.faults shelf.old shelf.new in
-        (answer_of result ≡ refused no_memory)
-        ⊎ IsRefuteAnswer (S.held shelf.old) failed (refute_words_of asked.now)
-        (answer_of result) }
-    ensures fetches { let failed = FailedLast S.fetched S.faults shelf.old shelf.new in
-        FetchesToRefute (S.held shelf.old) failed S.fetched (refute_words_of asked.now)
-        (answer_of result) shelf.old shelf.new }
-    ensures shelf { KeepsShelf S.held S.faults (answer_of result) shelf.old shelf.new }
-{
-    let (domain, problem) = read_both(alloc, shelf, asked.domain, asked.problem)?;
-    refute_problem(alloc, shelf, asked, &domain, &problem)
+/// The command `refute`: the verdict on the certificate in a file, for the domain and the problem in two
+/// files.
+#[derive(Drop)]
+pub struct RefuteJob<'a> {
+    pub asked: RefuteWords<'a>,
 }
 
-/// The verdict on the certificate in a file, for a domain and a problem.
-fn refute_problem<S: Shelf>(
-    alloc: Global,
-    shelf: &mut S,
-    asked: &RefuteWords,
-    domain: &Domain,
-    problem: &Problem,
-) -> Result<Shown, Refusal>
-    requires room { IsNodeLimit asked.now.options.nodes }
-    requires fits_domain { FitsDomain (domain_value domain.now) }
-    requires fits_problem { FitsProblem (domain_value domain.now) (problem_value problem.now) }
-    requires names { NamesAreWords (domain_value domain.now) (problem_value problem.now) }
-    ensures answer { let failed = FailedLast S.fetched S.faults shelf.old shelf.new in
-        IsRefutedOrFull (S.held shelf.old) failed (refute_words_of asked.now)
-        (domain_value domain.now) (problem_value problem.now) (answer_of result) }
-    ensures fetches { let asked = refute_words_of asked.now in
-        (Stops (GoalThen for_tables asked.problem (problem_value problem.now)
-        (GroundThen (domain_value domain.now) (problem_value problem.now) (λ answer. ⊥)))
-        (answer_of result) × (shelf.new ≡ shelf.old))
-        ⊎ (((has_goal_for for_tables (problem_value problem.now) ≡ true)
-        × (first_passed (domain_value domain.now) (problem_value problem.now) ≡ None))
-        × Fetches S.fetched (asked.certificate ∷ []) shelf.old shelf.new) }
-    ensures shelf { KeepsShelf S.held S.faults (answer_of result) shelf.old shelf.new }
-{
-    check_goal(alloc, PlanKind::Class(Class::Weak), asked.problem, problem)?;
-    let grounded = ground_both(alloc, domain, problem)?;
-    let read = read_certificate_file(alloc, shelf, asked.certificate, &grounded.task)?;
-    judge_certificate(alloc, asked, problem, &grounded.task, &read.certificate)
+/// A task, and a certificate over its fluents.
+#[derive(Drop)]
+pub struct LoadedCertificate {
+    pub task: LoadedTask,
+    pub certificate: Certificate,
+}
+
+impl Job for RefuteJob<'_> {
+    ghost use Rattle.command_base.specs.Values.{refute_words_of};
+    ghost use Rattle.command_base.specs.Words.{IsNodeLimit};
+    ghost use Rattle.pddl_ast.specs.Values.{domain_value, problem_value};
+    ghost use Rattle.plan_certs.specs.Named.{plain_certificate};
+    ghost use Rattle.refute_command.specs.FoundVerdicts.{IsToBeRefuted};
+    ghost use Rattle.refute_command.specs.RefuteCommand.{JudgedThen, refute_course};
+
+    type Loaded = LoadedCertificate;
+
+    ghost course = { λ self. refute_course (refute_words_of self.asked) };
+
+    ghost allowed = { λ self. IsNodeLimit self.asked.options.nodes };
+
+    ghost fits = { λ self loaded. IsToBeRefuted loaded };
+
+    ghost follows = { λ self loaded. JudgedThen (refute_words_of self.asked)
+        (domain_value loaded.task.domain) (problem_value loaded.task.problem)
+        (plain_certificate loaded.certificate) };
+
+    fn load<S: Shelf>(&self, alloc: Global, shelf: &mut S) -> Result<LoadedCertificate, Refusal> {
+        let files = TaskFiles {
+            domain: self.asked.domain,
+            problem: self.asked.problem,
+            goal: Some(PlanKind::Class(Class::Weak)),
+        };
+        let task = load(alloc, shelf, &files)?;
+        let read = read_certificate_file(alloc, shelf, self.asked.certificate, &task)?;
+        Ok(LoadedCertificate {
+            task,
+            certificate: read.certificate,
+        })
+    }
+
+    fn answer(self, alloc: Global, loaded: LoadedCertificate) -> Result<Shown, Refusal> {
+        let LoadedCertificate { task, certificate } = &loaded;
+        judge_certificate(
+            alloc,
+            &self.asked,
+            &task.problem,
+            &task.grounded.task,
+            certificate,
+        )
+    }
 }
 
 /// The verdict on a certificate that was read.

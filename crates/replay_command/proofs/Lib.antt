@@ -1,4 +1,3 @@
-pub mod RunFetched
 pub mod ReplayAnswers
 pub mod ReplayDecides
 pub mod ReplayRuns

@@ -1,5 +1,5 @@
 -- The four files, and what the monitors show, decide the answer of `replay`.
-use Rattle.std.proofs.Common.{◌≡◌, ◌≢◌, ℕ, List, [], ◌∷◌, true, inl, inr, refl, sym, subst, ap, ◌∙◌, arith, rules}
+use Rattle.std.proofs.Common.{◌≡◌, ◌≢◌, ℕ, List, None, [], ◌∷◌, true, inl, inr, refl, sym, subst, ap, ◌∙◌, arith, rules}
 use Rattle.std.specs.List.{All}
 use Rattle.std.proofs.lemmas.List.Elements.{All-head, All-tail}
 use Rattle.std.proofs.Props.{props}
@@ -7,10 +7,11 @@ use mathlib.Core.HLevel.{is_prop→PathP}
 use Rattle.pddl_ast.specs.Trees.{DomainTree, ProblemTree}
 use Rattle.pddl_system.specs.Systems.{action_names, fluent_names, system}
 use Rattle.plan_io.specs.Held.{Held, Untold}
-use Rattle.run_replay.specs.Records.{RecordTree, SpellsRecord, record_passes, recorded_in}
+use Rattle.run_replay.specs.Records.{HasRecordFault, RecordTree, SpellsRecord, record_passes, recorded_in}
 use Rattle.run_replay.specs.Runs.{IsStepOf, step_value, steps_value}
 use Rattle.run_replay.specs.Traces.{Trace, TraceStep}
 use Rattle.run_replay.specs.declared.worlds.Step.{Step}
+use Rattle.plan_rules.specs.Rules.{PlainPlan}
 use Rattle.sexpr_text.proofs.PassLaws.{not_both, one_fault_by}
 use Rattle.task_core.proofs.StateLists.{same_as_vectors, state_eq}
 use Rattle.task_core.proofs.Vectors.{same_vector_refl}
@@ -23,14 +24,15 @@ use Rattle.task_core.specs.declared.states.State.{State}
 use Rattle.command_base.specs.Answers.{Answer, Refusal, text_fault}
 use Rattle.command_base.specs.Following.{HasTooManyStates}
 use Rattle.command_base.specs.InitialStates.{empty_init}
-use Rattle.command_base.specs.PlanFiles.{IsFaultyPlan, PlacedPlan, SpellsPlaced}
-use Rattle.replay_command.specs.ReplayCommand.{AreToldAs, FirstThen, IsFaultyRecord, IsReplay, IsReplayAnswer, IsReplayed, NumberThen, RecordThen, ReplayThen, Tallies, ended_answer, replay_text, trace_under}
+use Rattle.command_base.specs.Courses.{Course, IsFaulty, answers, of_file, of_plan}
+use Rattle.command_base.specs.PlanFiles.{PlacedPlan}
+use Rattle.replay_command.specs.ReplayCommand.{AreToldAs, FirstThen, IsReplayAnswer, IsReplayed, NumberThen, RunThen, Tallies, ended_answer, replay_text, trace_under}
 use Rattle.command_base.specs.Words.{Bytes, ReplayWords}
-use Rattle.command_base.proofs.PlanDecides.{plan_grammar}
+use Rattle.command_base.proofs.PlanDecides.{plan_file_decides}
 use Rattle.command_base.proofs.Deciding.{Decides, IsGrammar, read_decides}
 use Rattle.command_base.proofs.Initials.{initial_decides}
 use Rattle.command_base.specs.OneReading.{OneReading}
-use Rattle.command_base.proofs.PddlDecides.{both_decides, ground_decides}
+use Rattle.command_base.proofs.PddlDecides.{task_decides}
 
 -- states with the same values of the first n fluents, and no other true, are the same
 bits_same : (a b : State) → state_eq a b ≡ true → a.bits ≡ b.bits
@@ -80,7 +82,7 @@ replayed_decides tallies sys actions trace a b is is' =
     is.shown ∙ ap (λ (told : List Step). ended_answer (replay_text tallies actions trace told) trace.ending) (told_once sys trace.steps is.told is'.told is.steps is'.steps)
     ∙ sym is'.shown
 
-pub record_grammar : OneReading → IsGrammar SpellsRecord IsFaultyRecord
+pub record_grammar : OneReading → IsGrammar SpellsRecord (IsFaulty HasRecordFault)
 record_grammar one = record {
   one_tree = λ bytes x y spells spells'. sym spells.3 ∙ ap recorded_in (one.one_forest bytes spells.0 spells'.0 spells.1 spells'.1) ∙ spells'.3;
   one_refusal = λ name bytes r s wrong other. wrong.2 ∙ ap (text_fault name) (one_fault_by record_passes bytes wrong.0 other.0 wrong.1 other.1) ∙ sym other.2;
@@ -106,35 +108,20 @@ first_decides TooMany empty states name recorded Then next a b (inr (few, then))
 first_decides TooMany empty states name recorded Then next a b (inr (few, then)) (inr (few', then')) =
     initial_decides empty states (NumberThen states name recorded Then) (number_decides states name recorded Then next) a b then then'
 
-record_decides : OneReading → (held : Bytes → Held) (failed failed' : Bytes → Type 0) (tallies : Tallies) (name : Bytes) (actions : List Name) (d : DomainTree) (p : ProblemTree) (empty : Refusal) (placed : PlacedPlan)
-    → held name ≢ Untold → ((file : Bytes) → failed file → ⊥) → ((file : Bytes) → failed' file → ⊥)
-    → Decides (RecordThen held failed tallies name actions (HasTooManyStates d p) empty (system d p) placed.plan) (RecordThen held failed' tallies name actions (HasTooManyStates d p) empty (system d p) placed.plan)
-record_decides one held failed failed' tallies name actions d p empty placed told quiet quiet' =
-    let sys = system d p in
-    let Then : RecordTree → Answer → Type 0 = λ recorded. FirstThen (HasTooManyStates d p) empty sys.initial name recorded (λ first.
-    IsReplayed tallies sys actions (trace_under sys placed.plan first recorded.words)) in
-    read_decides held failed failed' name SpellsRecord IsFaultyRecord Then Then told (quiet name) (quiet' name) (record_grammar one) (λ recorded holds.
-    first_decides (HasTooManyStates d p) empty sys.initial name recorded (λ first. IsReplayed tallies sys actions (trace_under sys placed.plan first recorded.words))
-    (λ first. replayed_decides tallies sys actions (trace_under sys placed.plan first recorded.words)))
-
-replay_then_decides : OneReading → (held : Bytes → Held) (failed failed' : Bytes → Type 0) (tallies : Tallies) (asked : ReplayWords) (d : DomainTree) (p : ProblemTree)
-    → held asked.plan ≢ Untold → held asked.recorded ≢ Untold → ((file : Bytes) → failed file → ⊥) → ((file : Bytes) → failed' file → ⊥)
-    → Decides (ReplayThen held failed tallies asked (fluent_names d p) (action_names d p) (HasTooManyStates d p) (empty_init asked.problem p) (system d p))
-    (ReplayThen held failed' tallies asked (fluent_names d p) (action_names d p) (HasTooManyStates d p) (empty_init asked.problem p) (system d p))
-replay_then_decides one held failed failed' tallies asked d p told told' quiet quiet' =
-    read_decides held failed failed' asked.plan (SpellsPlaced (fluent_names d p) (action_names d p)) (IsFaultyPlan (fluent_names d p) (action_names d p))
-    (λ placed. RecordThen held failed tallies asked.recorded (action_names d p) (HasTooManyStates d p) (empty_init asked.problem p) (system d p) placed.plan)
-    (λ placed. RecordThen held failed' tallies asked.recorded (action_names d p) (HasTooManyStates d p) (empty_init asked.problem p) (system d p) placed.plan)
-    told (quiet asked.plan) (quiet' asked.plan) (plan_grammar one (fluent_names d p) (action_names d p)) (λ placed holds.
-    record_decides one held failed failed' tallies asked.recorded (action_names d p) d p (empty_init asked.problem p) placed told' quiet quiet')
+run_then_decides : (tallies : Tallies) (asked : ReplayWords) (d : DomainTree) (p : ProblemTree) (plan : PlainPlan) (recorded : RecordTree)
+    → Decides (RunThen tallies asked d p plan recorded) (RunThen tallies asked d p plan recorded)
+run_then_decides tallies asked d p plan recorded =
+    first_decides (HasTooManyStates d p) (empty_init asked.problem p) (system d p).initial asked.recorded recorded
+    (λ first. IsReplayed tallies (system d p) (action_names d p) (trace_under (system d p) plan first recorded.words))
+    (λ first. replayed_decides tallies (system d p) (action_names d p) (trace_under (system d p) plan first recorded.words))
 
 pub replay_decides : OneReading → (held : Bytes → Held) (failed failed' : Bytes → Type 0) (tallies : Tallies) (asked : ReplayWords)
     → held asked.domain ≢ Untold → held asked.problem ≢ Untold → held asked.plan ≢ Untold → held asked.recorded ≢ Untold
     → ((file : Bytes) → failed file → ⊥) → ((file : Bytes) → failed' file → ⊥)
     → Decides (IsReplayAnswer held failed tallies asked) (IsReplayAnswer held failed' tallies asked)
 replay_decides one held failed failed' tallies asked told told' told'' told''' quiet quiet' =
-    both_decides one held failed failed' asked.domain asked.problem (IsReplay held failed tallies asked) (IsReplay held failed' tallies asked) told told' quiet quiet' (λ d p.
-    ground_decides d p
-    (ReplayThen held failed tallies asked (fluent_names d p) (action_names d p) (HasTooManyStates d p) (empty_init asked.problem p) (system d p))
-    (ReplayThen held failed' tallies asked (fluent_names d p) (action_names d p) (HasTooManyStates d p) (empty_init asked.problem p) (system d p))
-    (replay_then_decides one held failed failed' tallies asked d p told'' told''' quiet quiet'))
+    let record_of : DomainTree → ProblemTree → PlacedPlan → Course = λ d p placed. of_file asked.recorded SpellsRecord HasRecordFault (λ recorded. answers (RunThen tallies asked d p placed.plan recorded)) in
+    task_decides one held failed failed' asked.domain asked.problem None (λ d p. of_plan (fluent_names d p) (action_names d p) asked.plan (record_of d p)) told told' quiet quiet' (λ d p.
+    plan_file_decides one held failed failed' (fluent_names d p) (action_names d p) asked.plan (record_of d p) told'' quiet quiet' (λ placed.
+    read_decides held failed failed' asked.recorded SpellsRecord (IsFaulty HasRecordFault) (RunThen tallies asked d p placed.plan) (RunThen tallies asked d p placed.plan)
+    told''' (quiet asked.recorded) (quiet' asked.recorded) (record_grammar one) (λ recorded holds. run_then_decides tallies asked d p placed.plan recorded)))

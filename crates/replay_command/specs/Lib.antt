@@ -1,2 +1,2 @@
-pub mod RunFetches
+pub mod Loaded
 pub mod ReplayCommand

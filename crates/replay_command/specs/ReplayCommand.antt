@@ -1,6 +1,6 @@
 -- The command `replay`: the run of a plan under the outcome numbers of a record, and what monitors
 -- show of it.
-use Rattle.std.specs.Prelude.{◌≡◌, ℕ, ◌<◌, ◌≤◌, ◌⊎◌, List, [], ◌++◌, codes, length, slice_index_or}
+use Rattle.std.specs.Prelude.{◌≡◌, ℕ, ◌<◌, ◌≤◌, ◌⊎◌, List, None, [], ◌++◌, codes, length, slice_index_or}
 use Rattle.std.specs.List.{All}
 use Rattle.pddl_ast.specs.Trees.{DomainTree, ProblemTree}
 use Rattle.pddl_system.specs.Systems.{action_names, fluent_names, system}
@@ -13,18 +13,16 @@ use Rattle.run_replay.specs.Traces.{TraceStep, run_plan, trace_of}
 use Rattle.run_replay.specs.TraceTexts.{trace_text}
 use Rattle.run_replay.specs.declared.worlds.Step.{Step}
 use Rattle.sexpr_text.specs.declared.faults.FaultKind.TheVariants.{BadNumber}
-use Rattle.sexpr_text.specs.declared.faults.InputFault.{InputFault}
 use Rattle.task_core.specs.Names.{Name}
 use Rattle.task_core.specs.Systems.{System}
 use Rattle.task_core.specs.Vectors.{Vector}
 use Rattle.command_base.specs.Answers.{Answer, affirmed, refused, Refusal, over_limit, text_fault}
 use Rattle.command_base.specs.Answers.{stray_outcome, unexecutable}
 use Rattle.command_base.specs.Following.{HasTooManyStates}
-use Rattle.command_base.specs.Grounding.{GroundThen}
+use Rattle.command_base.specs.Courses.{Course, IsAnswerIn, answers, of_file, task_plan_course}
 use Rattle.command_base.specs.InitialStates.{InitialThen, empty_init}
-use Rattle.command_base.specs.PddlTexts.{ReadBoth}
-use Rattle.command_base.specs.PlanFiles.{HoldsPlan, IsFaultyPlan, SpellsPlaced}
-use Rattle.command_base.specs.Reading.{Holds, ReadThen}
+use Rattle.command_base.specs.PlanFiles.{HoldsPlan}
+use Rattle.command_base.specs.Reading.{Holds}
 use Rattle.command_base.specs.Words.{Bytes, ReplayWords}
 
 -- what is shown of the monitors that were told of these steps
@@ -70,11 +68,6 @@ pub record IsReplayed (tallies : Tallies) (sys : System) (actions : List Name) (
   pub steps : AreToldAs sys trace.steps told
   pub shown : answer ≡ ended_answer (replay_text tallies actions trace told) trace.ending
 
--- the bytes of the file of this name have a fault as a record
-abbrev pub IsFaultyRecord : Bytes → Bytes → Refusal → Type 0
-IsFaultyRecord name bytes refusal =
-    (fault : InputFault) × HasRecordFault bytes fault × (refusal ≡ text_fault name fault)
-
 -- the number that begins a record names a state of a list, counted from 0
 pub record IsFirstState (states : List Vector) (recorded : RecordTree)
     (first : Vector) : Type 0 where
@@ -100,36 +93,27 @@ FirstThen TooMany empty states name recorded Then answer =
     ⊎ ((TooMany → ⊥)
     × InitialThen empty states (NumberThen states name recorded Then) answer)
 
--- what follows once the plan is read: the record is read, its first number names an initial state,
--- and the plan is run from it
-abbrev pub RecordThen : (Bytes → Held) → (Bytes → Type 0) → Tallies → Bytes → List Name → Type 0
-    → Refusal → System → PlainPlan → Answer → Type 0
-RecordThen held failed tallies name actions TooMany empty sys plan =
-    ReadThen held failed name SpellsRecord IsFaultyRecord (λ recorded.
-    FirstThen TooMany empty sys.initial name recorded (λ first.
-    IsReplayed tallies sys actions (trace_under sys plan first recorded.words)))
+-- what follows once the record is read: its first number names an initial state, and the plan is run from
+-- it
+abbrev pub RunThen : Tallies → ReplayWords → DomainTree → ProblemTree → PlainPlan → RecordTree → Answer
+    → Type 0
+RunThen tallies asked domain problem plan recorded =
+    FirstThen (HasTooManyStates domain problem) (empty_init asked.problem problem)
+    (system domain problem).initial asked.recorded recorded (λ first.
+    IsReplayed tallies (system domain problem) (action_names domain problem)
+    (trace_under (system domain problem) plan first recorded.words))
 
--- what follows once the domain and the problem are within the limits: the plan is read over the
--- names of their fluents and actions, and then the record
-abbrev pub ReplayThen : (Bytes → Held) → (Bytes → Type 0) → Tallies → ReplayWords → List Name
-    → List Name → Type 0 → Refusal → System → Answer → Type 0
-ReplayThen held failed tallies asked fluents actions TooMany empty sys =
-    ReadThen held failed asked.plan (SpellsPlaced fluents actions) (IsFaultyPlan fluents actions)
-    (λ placed. RecordThen held failed tallies asked.recorded actions TooMany empty sys placed.plan)
-
--- what follows once both are read
-abbrev pub IsReplay : (Bytes → Held) → (Bytes → Type 0) → Tallies → ReplayWords → DomainTree
-    → ProblemTree → Answer → Type 0
-IsReplay held failed tallies asked domain problem =
-    GroundThen domain problem (ReplayThen held failed tallies asked (fluent_names domain problem)
-    (action_names domain problem) (HasTooManyStates domain problem)
-    (empty_init asked.problem problem) (system domain problem))
+-- the course of the command: the plan is read, and then the record
+abbrev pub replay_course : Tallies → ReplayWords → Course
+replay_course tallies asked =
+    task_plan_course asked.domain asked.problem None asked.plan (λ domain problem placed.
+    of_file asked.recorded SpellsRecord HasRecordFault (λ recorded.
+    answers (RunThen tallies asked domain problem placed.plan recorded)))
 
 -- the answer of the command
 abbrev pub IsReplayAnswer : (Bytes → Held) → (Bytes → Type 0) → Tallies → ReplayWords → Answer
     → Type 0
-IsReplayAnswer held failed tallies asked =
-    ReadBoth held failed asked.domain asked.problem (IsReplay held failed tallies asked)
+IsReplayAnswer held failed tallies asked = IsAnswerIn held failed (replay_course tallies asked)
 
 -- the files of these words spell what is run: a plan, and a record that begins with the number of
 -- the initial state `first`

@@ -1,13 +1,11 @@
 //! Reading a record out of its file.
 
-ghost use Rattle.command_base.specs.Answers.{no_memory};
-ghost use Rattle.command_base.specs.Reading.{Holds, IsRefusedFile};
-ghost use Rattle.command_base.specs.Shelves.{ReadsShelf};
+ghost use Rattle.command_base.specs.Answers.{refused};
+ghost use Rattle.command_base.specs.Courses.{CarriedOut, begun, of_file};
+ghost use Rattle.command_base.specs.Loading.{ReadsFile};
 ghost use Rattle.command_base.specs.Values.{refusal_of};
-ghost use Rattle.plan_io.specs.Fetches.{FailedLast};
-ghost use Rattle.replay_command.specs.ReplayCommand.{IsFaultyRecord};
-ghost use Rattle.run_replay.specs.Records.{SpellsRecord, record_value};
-ghost use Rattle.std.specs.Prelude.{◌≡◌, ◌⊎◌, IfErr, IfOk};
+ghost use Rattle.run_replay.specs.Records.{HasRecordFault, SpellsRecord, record_value};
+ghost use Rattle.std.specs.Prelude.{IfErr, IfOk};
 
 use command_base::{Refusal, fetch, misread};
 use plan_io::Shelf;
@@ -20,13 +18,11 @@ pub fn read_record_file<S: Shelf>(
     shelf: &mut S,
     name: &str,
 ) -> Result<Recorded, Refusal>
-    ensures holds { IfOk result
-        (λ r. Holds (S.held shelf.old) SpellsRecord name.now (record_value r)) }
-    ensures refused { let failed = FailedLast S.fetched S.faults shelf.old shelf.new in
-        IfErr result (λ refusal. (refusal_of refusal ≡ no_memory)
-        ⊎ IsRefusedFile (S.held shelf.old) failed IsFaultyRecord name.now (refusal_of refusal)) }
-    ensures fetch { S.fetched shelf.old name.now shelf.new }
-    ensures shelf { ReadsShelf S.held S.faults result shelf.old shelf.new }
+    ensures read { IfOk result (λ recorded. ReadsFile S.held S.faults S.fetched SpellsRecord name.now
+        (record_value recorded) shelf.old shelf.new) }
+    ensures refused { IfErr result (λ refusal. CarriedOut S.held S.faults S.fetched
+        (of_file name.now SpellsRecord HasRecordFault (λ recorded. begun))
+        (refused (refusal_of refusal)) shelf.old shelf.new) }
 {
     let bytes = fetch(alloc, shelf, name)?;
     match read_words(alloc, &bytes) {

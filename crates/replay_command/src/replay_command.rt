@@ -1,54 +1,42 @@
 //! The command `replay`.
 
-ghost use Rattle.command_base.specs.Answers.{no_memory, refused};
-ghost use Rattle.command_base.specs.Fetching.{HoldsSomePlan, RefusesPlan, Stops};
+ghost use Rattle.command_base.specs.Answers.{Answer, no_memory, refused};
+ghost use Rattle.command_base.specs.Courses.{CarriedOut, Stops};
 ghost use Rattle.command_base.specs.Following.{most_followed};
-ghost use Rattle.command_base.specs.Grounding.{GroundThen};
 ghost use Rattle.command_base.specs.InitialStates.{empty_init};
-ghost use Rattle.command_base.specs.Shelves.{KeepsShelf};
 ghost use Rattle.command_base.specs.Values.{answer_of, refusal_of, replay_words_of};
-ghost use Rattle.pddl_ast.specs.Fits.{FitsDomain, FitsProblem};
 ghost use Rattle.pddl_ast.specs.Values.{domain_value, problem_value};
-ghost use Rattle.pddl_system.specs.Names.{NamesAreWords};
-ghost use Rattle.pddl_system.specs.Sizes.{first_passed};
-ghost use Rattle.pddl_system.specs.Systems.{
-  action_names as names_of_actions,
-  fluent_names as names_of_fluents,
-};
-ghost use Rattle.plan_io.specs.Fetches.{FailedLast, Fetches};
 ghost use Rattle.plan_rules.specs.Plans.{IsPlanOf};
 ghost use Rattle.plan_rules.specs.Rules.{plain_of};
+ghost use Rattle.replay_command.specs.Loaded.{IsToBeRun};
 ghost use Rattle.replay_command.specs.ReplayCommand.{
   FirstThen,
   IsFirstState,
-  IsReplay,
-  IsReplayAnswer,
   IsReplayed,
-  RecordThen,
-  ReplayThen,
+  RunThen,
+  Tallies,
+  replay_course,
   trace_under,
 };
-ghost use Rattle.replay_command.specs.RunFetches.{FetchRecord, FetchesToReplay};
 ghost use Rattle.run_replay.specs.Records.{record_value};
 ghost use Rattle.run_replay.specs.TraceTexts.{tallies_of};
-ghost use Rattle.std.specs.Prelude.{◌≡◌, ◌⊎◌, [], ◌∷◌, All, IfErr, IfOk, None, OnOk, map};
+ghost use Rattle.std.specs.Prelude.{◌≡◌, ◌⊎◌, All, IfErr, IfOk, OnOk, map};
 ghost use Rattle.task_core.specs.Initials.{HasTooManyInitial};
 ghost use Rattle.task_core.specs.States.{IsWithin, vector};
 ghost use Rattle.task_core.specs.Tasks.{
   action_count,
   action_names,
   fluent_count,
-  fluent_names,
   initial_states,
   system_of,
 };
 
 use crate::record_files::read_record_file;
 use command_base::{
-    Limit, Refusal, ReplayWords, Shown, Text, grounded, no_initial, read_both, read_plan_file,
+    Limit, LoadedPlan, Refusal, ReplayWords, Shown, TaskFiles, Text, load_with_plan, no_initial,
 };
 use initial_number::{Numbered, numbered_initial};
-use pddl_ast::{Domain, Problem};
+use pddl_ast::Problem;
 use plan_io::Shelf;
 use plan_rules::Plan;
 use run_replay::{Monitor, Recorded, RunErr, Start, World, execute, write_trace};
@@ -59,14 +47,6 @@ use task_core::{InitErr, State, Task};
 
 /// How many initial states a record may choose from.
 const MOST_INITIAL: usize = 262_144;
-
-/// What was asked for, of the domain and the problem that two files hold.
-#[derive(Clone, Copy)]
-pub struct ReplayProblem<'a> {
-    pub asked: &'a ReplayWords<'a>,
-    pub domain: &'a Domain,
-    pub problem: &'a Problem,
-}
 
 /// What was asked for, the problem, and the task that it is grounded to.
 #[derive(Clone, Copy)]
@@ -85,148 +65,82 @@ struct RunRequest<'a> {
     plan: &'a Plan,
 }
 
-/// The run of the plan under the record, for the domain and the problem, all in files, with what
-/// the monitors show of it. The world gives the record's outcome numbers.
-pub fn replay_files<S: Shelf>(
-    alloc: Global,
-    shelf: &mut S,
-    asked: &ReplayWords,
-    world: &mut Box<dyn World>,
-    monitors: &mut Vec<Box<dyn Monitor>>,
-) -> Result<Shown, Refusal>
-    requires untold { All (λ monitor. (shown monitor).counted ≡ 0) monitors.old.items }
-    ensures answer { let failed = FailedLast S.fetched S.faults shelf.old shelf.new in
-        (answer_of result ≡ refused no_memory)
-        ⊎ IsReplayAnswer (S.held shelf.old) failed
-        (tallies_of (map (λ monitor. shown monitor) monitors.old.items))
-        (replay_words_of asked.now) (answer_of result) }
-    ensures fetches { let failed = FailedLast S.fetched S.faults shelf.old shelf.new in
-        FetchesToReplay (S.held shelf.old) failed S.fetched (replay_words_of asked.now)
-        (answer_of result) shelf.old shelf.new }
-    ensures shelf { KeepsShelf S.held S.faults (answer_of result) shelf.old shelf.new }
-{
-    let (domain, problem) = read_both(alloc, shelf, asked.domain, asked.problem)?;
-    let sought = ReplayProblem {
-        asked,
-        domain: &domain,
-        problem: &problem,
-    };
-    replay_problem(alloc, shelf, &sought, world, monitors)
+/// A plan with its task, and a record.
+#[derive(Drop)]
+pub struct LoadedRun {
+    pub plan: LoadedPlan,
+    pub recorded: Recorded,
 }
 
-/// The run for a domain and a problem.
-fn replay_problem<S: Shelf>(
+/// The command `replay`: the run of the plan under the record, for the domain and the problem, all in files,
+/// with what the monitors show of it. The world gives the record's outcome numbers.
+pub fn replay<S: Shelf>(
     alloc: Global,
     shelf: &mut S,
-    sought: &ReplayProblem<'_>,
+    asked: &ReplayWords<'_>,
     world: &mut Box<dyn World>,
     monitors: &mut Vec<Box<dyn Monitor>>,
 ) -> Result<Shown, Refusal>
-    requires fits_domain { FitsDomain (domain_value sought.now.domain.now) }
-    requires fits_problem { FitsProblem (domain_value sought.now.domain.now)
-        (problem_value sought.now.problem.now) }
-    requires names { NamesAreWords (domain_value sought.now.domain.now)
-        (problem_value sought.now.problem.now) }
     requires untold { All (λ monitor. (shown monitor).counted ≡ 0) monitors.old.items }
-    ensures answer { let failed = FailedLast S.fetched S.faults shelf.old shelf.new in
-        (answer_of result ≡ refused no_memory)
-        ⊎ IsReplay (S.held shelf.old) failed
-        (tallies_of (map (λ monitor. shown monitor) monitors.old.items))
-        (replay_words_of sought.now.asked.now)
-        (domain_value sought.now.domain.now) (problem_value sought.now.problem.now)
-        (answer_of result) }
-    ensures fetches { let failed = FailedLast S.fetched S.faults shelf.old shelf.new in
-        let domain = domain_value sought.now.domain.now in
-        let problem = problem_value sought.now.problem.now in
-        let fluents = names_of_fluents domain problem in
-        let actions = names_of_actions domain problem in
-        (Stops (GroundThen domain problem (λ answer. ⊥)) (answer_of result)
-        × (shelf.new ≡ shelf.old))
-        ⊎ ((first_passed domain problem ≡ None)
-        × FetchRecord S.fetched (replay_words_of sought.now.asked.now)
-        (RefusesPlan (S.held shelf.old) failed fluents actions sought.now.asked.now.plan.now)
-        (HoldsSomePlan (S.held shelf.old) fluents actions sought.now.asked.now.plan.now)
-        (answer_of result) shelf.old shelf.new) }
-    ensures shelf { KeepsShelf S.held S.faults (answer_of result) shelf.old shelf.new }
+    ensures { CarriedOut S.held S.faults S.fetched
+        (replay_course (tallies_of (map (λ monitor. shown monitor) monitors.old.items))
+        (replay_words_of asked.now)) (answer_of result) shelf.old shelf.new }
 {
-    let ReplayProblem {
-        asked,
-        domain,
-        problem,
-    } = *sought;
-    let task = grounded(alloc, domain, problem)?;
-    let request = ReplayRequest {
-        asked,
-        problem,
-        task: &task,
-    };
-    replay_task(alloc, shelf, &request, world, monitors)
+    let loaded = load_run(alloc, shelf, asked)?;
+    run_loaded(alloc, asked, loaded, world, monitors)
 }
 
-/// The run for a task.
-fn replay_task<S: Shelf>(
+/// The plan and the record in files, with the task of the domain and the problem.
+fn load_run<S: Shelf>(
     alloc: Global,
     shelf: &mut S,
-    request: &ReplayRequest<'_>,
-    world: &mut Box<dyn World>,
-    monitors: &mut Vec<Box<dyn Monitor>>,
-) -> Result<Shown, Refusal>
-    requires untold { All (λ monitor. (shown monitor).counted ≡ 0) monitors.old.items }
-    ensures answer { let failed = FailedLast S.fetched S.faults shelf.old shelf.new in
-        let task = request.now.task.now in
-        let asked = request.now.asked.now in
-        (answer_of result ≡ refused no_memory)
-        ⊎ ReplayThen (S.held shelf.old) failed
-        (tallies_of (map (λ monitor. shown monitor) monitors.old.items))
-        (replay_words_of asked) (fluent_names task) (action_names task)
-        (HasTooManyInitial task most_followed)
-        (empty_init asked.problem.now (problem_value request.now.problem.now)) (system_of task)
-        (answer_of result) }
-    ensures fetches { let failed = FailedLast S.fetched S.faults shelf.old shelf.new in
-        let task = request.now.task.now in
-        let asked = request.now.asked.now in
-        FetchRecord S.fetched (replay_words_of asked)
-        (RefusesPlan (S.held shelf.old) failed (fluent_names task) (action_names task)
-        asked.plan.now)
-        (HoldsSomePlan (S.held shelf.old) (fluent_names task) (action_names task) asked.plan.now)
-        (answer_of result) shelf.old shelf.new }
-    ensures shelf { KeepsShelf S.held S.faults (answer_of result) shelf.old shelf.new }
+    asked: &ReplayWords<'_>,
+) -> Result<LoadedRun, Refusal>
+    ensures fits { IfOk result IsToBeRun }
+    ensures loaded { let asked = replay_words_of asked.now in
+        IfOk result (λ loaded. (tallies : Tallies) (answer : Answer)
+        → Stops (RunThen tallies asked (domain_value loaded.plan.task.domain)
+        (problem_value loaded.plan.task.problem) (plain_of loaded.plan.read.plan)
+        (record_value loaded.recorded)) answer
+        → CarriedOut S.held S.faults S.fetched (replay_course tallies asked) answer shelf.old
+        shelf.new) }
+    ensures refused { IfErr result (λ refusal. (tallies : Tallies)
+        → CarriedOut S.held S.faults S.fetched (replay_course tallies (replay_words_of asked.now))
+        (refused (refusal_of refusal)) shelf.old shelf.new) }
 {
-    let read = read_plan_file(alloc, shelf, request.asked.plan, request.task)?;
-    let run = RunRequest {
-        asked: request.asked,
-        problem: request.problem,
-        task: request.task,
-        plan: &read.plan,
+    let files = TaskFiles {
+        domain: asked.domain,
+        problem: asked.problem,
+        goal: None,
     };
-    replay_plan(alloc, shelf, &run, world, monitors)
+    let plan = load_with_plan(alloc, shelf, &files, asked.plan)?;
+    let recorded = read_record_file(alloc, shelf, asked.recorded)?;
+    Ok(LoadedRun { plan, recorded })
 }
 
-/// The run of a plan of the task, under the record in its file.
-fn replay_plan<S: Shelf>(
+/// The run of what was loaded.
+fn run_loaded(
     alloc: Global,
-    shelf: &mut S,
-    request: &RunRequest<'_>,
+    asked: &ReplayWords<'_>,
+    loaded: LoadedRun,
     world: &mut Box<dyn World>,
     monitors: &mut Vec<Box<dyn Monitor>>,
 ) -> Result<Shown, Refusal>
-    requires in_task { let task = request.now.task.now in
-        IsPlanOf (fluent_count task) (action_count task) request.now.plan.now }
+    requires fits { IsToBeRun loaded }
     requires untold { All (λ monitor. (shown monitor).counted ≡ 0) monitors.old.items }
-    ensures answer { let failed = FailedLast S.fetched S.faults shelf.old shelf.new in
-        let task = request.now.task.now in
-        let asked = request.now.asked.now in
-        (answer_of result ≡ refused no_memory)
-        ⊎ RecordThen (S.held shelf.old) failed
-        (tallies_of (map (λ monitor. shown monitor) monitors.old.items))
-        asked.recorded.now (action_names task) (HasTooManyInitial task most_followed)
-        (empty_init asked.problem.now (problem_value request.now.problem.now))
-        (system_of task) (plain_of request.now.plan.now) (answer_of result) }
-    ensures fetches { Fetches S.fetched (request.now.asked.now.recorded.now ∷ []) shelf.old shelf.new }
-    ensures shelf { KeepsShelf S.held S.faults (answer_of result) shelf.old shelf.new }
+    ensures { Stops (RunThen (tallies_of (map (λ monitor. shown monitor) monitors.old.items))
+        (replay_words_of asked.now) (domain_value loaded.plan.task.domain)
+        (problem_value loaded.plan.task.problem) (plain_of loaded.plan.read.plan)
+        (record_value loaded.recorded)) (answer_of result) }
 {
-    let recorded = read_record_file(alloc, shelf, request.asked.recorded)?;
-    replay_record(alloc, request, recorded, world, monitors)
+    let LoadedRun { plan, recorded } = loaded;
+    let request = RunRequest {
+        asked,
+        problem: &plan.task.problem,
+        task: &plan.task.grounded.task,
+        plan: &plan.read.plan,
+    };
+    replay_record(alloc, &request, recorded, world, monitors)
 }
 
 /// The run of a plan of the task, under a record that was read out of its file.

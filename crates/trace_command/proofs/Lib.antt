@@ -1,2 +1,1 @@
-mod AfterFiles
 mod ToldEnds

@@ -1,25 +1,21 @@
 -- Which answer tells the run that a record has.
-use Rattle.std.specs.Prelude.{◌≡◌}
-use Rattle.command_base.specs.Answers.{Answer, Refusal, affirmed, denied}
+use Rattle.std.specs.Prelude.{◌≡◌, None}
+use Rattle.command_base.specs.Answers.{Answer, affirmed, denied}
+use Rattle.command_base.specs.Courses.{Course, answers, of_file, task_course}
 use Rattle.command_base.specs.Following.{most_followed}
-use Rattle.command_base.specs.Grounding.{GroundThen}
 use Rattle.command_base.specs.InitialStates.{empty_init}
-use Rattle.command_base.specs.PddlTexts.{ReadBoth}
-use Rattle.command_base.specs.PlanFiles.{IsFaultyPlan}
-use Rattle.command_base.specs.Reading.{ReadThen}
 use Rattle.command_base.specs.Words.{Bytes, ReplayWords}
 use Rattle.explain_command.specs.Explained.{source_in}
-use Rattle.explain_command.specs.Lined.{LinedPlan, SpellsLined}
+use Rattle.explain_command.specs.Lined.{LinedPlan, of_lined}
 use Rattle.pddl_ast.specs.Trees.{DomainTree, ProblemTree}
 use Rattle.pddl_system.specs.Tasks.{task_of}
 use Rattle.pddl_system.specs.Values.{task_value}
-use Rattle.plan_io.specs.Held.{Held}
 use Rattle.trace.specs.RecordedRuns.{IsRecordedRun, PlainRecorded}
 use Rattle.trace.specs.Texts.{recorded_text}
-use Rattle.replay_command.specs.ReplayCommand.{FirstThen, IsFaultyRecord}
-use Rattle.run_replay.specs.Records.{RecordTree, SpellsRecord}
+use Rattle.replay_command.specs.ReplayCommand.{FirstThen}
+use Rattle.run_replay.specs.Records.{HasRecordFault, RecordTree, SpellsRecord}
 use Rattle.run_replay.specs.Traces.{Capped, Ended, Ending, Stray, Terminal, Unexecutable}
-use Rattle.task_core.specs.Tasks.{action_names, fluent_names, initial_states}
+use Rattle.task_core.specs.Tasks.{initial_states}
 use Rattle.task_core.specs.Vectors.{Vector}
 use Rattle.task_core.specs.declared.tasks.Task.{Task}
 use Rattle.task_core.specs.Initials.{HasTooManyInitial}
@@ -41,37 +37,19 @@ pub record IsRunTold (task : Task) (lined : LinedPlan) (recorded : RecordTree) (
   pub shown : answer ≡ told_answer
       (recorded_text (source_in task lined.placed.plan lined.lines) recorded.first first run) is.ending
 
--- what follows once the plan is read: the record is read, its first number names an initial state, and the
--- run from there is told
-abbrev pub RecordThen : (Bytes → Held) → (Bytes → Type 0) → Bytes → Refusal → Task → LinedPlan
-    → Answer → Type 0
-RecordThen held failed name empty task lined =
-    ReadThen held failed name SpellsRecord IsFaultyRecord (λ recorded.
-    FirstThen (HasTooManyInitial task most_followed) empty (initial_states task) name recorded
-    (IsRunTold task lined recorded))
-
--- what follows for a task: the plan is read, and then the record
-abbrev pub TaskThen : (Bytes → Held) → (Bytes → Type 0) → ReplayWords → Refusal → Task → Answer
-    → Type 0
-TaskThen held failed asked empty task =
-    ReadThen held failed asked.plan (SpellsLined (fluent_names task) (action_names task))
-    (IsFaultyPlan (fluent_names task) (action_names task))
-    (RecordThen held failed asked.recorded empty task)
-
--- the same for the task of a domain and a problem
-pub record IsToldOf (held : Bytes → Held) (failed : Bytes → Type 0) (asked : ReplayWords)
-    (domain : DomainTree) (problem : ProblemTree) (answer : Answer) : Type 0 where
+-- what follows once all is read: the record's first number names an initial state, and the run from there
+-- is told, of the task of the domain and the problem
+pub record TracedThen (asked : ReplayWords) (domain : DomainTree) (problem : ProblemTree)
+    (lined : LinedPlan) (recorded : RecordTree) (answer : Answer) : Type 0 where
   pub task : Task
   pub grounded : task_value task ≡ task_of domain problem
-  pub then : TaskThen held failed asked (empty_init asked.problem problem) task answer
+  pub then : FirstThen (HasTooManyInitial task most_followed) (empty_init asked.problem problem)
+      (initial_states task) asked.recorded recorded (IsRunTold task lined recorded) answer
 
--- what follows once both are read
-abbrev pub IsTold : (Bytes → Held) → (Bytes → Type 0) → ReplayWords → DomainTree → ProblemTree
-    → Answer → Type 0
-IsTold held failed asked domain problem =
-    GroundThen domain problem (IsToldOf held failed asked domain problem)
-
--- the answer
-abbrev pub IsToldAnswer : (Bytes → Held) → (Bytes → Type 0) → ReplayWords → Answer → Type 0
-IsToldAnswer held failed asked =
-    ReadBoth held failed asked.domain asked.problem (IsTold held failed asked)
+-- the course of the command: the plan is read after the task, and then the record
+abbrev pub trace_course : ReplayWords → Course
+trace_course asked =
+    task_course asked.domain asked.problem None (λ domain problem.
+    of_lined domain problem asked.plan (λ lined.
+    of_file asked.recorded SpellsRecord HasRecordFault (λ recorded.
+    answers (TracedThen asked domain problem lined recorded))))

@@ -17,78 +17,68 @@ ghost use Rattle.task_core.specs.States.{IsWithin, vector};
 ghost use Rattle.task_core.specs.Tasks.{action_count, fluent_count, initial_states};
 ghost use Rattle.task_core.specs.Initials.{HasTooManyInitial};
 
-use crate::commands::RunRequest;
-use command_base::{Refusal, Shown, Text};
+use crate::trace_job::LoadedTrace;
+use command_base::{Refusal, ReplayWords, Shown, Text};
 use counterexamples::Source;
 use replay_command::{ReplayRequest, first_state};
-use run_replay::Recorded;
 use std::alloc::{AllocError, Global};
 use task_core::State;
 use trace::{Stop, recorded_run, recorded_text};
 
-/// The run of a plan of the task, told, under a record that was read out of its file.
+/// The run of a plan of the task, told, under a record.
 pub(crate) fn show_record(
     alloc: Global,
-    request: &RunRequest<'_>,
-    recorded: &Recorded,
+    asked: &ReplayWords<'_>,
+    loaded: &LoadedTrace,
 ) -> Result<Shown, Refusal>
-    requires in_task { let task = request.now.task.now in
-        IsPlanOf (fluent_count task) (action_count task) request.now.lined.now.read.plan }
-    ensures { let task = request.now.task.now in
-        let asked = request.now.asked.now in
-        let record_is = record_value recorded.now in
+    requires in_task { let task = loaded.now.task.grounded.task in
+        IsPlanOf (fluent_count task) (action_count task) loaded.now.lined.read.plan }
+    ensures { let task = loaded.now.task.grounded.task in
+        let record_is = record_value loaded.now.recorded in
         (answer_of result ≡ refused no_memory)
         ⊎ FirstThen (HasTooManyInitial task most_followed)
-        (empty_init asked.problem.now (problem_value request.now.problem.now))
-        (initial_states task) asked.recorded.now record_is
-        (IsRunTold task (lined_of request.now.lined.now) record_is) (answer_of result) }
+        (empty_init asked.now.problem.now (problem_value loaded.now.task.problem))
+        (initial_states task) asked.now.recorded.now record_is
+        (IsRunTold task (lined_of loaded.now.lined) record_is) (answer_of result) }
 {
     let named = ReplayRequest {
-        asked: request.asked,
-        problem: request.problem,
-        task: request.task,
+        asked,
+        problem: &loaded.task.problem,
+        task: &loaded.task.grounded.task,
     };
-    let first = first_state(alloc, &named, recorded)?;
-    show_run(alloc, request, recorded, &first)
+    let first = first_state(alloc, &named, &loaded.recorded)?;
+    show_run(alloc, loaded, &first)
 }
 
 /// The run of a plan of the task from a state, told, or want of memory.
-fn show_run(
-    alloc: Global,
-    request: &RunRequest<'_>,
-    recorded: &Recorded,
-    first: &State,
-) -> Result<Shown, Refusal>
-    requires in_task { let task = request.now.task.now in
-        IsPlanOf (fluent_count task) (action_count task) request.now.lined.now.read.plan }
-    requires within { IsWithin (fluent_count request.now.task.now) first.now }
-    ensures { let task = request.now.task.now in (answer_of result ≡ refused no_memory)
-        ⊎ IsRunTold task (lined_of request.now.lined.now) (record_value recorded.now)
+fn show_run(alloc: Global, loaded: &LoadedTrace, first: &State) -> Result<Shown, Refusal>
+    requires in_task { let task = loaded.now.task.grounded.task in
+        IsPlanOf (fluent_count task) (action_count task) loaded.now.lined.read.plan }
+    requires within { IsWithin (fluent_count loaded.now.task.grounded.task) first.now }
+    ensures { let task = loaded.now.task.grounded.task in (answer_of result ≡ refused no_memory)
+        ⊎ IsRunTold task (lined_of loaded.now.lined) (record_value loaded.now.recorded)
         (vector (fluent_count task) first.now) (answer_of result) }
 {
-    Ok(told_run(alloc, request, recorded, first)?)
+    Ok(told_run(alloc, loaded, first)?)
 }
 
 /// The run of a plan of the task from a state, told.
-fn told_run(
-    alloc: Global,
-    request: &RunRequest<'_>,
-    recorded: &Recorded,
-    first: &State,
-) -> Result<Shown, AllocError>
-    requires in_task { let task = request.now.task.now in
-        IsPlanOf (fluent_count task) (action_count task) request.now.lined.now.read.plan }
-    requires within { IsWithin (fluent_count request.now.task.now) first.now }
-    ensures { let task = request.now.task.now in IfOk result (λ shown.
-        IsRunTold task (lined_of request.now.lined.now) (record_value recorded.now)
+fn told_run(alloc: Global, loaded: &LoadedTrace, first: &State) -> Result<Shown, AllocError>
+    requires in_task { let task = loaded.now.task.grounded.task in
+        IsPlanOf (fluent_count task) (action_count task) loaded.now.lined.read.plan }
+    requires within { IsWithin (fluent_count loaded.now.task.grounded.task) first.now }
+    ensures { let task = loaded.now.task.grounded.task in IfOk result (λ shown.
+        IsRunTold task (lined_of loaded.now.lined) (record_value loaded.now.recorded)
         (vector (fluent_count task) first.now) (shown_of shown)) }
 {
-    let plan = &request.lined.read.plan;
-    let made = recorded_run(alloc, request.task, plan, first, &recorded.words)?;
+    let task = &loaded.task.grounded.task;
+    let plan = &loaded.lined.read.plan;
+    let recorded = &loaded.recorded;
+    let made = recorded_run(alloc, task, plan, first, &recorded.words)?;
     let source = Source {
-        task: request.task,
+        task,
         plan,
-        lines: &request.lined.lines,
+        lines: &loaded.lined.lines,
     };
     let text = recorded_text(alloc, &source, recorded.first, first, &made)?;
     Ok(answer_with(&made.stop, text.into_bytes()))

@@ -1,5 +1,5 @@
--- From what follows the reading of both files to the answer.
-use Rattle.std.proofs.Common.{◌≡◌, ◌⊎◌, ◌++◌, ◌∷◌, [], Bool, List, inl, inr, refl, sym, subst, ap, ◌∙◌, append_assoc, if◌then◌else◌, None, Some, true, false}
+-- From what was found to the answer.
+use Rattle.std.proofs.Common.{◌≡◌, ◌⊎◌, ◌++◌, ◌∷◌, [], Bool, List, inl, inr, refl, sym, subst, ap, ◌∙◌, append_assoc, if◌then◌else◌, Some, true, false}
 use Rattle.std.proofs.lemmas.Bool.{false≢true}
 use Rattle.std.proofs.lemmas.List.{append-nil}
 use Rattle.std.specs.List.{Contains}
@@ -8,12 +8,8 @@ use Rattle.std.specs.Result.{is_ok}
 use Rattle.std.specs.declared.alloc.Global.{Global}
 use Rattle.std.specs.String.{string_vec}
 use Rattle.pddl_ast.specs.Trees.{DomainTree, ProblemTree}
-use Rattle.pddl_system.specs.Sizes.{first_passed}
-use Rattle.plan_io.specs.Held.{Held}
 use Rattle.command_base.specs.Answers.{Answer, Refusal, affirmed, denied, full, no_memory, refused}
 use Rattle.command_base.specs.Grounded.{IsTaskOf}
-use Rattle.command_base.specs.Grounding.{has_goal_for}
-use Rattle.command_base.specs.PddlTexts.{HoldBoth, ReadBoth}
 use Rattle.command_base.specs.Words.{Bytes, PlanWords, of_class}
 use Rattle.plan_command.specs.PlanCommand.{MayBeTooFew, PlanThen}
 use Rattle.relaxed_reach.specs.Literals.{LiteralSet, can_be}
@@ -27,7 +23,7 @@ use Rattle.task_core.specs.declared.conditions.Cond.{Cond}
 use Rattle.task_core.specs.declared.tasks.Task.{Task}
 use Rattle.why_command.specs.ToldRuns.{HasRunAfter}
 use Rattle.why_command.specs.Tried.{HasSaid, HasTried}
-use Rattle.why_command.specs.Whys.{IsAsPlanned, IsGoalNeverReached, IsNever, IsWhy, IsWhyAnswer, MayRefuse, WhyThen, asked_for, exists_line, found, missing, none_left, none_line, unknown, weaker}
+use Rattle.why_command.specs.Whys.{IsAsPlanned, IsGoalNeverReached, IsNever, MayRefuse, WhyThen, asked_for, exists_line, found, missing, none_left, none_line, unknown, weaker}
 
 not_affirmed : {refusal : Refusal} (text : Bytes) → affirmed text ≡ refused refusal → ⊥
 not_affirmed text is = cc is
@@ -37,30 +33,6 @@ not_denied text is = cc is
 
 same_refusal : {a b : Refusal} → refused a ≡ refused b → a ≡ b
 same_refusal is = cc is
-
--- one of the files is refused
-pub before_why : (held : Bytes → Held) (failed : Bytes → Type 0) (asked : PlanWords) (a : Answer)
-    → (a ≡ refused no_memory) ⊎ ReadBoth held failed asked.domain asked.problem (IsWhy asked) a
-    → (a ≡ refused no_memory) ⊎ IsWhyAnswer held failed asked a
-before_why held failed asked a (inl memory) = inl memory
-before_why held failed asked a (inr read) = inr (inr read)
-
--- after both files were read: the table of nodes is full, or what follows
-pub after_why : (held : Bytes → Held) (failed : Bytes → Type 0) (asked : PlanWords) (d : DomainTree) (p : ProblemTree) (a : Answer)
-    → HoldBoth held asked.domain asked.problem d p
-    → (a ≡ refused no_memory) ⊎ (MayBeTooFew asked d p × (a ≡ refused (full asked.options.nodes))) ⊎ IsWhy asked d p a
-    → (a ≡ refused no_memory) ⊎ IsWhyAnswer held failed asked a
-after_why held failed asked d p a both (inl memory) = inl memory
-after_why held failed asked d p a both (inr (inl (few, is))) = inr (inl (record { domain = d; problem = p; both = both; few = few }, is))
-after_why held failed asked d p a both (inr (inr next)) = inr (inr (inr (d, both.holds_domain, inr (p, both.holds_problem, next))))
-
--- once the goal and the limits are found to be as they are wanted, what follows is the answer
-pub why_then : (asked : PlanWords) (d : DomainTree) (p : ProblemTree) (a : Answer) → has_goal_for asked.kind p ≡ true → first_passed d p ≡ None
-    → (a ≡ refused no_memory) ⊎ (MayBeTooFew asked d p × (a ≡ refused (full asked.options.nodes))) ⊎ WhyThen asked d p a
-    → (a ≡ refused no_memory) ⊎ (MayBeTooFew asked d p × (a ≡ refused (full asked.options.nodes))) ⊎ IsWhy asked d p a
-why_then asked d p a goal within (inl memory) = inl memory
-why_then asked d p a goal within (inr (inl few)) = inr (inl few)
-why_then asked d p a goal within (inr (inr next)) = inr (inr (inr (goal, inr (within, next))))
 
 -- what is said for the answer of `plan`, with the run that is told after it
 pub told_then : (asked : PlanWords) (d : DomainTree) (p : ProblemTree) (task : Task) (said a : Answer) → IsTaskOf d p task

@@ -2,8 +2,7 @@
 use Rattle.std.specs.Prelude.{◌≡◌, ◌⊎◌, ◌++◌, ◌∷◌, [], List, Some, true, false, codes}
 use Rattle.std.specs.List.{Contains}
 use Rattle.command_base.specs.Answers.{Answer, Refusal, affirmed, denied, full, no_memory, refused}
-use Rattle.command_base.specs.Grounding.{GoalThen, GroundThen}
-use Rattle.command_base.specs.PddlTexts.{ReadBoth}
+use Rattle.command_base.specs.Courses.{Course, answers, task_course}
 use Rattle.command_base.specs.Words.{Bytes, PlanKind, PlanWords, kind_word, of_class, with_contexts}
 use Rattle.never_executed.specs.Blocked.{AreNever, blocked}
 use Rattle.never_executed.specs.Texts.{conditions_text, reasons_text}
@@ -11,8 +10,7 @@ use Rattle.pddl_ast.specs.Trees.{DomainTree, ProblemTree}
 use Rattle.pddl_system.specs.Systems.{system}
 use Rattle.pddl_system.specs.Tasks.{task_of}
 use Rattle.pddl_system.specs.Values.{task_value}
-use Rattle.plan_command.specs.PlanCommand.{MayBeTooFew, MayRunOut, PlanThen}
-use Rattle.plan_io.specs.Held.{Held}
+use Rattle.plan_command.specs.PlanCommand.{MayBeTooFew, PlanThen}
 use Rattle.plan_rules.specs.Texts.{line_feed}
 use Rattle.relaxed_reach.specs.Literals.{LiteralSet, can_be}
 use Rattle.relaxed_reach.specs.Reached.{IsReachable}
@@ -143,15 +141,14 @@ abbrev pub WhyThen : PlanWords → DomainTree → ProblemTree → Answer → Typ
 WhyThen asked domain problem answer =
     IsGoalNever asked.kind domain problem answer ⊎ IsToldAsPlanned asked domain problem answer
 
--- what follows once both are read
-abbrev pub IsWhy : PlanWords → DomainTree → ProblemTree → Answer → Type 0
-IsWhy asked domain problem =
-    GoalThen asked.kind asked.problem problem
-    (GroundThen domain problem (WhyThen asked domain problem))
+-- the answer: that the table of nodes is full, where it may be; or why there is no plan
+abbrev pub AnswersWhy : PlanWords → DomainTree → ProblemTree → Answer → Type 0
+AnswersWhy asked domain problem answer =
+    (MayBeTooFew asked domain problem × (answer ≡ refused (full asked.options.nodes)))
+    ⊎ WhyThen asked domain problem answer
 
--- the answer: that the table of nodes is full, where it may be; or what follows the reading of both
--- files
-abbrev pub IsWhyAnswer : (Bytes → Held) → (Bytes → Type 0) → PlanWords → Answer → Type 0
-IsWhyAnswer held failed asked answer =
-    (MayRunOut held asked × (answer ≡ refused (full asked.options.nodes)))
-    ⊎ ReadBoth held failed asked.domain asked.problem (IsWhy asked) answer
+-- the course of the command
+abbrev pub why_course : PlanWords → Course
+why_course asked =
+    task_course asked.domain asked.problem (Some asked.kind) (λ domain problem.
+    answers (AnswersWhy asked domain problem))

@@ -1,38 +1,65 @@
 use Rattle.std.proofs.lemmas.Result.{err_from_is_err_and}
+use Rattle.domain_read.specs.Domains.{HasDomainFault, SpellsDomain}
+use Rattle.pddl_ast.specs.Trees.{DomainTree}
 use Rattle.pddl_ast.specs.Values.{domain_value, problem_value}
-use Rattle.plan_io.specs.Fetches.{FailedLast}
+use Rattle.pddl_problem.specs.Problems.{HasProblemFault}
+use Rattle.command_base.specs.Answers.{refused}
+use Rattle.command_base.specs.Courses.{Course, begun, of_file}
+use Rattle.command_base.specs.PddlTexts.{SpellsProblemOf}
 use Rattle.command_base.specs.Values.{refusal_of}
-use Rattle.command_base.proofs.Fetched.{files_may_be, files_stop, problem_misread}
+use Rattle.command_base.specs.Words.{Bytes}
+use Rattle.command_base.proofs.Courses.{fetch_stops, file_stops, text_stops, then_text}
 use Rattle.command_base.proofs.pddl_texts.read_texts.Goals as goal
+
+-- the problem's file, after the domain
+abbrev problem_of : Bytes → DomainTree → Course
+problem_of name domain = of_file name (SpellsProblemOf domain) (λ bytes. HasProblemFault bytes domain) (λ problem. begun)
+
+pub returns-in_err-file-clause-refused : goal.returns-in_err-file-clause-refused
+returns-in_err-file-clause-refused g c =
+    let p = err_from_is_err_and c.from_residual.result c.from_residual.ensures.1 in
+    rw (p.1, p.2) (file_stops g.S.Shelf.held g.S.Shelf.faults g.S.Shelf.fetched c.args.domain_name.now SpellsDomain HasDomainFault (problem_of c.args.problem_name.now) _
+    c.args.shelf.now c.read_domain_file.new.shelf c.in_err-file.ensures.refused)
+
+pub returns-in_err-problem_text-clause-refused : goal.returns-in_err-problem_text-clause-refused
+returns-in_err-problem_text-clause-refused g c =
+    let p = err_from_is_err_and c.from_residual-in_err-problem_text.result c.from_residual-in_err-problem_text.ensures.1 in
+    let read = c.in_ok-file.ensures in
+    let domain = domain_value c.in_ok-file.file.domain in
+    let fetched = c.in_err-problem_text.ensures in
+    rw (p.1, p.2) (then_text g.S.Shelf.held g.S.Shelf.faults g.S.Shelf.fetched c.args.domain_name.now c.in_ok-file.file.text.items SpellsDomain HasDomainFault (problem_of c.args.problem_name.now) domain
+    (refused (refusal_of c.in_err-problem_text.field-0.0)) c.args.shelf.now c.read_domain_file.new.shelf c.fetch.new.shelf read.text read.spells
+    (fetch_stops g.S.Shelf.held g.S.Shelf.faults g.S.Shelf.fetched c.args.problem_name.now (SpellsProblemOf domain) (λ bytes. HasProblemFault bytes domain) (λ problem. begun)
+    (refusal_of c.in_err-problem_text.field-0.0) c.read_domain_file.new.shelf c.fetch.new.shelf fetched.refused fetched.fetch
+    (record { quiet_at = fetched.shelf.quiet_at; kept = fetched.shelf.kept; later = fetched.shelf.later })))
 
 pub returns-in_err-problem-clause-refused : goal.returns-in_err-problem-clause-refused
 returns-in_err-problem-clause-refused g c =
     let p = err_from_is_err_and c.from_residual-in_err-problem.result c.from_residual-in_err-problem.ensures.1 in
-    let held = g.S.Shelf.held c.args.shelf.now in
-    let failed = FailedLast g.S.Shelf.fetched g.S.Shelf.faults c.args.shelf.now c.fetch_both.new.shelf in
     let read = c.in_ok-file.ensures in
-    let problem = rw (← c.deref.ensures.value) at read.problem_file in
-    rw (p.1, p.2) (problem_misread held failed c.args.domain_name.now c.args.problem_name.now _ _ (refusal_of c.in_err-problem.field-0.0)
-    (record { bytes = c.in_ok-file.file.text.items; file = read.domain_file; spelled = read.spells }) problem c.in_err-problem.ensures.refused)
+    let domain = domain_value c.in_ok-file.file.domain in
+    let fetched = c.in_ok-problem_text.ensures in
+    let file = rw (← c.deref.ensures.value) at fetched.file in
+    rw (p.1, p.2) (then_text g.S.Shelf.held g.S.Shelf.faults g.S.Shelf.fetched c.args.domain_name.now c.in_ok-file.file.text.items SpellsDomain HasDomainFault (problem_of c.args.problem_name.now) domain
+    (refused (refusal_of c.in_err-problem.field-0.0)) c.args.shelf.now c.read_domain_file.new.shelf c.fetch.new.shelf read.text read.spells
+    (text_stops g.S.Shelf.held g.S.Shelf.faults g.S.Shelf.fetched c.args.problem_name.now _ (SpellsProblemOf domain) (λ bytes. HasProblemFault bytes domain) (λ problem. begun)
+    (refusal_of c.in_err-problem.field-0.0) c.read_domain_file.new.shelf c.fetch.new.shelf
+    (record { file = file; fetch = fetched.fetch; quiet = fetched.shelf.quiet; kept = fetched.shelf.kept }) c.in_err-problem.ensures.refused))
 
-pub returns-in_err-problem-clause-stopped : goal.returns-in_err-problem-clause-stopped
-returns-in_err-problem-clause-stopped g c =
-    let p = err_from_is_err_and c.from_residual-in_err-problem.result c.from_residual-in_err-problem.ensures.1 in
-    let held = g.S.Shelf.held c.args.shelf.now in
-    let failed = FailedLast g.S.Shelf.fetched g.S.Shelf.faults c.args.shelf.now c.fetch_both.new.shelf in
-    let read = c.in_ok-file.ensures in
-    rw (p.1, p.2) (files_stop held failed g.S.Shelf.fetched c.args.domain_name.now c.args.problem_name.now _ c.args.shelf.now c.fetch_both.new.shelf
-    (_, record { bytes = c.in_ok-file.file.text.items; file = read.domain_file; spelled = read.spells }) read.fetched)
-
-pub returns-in_err-problem-clause-fetches : goal.returns-in_err-problem-clause-fetches
-returns-in_err-problem-clause-fetches g c =
-    let read = c.in_ok-file.ensures in
-    files_may_be (g.S.Shelf.held c.args.shelf.now) g.S.Shelf.fetched c.args.domain_name.now c.args.problem_name.now c.args.shelf.now c.fetch_both.new.shelf
-    (_, record { bytes = c.in_ok-file.file.text.items; file = read.domain_file; spelled = read.spells }) read.fetched
-
-pub returns-clause-names : goal.returns-clause-names
-returns-clause-names g c =
+pub returns-clause-read : goal.returns-clause-read
+returns-clause-read g c =
     let domain = domain_value c.in_ok-file.file.domain in
     let problem = problem_value c.in_ok-problem.problem in
-    let words = c.in_ok-file.ensures.words in
-    c.read_names_are_words.ensures domain problem words.predicates words.actions words.constants c.in_ok-problem.ensures.words
+    let read = c.in_ok-file.ensures in
+    let fetched = c.in_ok-problem_text.ensures in
+    let made = c.in_ok-problem.ensures in
+    record {
+      between = c.read_domain_file.new.shelf;
+      domain_text = read.text;
+      domain_spelled = read.spells;
+      problem_text = record { file = fetched.file; fetch = fetched.fetch; quiet = fetched.shelf.quiet; kept = fetched.shelf.kept };
+      problem_spelled = rw c.deref.ensures.value at made.spells;
+      fits_domain = read.fits;
+      fits_problem = made.fits;
+      names = c.read_names_are_words.ensures domain problem read.words.predicates read.words.actions read.words.constants made.words;
+    }

@@ -1,5 +1,5 @@
 use Rattle.std.proofs.lemmas.Bool.{MatchBool-at_false, MatchBool-at_true}
-use Rattle.lint_command.proofs.AfterReading.{says_no, says_yes}
+use Rattle.lint_command.proofs.LintCourse.{says_no, says_yes}
 use Rattle.lint_command.proofs.found.answer_with.Goals as goal
 
 pub returns-then-is_clear : goal.returns-then-is_clear

@@ -4,6 +4,4 @@ use Rattle.mbp_top.proofs.runs.carry_out.Goals as goal
 
 pub returns : goal.returns
 returns g c =
-    let found = c.answer-found.ensures in
-    has_run g.S.Shelf.held g.S.Shelf.faults g.S.Shelf.fetched _ (answer_of c.answer-found.result) c.deliver.ensures.0 found.cause found.fetches found.no_fetch found.shelf.quiet_at found.shelf.kept found.shelf.later
-    c.deliver.ensures.1 c.deliver.ensures.2
+    has_run g.S.Shelf.held g.S.Shelf.faults g.S.Shelf.fetched _ (answer_of c.answer-found.result) c.deliver.ensures.0 c.answer-found.ensures c.deliver.ensures.1 c.deliver.ensures.2

@@ -6,4 +6,4 @@ use Rattle.pulgazer_top.proofs.top.answered.Goals as goal
 pub returns : goal.returns
 returns g c =
     answered_run g.S.Shelf.held g.S.Shelf.faults g.S.Shelf.fetched (asked_of c.args.asked.now) _ (answer_of c.answer-found.result) c.requires.kept c.requires.allowed
-    c.answer-found.ensures.answer c.answer-found.ensures.fetches c.answer-found.ensures.shelf c.deliver_helped-status.result c.exit_status.ensures c.deliver_helped-status.ensures
+    c.answer-found.ensures c.deliver_helped-status.result c.exit_status.ensures c.deliver_helped-status.ensures

@@ -1,18 +1,48 @@
-use Rattle.plan_certs.specs.Readings.{HasCertificateFault}
-use Rattle.plan_io.specs.Fetches.{FailedLast}
-use Rattle.task_core.specs.Tasks.{fluent_names}
+use Rattle.std.proofs.lemmas.Result.{err_from_is_err_and}
+use Rattle.pddl_ast.specs.Values.{domain_value, problem_value}
+use Rattle.pddl_system.specs.Systems.{fluent_names}
+use Rattle.plan_certs.specs.Named.{plain_certificate}
+use Rattle.plan_certs.specs.Readings.{HasCertificateFault, SpellsPlain}
+use Rattle.sexpr_text.specs.Passes.{IfFault}
+use Rattle.command_base.specs.Courses.{begun}
 use Rattle.command_base.specs.Values.{refusal_of}
-use Rattle.command_base.proofs.Refusals.{misread_file}
+use Rattle.command_base.proofs.Courses.{fetch_stops, text_stops}
+use Rattle.command_base.proofs.Refusals.{misread_as}
+use Rattle.command_base.proofs.TaskNames.{with_names}
 use Rattle.refute_command.proofs.certificate_files.read_certificate_file.Goals as goal
+
+pub returns-in_err-bytes-clause-refused : goal.returns-in_err-bytes-clause-refused
+returns-in_err-bytes-clause-refused g c =
+    let p = err_from_is_err_and c.from_residual.result c.from_residual.ensures.1 in
+    let fluents = fluent_names (domain_value c.args.loaded.now.domain) (problem_value c.args.loaded.now.problem) in
+    let fetched = c.in_err-bytes.ensures in
+    rw (p.1, p.2) (fetch_stops g.S.Shelf.held g.S.Shelf.faults g.S.Shelf.fetched c.args.name.now (SpellsPlain fluents) (HasCertificateFault fluents) (λ certificate. begun)
+    (refusal_of c.in_err-bytes.field-0.0) c.args.shelf.now c.fetch.new.shelf fetched.refused fetched.fetch
+    (record { quiet_at = fetched.shelf.quiet_at; kept = fetched.shelf.kept; later = fetched.shelf.later }))
 
 pub returns-clause-refused : goal.returns-clause-refused
 returns-clause-refused g c =
-    let held = g.S.Shelf.held c.args.shelf.now in
-    let failed = FailedLast g.S.Shelf.fetched g.S.Shelf.faults c.args.shelf.now c.fetch.new.shelf in
-    let file = rw (← c.deref.ensures.value) at c.in_ok-bytes.ensures.file in
-    misread_file held failed (HasCertificateFault (fluent_names c.args.task.now)) c.args.name.now c.deref.result.now c.in-Err.error (refusal_of c.in_ok-misread-in-Err.field-0) file c.in-Err.ensures.fault c.in_ok-misread-in-Err.ensures
+    let domain = domain_value c.args.loaded.now.domain in
+    let problem = problem_value c.args.loaded.now.problem in
+    let fluents = fluent_names domain problem in
+    let fetched = c.in_ok-bytes.ensures in
+    let file = rw (← c.deref.ensures.value) at fetched.file in
+    let refusal = refusal_of c.in_ok-misread-in-Err.field-0 in
+    text_stops g.S.Shelf.held g.S.Shelf.faults g.S.Shelf.fetched c.args.name.now c.deref.result.now (SpellsPlain fluents) (HasCertificateFault fluents) (λ certificate. begun) refusal
+    c.args.shelf.now c.fetch.new.shelf (record { file = file; fetch = fetched.fetch; quiet = fetched.shelf.quiet; kept = fetched.shelf.kept })
+    (misread_as (HasCertificateFault fluents) c.args.name.now c.deref.result.now c.in-Err.error refusal
+    (with_names (λ names actions. IfFault c.in-Err.error (HasCertificateFault names c.deref.result.now)) domain problem c.args.loaded.now.grounded.task c.requires.of_task.task_is c.in-Err.ensures.fault)
+    c.in_ok-misread-in-Err.ensures)
 
-pub returns-in-Ok-clause-holds : goal.returns-in-Ok-clause-holds
-returns-in-Ok-clause-holds g c =
-    let file = rw (← c.deref.ensures.value) at c.in_ok-bytes.ensures.file in
-    record { bytes = c.deref.result.now; file = file; spelled = (c.in-Ok.read.place, c.in-Ok.ensures.read) }
+pub returns-in-Ok-clause-read : goal.returns-in-Ok-clause-read
+returns-in-Ok-clause-read g c =
+    let domain = domain_value c.args.loaded.now.domain in
+    let problem = problem_value c.args.loaded.now.problem in
+    let fetched = c.in_ok-bytes.ensures in
+    let file = rw (← c.deref.ensures.value) at fetched.file in
+    record {
+      bytes = c.deref.result.now;
+      text = record { file = file; fetch = fetched.fetch; quiet = fetched.shelf.quiet; kept = fetched.shelf.kept };
+      spelled = with_names (λ names actions. SpellsPlain names c.deref.result.now (plain_certificate c.in-Ok.read.certificate)) domain problem c.args.loaded.now.grounded.task
+          c.requires.of_task.task_is (c.in-Ok.read.place, c.in-Ok.ensures.read);
+    }

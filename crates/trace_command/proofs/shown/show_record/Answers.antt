@@ -15,17 +15,19 @@ use Rattle.task_core.specs.Initials.{HasTooManyInitial}
 pub returns-in_err-first : goal.returns-in_err-first
 returns-in_err-first c =
     let p = err_from_is_err_and c.from_residual.result c.from_residual.ensures.1 in
-    let request = c.args.request.now in
-    let task = request.task.now in
-    let recorded = record_value c.args.recorded.now in
-    rw (p.1, p.2) (first_refused (HasTooManyInitial task most_followed) (empty_init request.asked.now.problem.now (problem_value request.problem.now)) (initial_states task) request.asked.now.recorded.now recorded
-    (IsRunTold task (lined_of request.lined.now) recorded) (refusal_of c.in_err-first.field-0.0) c.in_err-first.ensures.refused)
+    let asked = c.args.asked.now in
+    let loaded = c.args.loaded.now in
+    let task = loaded.task.grounded.task in
+    let recorded = record_value loaded.recorded in
+    rw (p.1, p.2) (first_refused (HasTooManyInitial task most_followed) (empty_init asked.problem.now (problem_value loaded.task.problem)) (initial_states task) asked.recorded.now recorded
+    (IsRunTold task (lined_of loaded.lined) recorded) (refusal_of c.in_err-first.field-0.0) c.in_err-first.ensures.refused)
 
 pub returns : goal.returns
 returns c =
-    let request = c.args.request.now in
-    let task = request.task.now in
-    let recorded = record_value c.args.recorded.now in
-    first_answer (HasTooManyInitial task most_followed) (empty_init request.asked.now.problem.now (problem_value request.problem.now)) (initial_states task) request.asked.now.recorded.now recorded
-    (vector (fluent_count task) c.in_ok-first.first) (IsRunTold task (lined_of request.lined.now) recorded) (answer_of c.show_run.result)
+    let asked = c.args.asked.now in
+    let loaded = c.args.loaded.now in
+    let task = loaded.task.grounded.task in
+    let recorded = record_value loaded.recorded in
+    first_answer (HasTooManyInitial task most_followed) (empty_init asked.problem.now (problem_value loaded.task.problem)) (initial_states task) asked.recorded.now recorded
+    (vector (fluent_count task) c.in_ok-first.first) (IsRunTold task (lined_of loaded.lined) recorded) (answer_of c.show_run.result)
     c.in_ok-first.ensures.few c.in_ok-first.ensures.first c.show_run.ensures

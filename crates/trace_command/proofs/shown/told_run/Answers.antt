@@ -14,17 +14,17 @@ use Rattle.trace_command.proofs.shown.told_run.Goals as goal
 
 pub returns : goal.returns
 returns c =
-    let request = c.args.request.now in
-    let task = request.task.now in
+    let loaded = c.args.loaded.now in
+    let task = loaded.task.grounded.task in
     let n = fluent_count task in
-    let plan = plain_of request.lined.now.read.plan in
+    let plan = plain_of loaded.lined.read.plan in
     let first = vector n c.args.first.now in
     let run = run_value n c.in_ok-made.made in
     let stop = stop_value c.in_ok-made.made.stop in
     let is = subst (λ (words : List ℕ). IsRecordedRun task plan first words run) c.deref.ensures.value c.in_ok-made.ensures in
-    let text = recorded_text (source_in task plan request.lined.now.lines.items) c.args.recorded.now.first first run in
+    let text = recorded_text (source_in task plan loaded.lined.lines.items) loaded.recorded.first first run in
     let written : c.into_bytes.result.items ≡ text =
-    ap (λ (v : Vec ℕ Global). v.items) c.into_bytes.ensures.value ∙ c.in_ok-text.ensures ∙ ap (λ (lines : List ℕ). recorded_text (source_in task plan lines) c.args.recorded.now.first first run) c.deref-2.ensures.value in
+    ap (λ (v : Vec ℕ Global). v.items) c.into_bytes.ensures.value ∙ c.in_ok-text.ensures ∙ ap (λ (lines : List ℕ). recorded_text (source_in task plan lines) loaded.recorded.first first run) c.deref-2.ensures.value in
     record {
       run = run;
       is = is;

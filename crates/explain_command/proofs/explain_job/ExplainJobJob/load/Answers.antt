@@ -1,0 +1,55 @@
+use Rattle.std.proofs.Common.{Some}
+use Rattle.std.proofs.lemmas.Result.{err_from_is_err_and}
+use Rattle.pddl_ast.specs.Trees.{DomainTree, ProblemTree}
+use Rattle.pddl_ast.specs.Values.{domain_value, problem_value}
+use Rattle.pddl_system.specs.Systems.{action_names, fluent_names}
+use Rattle.plan_rules.specs.Readings.{HasPlanFault}
+use Rattle.command_base.specs.Answers.{refused}
+use Rattle.command_base.specs.Courses.{Course, answers}
+use Rattle.command_base.specs.Values.{refusal_of}
+use Rattle.command_base.proofs.Courses.{ends, file_stops, task_stops, then_file, then_task}
+use Rattle.explain_command.specs.Explained.{LinedThen}
+use Rattle.explain_command.specs.Lined.{LinedPlan, SpellsLined, of_lined}
+use Rattle.explain_command.specs.Values.{explain_words_of, lined_of}
+use Rattle.explain_command.specs.Words.{ExplainWords}
+use Rattle.explain_command.proofs.explain_job.ExplainJobJob.load.Goals as goal
+
+abbrev explained : ExplainWords → DomainTree → ProblemTree → LinedPlan → Course
+explained asked d p lined = answers (LinedThen asked d p lined)
+
+abbrev after_task : ExplainWords → DomainTree → ProblemTree → Course
+after_task asked d p = of_lined d p asked.check.plan (explained asked d p)
+
+pub returns-in_err-task-clause-refused : goal.returns-in_err-task-clause-refused
+returns-in_err-task-clause-refused g c =
+    let p = err_from_is_err_and c.from_residual.result c.from_residual.ensures.1 in
+    let asked = explain_words_of c.args.self.now.asked in
+    rw (p.1, p.2) (task_stops g.S.Shelf.held g.S.Shelf.faults g.S.Shelf.fetched asked.check.domain asked.check.problem (Some asked.check.kind) (after_task asked) _
+    c.args.shelf.now c.load.new.shelf c.in_err-task.ensures.refused)
+
+pub returns-in_err-lined-clause-refused : goal.returns-in_err-lined-clause-refused
+returns-in_err-lined-clause-refused g c =
+    let p = err_from_is_err_and c.from_residual-in_err-lined.result c.from_residual-in_err-lined.ensures.1 in
+    let asked = explain_words_of c.args.self.now.asked in
+    let task = c.in_ok-task.task in
+    let d = domain_value task.domain in
+    let p' = problem_value task.problem in
+    let a = refused (refusal_of c.in_err-lined.field-0.0) in
+    rw (p.1, p.2) (then_task g.S.Shelf.held g.S.Shelf.faults g.S.Shelf.fetched _ (after_task asked) task a c.args.shelf.now c.load.new.shelf c.read_lined.new.shelf
+    c.in_ok-task.ensures.loaded c.in_ok-task.ensures.loads
+    (file_stops g.S.Shelf.held g.S.Shelf.faults g.S.Shelf.fetched asked.check.plan (SpellsLined (fluent_names d p') (action_names d p')) (HasPlanFault (fluent_names d p') (action_names d p')) (explained asked d p') a
+    c.load.new.shelf c.read_lined.new.shelf c.in_err-lined.ensures.refused))
+
+pub returns-clause-loaded : goal.returns-clause-loaded
+returns-clause-loaded g c = λ a stops.
+    let asked = explain_words_of c.args.self.now.asked in
+    let task = c.in_ok-task.task in
+    let d = domain_value task.domain in
+    let p = problem_value task.problem in
+    let lined = lined_of c.in_ok-lined.lined in
+    let now = c.read_lined.new.shelf in
+    then_task g.S.Shelf.held g.S.Shelf.faults g.S.Shelf.fetched _ (after_task asked) task a c.args.shelf.now c.load.new.shelf now
+    c.in_ok-task.ensures.loaded c.in_ok-task.ensures.loads
+    (then_file g.S.Shelf.held g.S.Shelf.faults g.S.Shelf.fetched asked.check.plan (SpellsLined (fluent_names d p) (action_names d p)) (HasPlanFault (fluent_names d p) (action_names d p)) (explained asked d p) lined a
+    c.load.new.shelf now now c.in_ok-lined.ensures.read
+    (ends g.S.Shelf.held g.S.Shelf.faults g.S.Shelf.fetched (LinedThen asked d p lined) a now stops))
