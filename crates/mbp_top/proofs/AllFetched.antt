@@ -3,7 +3,6 @@
 use Rattle.std.proofs.Common.{◌≡◌, ◌⊎◌, ℕ, List, inl, inr, ◌∙◌, ap, subst, sym, arith}
 use Rattle.plan_io.specs.Fetches.{Fetches}
 use Rattle.plan_io.specs.Held.{Held}
-use Rattle.sexpr_text.specs.declared.faults.InputFault.{InputFault}
 use Rattle.command_base.specs.Answers.{Answer, Refusal, refused, status_of, status_of_refusal}
 use Rattle.command_base.specs.Courses.{Course, GoesIn, IsFaulty, answers, begun, of_file, of_goal, of_limits}
 use Rattle.command_base.specs.Frame.{FailedIn}
@@ -29,10 +28,11 @@ module _ {S : Type 0} (held : Bytes → Held) (failed : Bytes → Type 0) (fetch
   not_early : {X : Type 0} → IsEarly a → X
   not_early early = absurd (apart (status_of a) early late)
 
-  file_early : (Has : Bytes → InputFault → Type 0) (name : Bytes) (r : Refusal) → a ≡ refused r → IsRefusedFile held failed (IsFaulty Has) name r → IsEarly a
-  file_early Has name r is (inl (unread, why)) = inr (inr (inl (ap status_of is ∙ ap status_of_refusal unread)))
-  file_early Has name r is (inr (inl (long, why))) = inr (inl (ap status_of is ∙ ap status_of_refusal long))
-  file_early Has name r is (inr (inr misspelled)) = inl (ap status_of is ∙ ap status_of_refusal misspelled.wrong.2)
+  file_early : (Wrong : Bytes → Bytes → Refusal → Type 0) (name : Bytes) (r : Refusal) → ((bytes : Bytes) → Wrong name bytes r → status_of_refusal r ≡ 3) → a ≡ refused r
+      → IsRefusedFile held failed Wrong name r → IsEarly a
+  file_early Wrong name r wrong is (inl (unread, why)) = inr (inr (inl (ap status_of is ∙ ap status_of_refusal unread)))
+  file_early Wrong name r wrong is (inr (inl (long, why))) = inr (inl (ap status_of is ∙ ap status_of_refusal long))
+  file_early Wrong name r wrong is (inr (inr misspelled)) = inl (ap status_of is ∙ wrong misspelled.bytes misspelled.wrong)
 
   all_fetched : (course : Course) (files : List Bytes) (before after : S) → AreFilesOf course files → GoesIn held failed fetched course a before after → Fetches fetched files before after
   all_fetched (answers Is) files before after (none, other) (stops, same) = subst (λ names. Fetches fetched names before after) (sym none) same
@@ -46,7 +46,7 @@ module _ {S : Type 0} (held : Bytes → Held) (failed : Bytes → Type 0) (fetch
   all_fetched (of_limits domain problem next) files before after of (inl (inr (inr (within, never)), same)) = absurd never
   all_fetched (of_limits domain problem next) files before after of (inr (within, rest)) = all_fetched next files before after of rest
   all_fetched (of_file name Spells Has next) files before after of (x, fetch, inl (inl memory, same)) = not_early (inr (inr (inr (ap status_of memory))))
-  all_fetched (of_file name Spells Has next) files before after of (x, fetch, inl (inr (inl (r, is, why)), same)) = not_early (file_early Has name r is why)
+  all_fetched (of_file name Spells Has next) files before after of (x, fetch, inl (inr (inl (r, is, why)), same)) = not_early (file_early (IsFaulty Has) name r (λ bytes w. ap status_of_refusal w.2) is why)
   all_fetched (of_file name Spells Has next) files before after of (x, fetch, inl (inr (inr (tree, holds, never)), same)) = absurd never
   all_fetched (of_file name Spells Has next) files before after (rest, are, each) (x, fetch, inr (tree, holds, goes)) =
       subst (λ names. Fetches fetched names before after) (sym are) (x, fetch, all_fetched (next tree) rest x after (each tree) goes)

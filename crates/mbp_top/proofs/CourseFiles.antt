@@ -98,12 +98,12 @@ refuted_has_other asked d p c a (inl (tight, alone, is)) six = omega (arith, ap 
 refuted_has_other asked d p c a (inr (inl (none, is))) six = omega (arith, ap status_of is, six)
 refuted_has_other asked d p c a (inr (inr (first, (j, of, is)))) six = judged_has_other j (sym (ap status_of is) ∙ six)
 
-run_has_other : (tallies : Tallies) (asked : ReplayWords) (d : DomainTree) (p : ProblemTree) (plan : PlainPlan) (recorded : RecordTree) (a : Answer) → RunThen tallies asked d p plan recorded a → status_of a ≢ 6
-run_has_other tallies asked d p plan recorded a (inl (many, is)) six = omega (arith, ap status_of is, six)
-run_has_other tallies asked d p plan recorded a (inr (few, inl (none, is))) six = omega (arith, ap status_of is, six)
-run_has_other tallies asked d p plan recorded a (inr (few, inr (some, inl (far, is)))) six = omega (arith, ap status_of is, six)
-run_has_other tallies asked d p plan recorded a (inr (few, inr (some, inr (first, is, replayed)))) six =
-    ending_has_other _ (trace_under (system d p) plan first recorded.words).ending (sym (ap status_of replayed.shown) ∙ six)
+run_has_other : (tallies : Tallies) (asked : ReplayWords) (d : DomainTree) (p : ProblemTree) (followed : PlainPlan) (recorded : RecordTree) (a : Answer) → RunThen tallies asked d p followed recorded a → status_of a ≢ 6
+run_has_other tallies asked d p followed recorded a (inl (many, is)) six = omega (arith, ap status_of is, six)
+run_has_other tallies asked d p followed recorded a (inr (few, inl (none, is))) six = omega (arith, ap status_of is, six)
+run_has_other tallies asked d p followed recorded a (inr (few, inr (some, inl (far, is)))) six = omega (arith, ap status_of is, six)
+run_has_other tallies asked d p followed recorded a (inr (few, inr (some, inr (first, is, replayed)))) six =
+    ending_has_other _ (trace_under (system d p) followed first recorded.words).ending (sym (ap status_of replayed.shown) ∙ six)
 
 pub files_are : (tallies : Tallies) (command : Command) → AreFilesOf (course_of tallies command) (files_of command)
 files_are tallies (plan asked) = (_, refl, λ d. (_, refl, λ p. (refl, planned_has_other asked d p)))

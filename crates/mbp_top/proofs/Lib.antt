@@ -2,6 +2,7 @@ pub mod AllFetched
 pub mod ByCommand
 pub mod CertificateWritten
 pub mod CheckWritten
+pub mod CourseAnswers
 pub mod CourseFiles
 pub mod DrillStatuses
 pub mod DrillWritten

@@ -6,8 +6,7 @@ use Rattle.pddl_system.specs.Sizes.{first_passed}
 use Rattle.pddl_system.specs.Systems.{action_names, fluent_names, system}
 use Rattle.plan_io.specs.Held.{Held}
 use Rattle.plan_rules.specs.Rules.{PlainPlan}
-use Rattle.command_base.specs.Answers.{Answer, no_memory, refused}
-use Rattle.command_base.specs.Courses.{IsAnswerIn, Stops}
+use Rattle.command_base.specs.Answers.{Answer}
 use Rattle.command_base.specs.Shelves.{KeepsShelf}
 use Rattle.mbp_top.specs.Causes.{HasCause, IsAnswerOf}
 use Rattle.command_base.specs.Faults.{NoFault}
@@ -25,7 +24,7 @@ use Rattle.command_base.specs.PlanFiles.{HoldsPlan, is_of_kind}
 use Rattle.mbp_top.specs.Runs.{HasRun, IsAnswered, Run}
 use Rattle.command_base.specs.Frame.{FailedIn}
 use Rattle.mbp_top.specs.Told.{AreFilesTold}
-use Rattle.command_base.specs.Words.{Bytes, CheckWords, Command, PlanWords, SayNothing, Says, SaysCheck, SaysPlan, check, drill, ground, plan, refute, replay}
+use Rattle.command_base.specs.Words.{Bytes, CheckWords, Command, PlanWords, SayNothing, Says, SaysCheck, SaysPlan}
 use Rattle.command_base.proofs.Frames.{IsGivenFor, is_run}
 use Rattle.mbp_top.proofs.ByCommand.{due_answer}
 use Rattle.mbp_top.proofs.CertificateWritten.{PrintedIsAccepted, certificate_written}
@@ -33,8 +32,7 @@ use Rattle.check_command.proofs.YesMeets.{YesSolves}
 use Rattle.mbp_top.proofs.CheckWritten.{check_no_written, check_status, check_yes_written}
 use Rattle.command_base.proofs.Courses.{cause_in, goes_for_memory}
 use Rattle.command_base.proofs.OneCommand.{one_command}
-use Rattle.plan_command.proofs.PlanAnswers.{plan_answer}
-use Rattle.refute_command.proofs.RefuteAnswers.{refute_answer}
+use Rattle.mbp_top.proofs.CourseAnswers.{as_answer}
 use Rattle.mbp_top.proofs.DrillStatuses.{drill_status}
 use Rattle.mbp_top.proofs.DrillWritten.{drill_written, full_drill}
 use Rattle.mbp_top.proofs.GroundWritten.{listing_status, listing_written}
@@ -51,18 +49,6 @@ module _ {S : Type 0} (held : S → Bytes → Held) (faults : S → ℕ) (fetche
 
   abbrev IsDone : Answer → Type 0
   IsDone = Done (held run.shelf) (FailedIn faults fetched run) run.handed run.words (faults run.shelf) (faults run.shelf_after) run.out run.out_after run.err run.err_after run.status
-
-  -- an answer in the course of a command is one of it
-  as_answer : (command : Command) (a : Answer) → Stops (IsAnswerIn (held run.shelf) (FailedIn faults fetched run) (course_of run.handed command)) a
-      → (a ≡ refused no_memory) ⊎ IsAnswerOf (held run.shelf) (FailedIn faults fetched run) run.handed command a
-  as_answer (plan asked) a (inl memory) = inl memory
-  as_answer (plan asked) a (inr is) = inr (plan_answer (held run.shelf) (FailedIn faults fetched run) asked a is)
-  as_answer (ground asked) a stops = stops
-  as_answer (check asked) a stops = stops
-  as_answer (replay asked) a stops = stops
-  as_answer (drill asked) a stops = stops
-  as_answer (refute asked) a (inl memory) = inl memory
-  as_answer (refute asked) a (inr is) = inr (refute_answer (held run.shelf) (FailedIn faults fetched run) asked a is)
 
   -- what was found for the words, and what was given for it
   pub has_run : (found given : Answer) → IsAnswered held faults fetched run.handed run.words found run.shelf run.shelf_after → IsGivenFor found given
@@ -85,7 +71,7 @@ module _ {S : Type 0} (held : S → Bytes → Held) (faults : S → ℕ) (fetche
         of_run found (inl (nothing, is)) (λ command says. absurd (nothing command says)) (λ none. same)
         (record { quiet_at = inl (ap faults same); kept = λ file. ap (λ (s : S). held s file) same; later = subst (λ (s : S). faults run.shelf ≤ faults s) (sym same) (omega arith) })
     go (inr (command, says, carried)) =
-        of_run found (inr (command, says, as_answer command found (cause_in (held run.shelf) fetched (FailedIn faults fetched run) (course_of run.handed command) found run.shelf run.shelf_after carried.goes)))
+        of_run found (inr (command, says, as_answer (held run.shelf) (FailedIn faults fetched run) run.handed command found (cause_in (held run.shelf) fetched (FailedIn faults fetched run) (course_of run.handed command) found run.shelf run.shelf_after carried.goes)))
         (λ said says'. subst (λ c. Fetched c found run.shelf run.shelf_after) (one_command run.words command said says says') carried.goes)
         (λ none. absurd (none command says)) carried.shelf
 

@@ -3,7 +3,6 @@ use Rattle.std.proofs.Common.{◌≡◌, ◌<◌, ℕ, zero, suc, List, [], ◌�
 use Rattle.std.specs.Prelude.{slice_index_or}
 use Rattle.std.specs.Io.KnownBytes.{append_known}
 use Rattle.plan_io.specs.Held.{Held, Missing}
-use Rattle.sexpr_text.specs.declared.faults.InputFault.{InputFault}
 use Rattle.command_base.specs.Answers.{Answer, Refusal, refused, read_fault, status_of, status_of_refusal, text_of}
 use Rattle.command_base.specs.Courses.{Course, IsAnswerIn, IsFaulty, Stops, answers, begun, of_file, of_goal, of_limits}
 use Rattle.command_base.specs.Delivery.{IsWhole}
@@ -29,9 +28,9 @@ record UnreadAt (held : Bytes → Held) (failed : Bytes → Type 0) (files : Lis
   pub shown : a ≡ refused (read_fault name)
 
 -- it is the first
-unread_first : (held : Bytes → Held) (failed : Bytes → Type 0) (name : Bytes) (files : List Bytes) (a : Answer) (r : Refusal) (Has : Bytes → InputFault → Type 0)
-    → a ≡ refused r → IsRefusedFile held failed (IsFaulty Has) name r → status_of a ≡ 6 → UnreadAt held failed (name ∷ files) a
-unread_first held failed name files a r Has is (inl (unread, why)) six = record {
+unread_first : (held : Bytes → Held) (failed : Bytes → Type 0) (name : Bytes) (files : List Bytes) (a : Answer) (r : Refusal) (Wrong : Bytes → Bytes → Refusal → Type 0)
+    → ((bytes : Bytes) → Wrong name bytes r → status_of_refusal r ≡ 3) → a ≡ refused r → IsRefusedFile held failed Wrong name r → status_of a ≡ 6 → UnreadAt held failed (name ∷ files) a
+unread_first held failed name files a r Wrong wrong is (inl (unread, why)) six = record {
   place = 0;
   name = name;
   there = omega arith;
@@ -40,8 +39,8 @@ unread_first held failed name files a r Has is (inl (unread, why)) six = record 
   unread = why;
   shown = is ∙ ap refused unread;
 }
-unread_first held failed name files a r Has is (inr (inl (long, why))) six = absurd (omega (arith, ap status_of is, ap status_of_refusal long, six))
-unread_first held failed name files a r Has is (inr (inr misspelled)) six = absurd (omega (arith, ap status_of is, ap status_of_refusal misspelled.wrong.2, six))
+unread_first held failed name files a r Wrong wrong is (inr (inl (long, why))) six = absurd (omega (arith, ap status_of is, ap status_of_refusal long, six))
+unread_first held failed name files a r Wrong wrong is (inr (inr misspelled)) six = absurd (omega (arith, ap status_of is, wrong misspelled.bytes misspelled.wrong, six))
 
 -- or it comes after one that was read
 unread_later : (held : Bytes → Held) (failed : Bytes → Type 0) (name bytes : Bytes) (files : List Bytes) (a : Answer) → IsFile held name bytes → UnreadAt held failed files a → UnreadAt held failed (name ∷ files) a
@@ -66,7 +65,7 @@ unread_in held failed a six (of_goal kind name problem next) files of (inr (some
 unread_in held failed a six (of_limits domain problem next) files of (inl (limit, passed, is)) = absurd (omega (arith, ap status_of is, six))
 unread_in held failed a six (of_limits domain problem next) files of (inr (within, rest)) = unread_in held failed a six next files of rest
 unread_in held failed a six (of_file name Spells Has next) files (rest, are, each) (inl (r, is, why)) =
-    subst (λ names. UnreadAt held failed names a) (sym are) (unread_first held failed name rest a r Has is why six)
+    subst (λ names. UnreadAt held failed names a) (sym are) (unread_first held failed name rest a r (IsFaulty Has) (λ bytes w. ap status_of_refusal w.2) is why six)
 unread_in held failed a six (of_file name Spells Has next) files (rest, are, each) (inr (tree, holds, then)) =
     subst (λ names. UnreadAt held failed names a) (sym are) (unread_later held failed name holds.bytes rest a holds.file (unread_in held failed a six (next tree) rest (each tree) then))
 

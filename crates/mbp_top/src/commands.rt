@@ -24,8 +24,8 @@ pub(crate) fn answer<S: Shelf>(
 ) -> Result<Shown, Refusal>
     requires untold { All (λ monitor. (shown monitor).counted ≡ 0) handed.monitors.items }
     ensures { IsAnswered S.held S.faults S.fetched
-        (tallies_of (map (λ monitor. shown monitor) handed.monitors.items))
-        (map string_bytes handed.words.now) (answer_of result) shelf.old shelf.new }
+        (tallies_of (map (λ monitor. shown monitor) handed.entry.monitors.items))
+        (map string_bytes handed.entry.words.now) (answer_of result) shelf.old shelf.new }
 {
     let Handed {
         words,

@@ -30,8 +30,8 @@ pub(crate) fn carry_out<S: Shelf, O: Sink, E: Sink>(
 ) -> u8
     requires untold { All (λ monitor. (shown monitor).counted ≡ 0) handed.monitors.items }
     ensures { HasRun S.held S.faults S.fetched (record {
-      words = map string_bytes handed.words.now;
-      handed = tallies_of (map (λ monitor. shown monitor) handed.monitors.items);
+      words = map string_bytes handed.entry.words.now;
+      handed = tallies_of (map (λ monitor. shown monitor) handed.entry.monitors.items);
       shelf = shelf.old;
       shelf_after = shelf.new;
       out = seen (O.written out.old) (O.faults out.old);
