@@ -145,7 +145,6 @@ fn add_set(alloc: Global, enc: &mut Enc, board: &mut Board, set: &StateSet) -> R
     join_set(enc, board)
 }
 
-/// Joins sets to the union.
 pub(crate) fn join_sets(
     alloc: Global,
     enc: &mut Enc,

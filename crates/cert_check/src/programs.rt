@@ -83,7 +83,6 @@ fn add_cube(steps: &mut Vec<Step>, space: SetId, cube: &[Lit]) -> Result<(), Set
     note(steps, Step::Combine(SET, Operation::Join, SET, CUBE))
 }
 
-/// The steps that make a set.
 pub(crate) fn set_steps(alloc: Global, space: SetId, set: &StateSet) -> Result<Vec<Step>, SetErr>
     ensures made { IfOk result (λ steps. steps.items ≡ set_steps space (set_of set.now)) }
     ensures never_full { IfErr result (λ e. e ≡ SetErr.Memory) }
@@ -138,7 +137,6 @@ fn add_lead(
     note(steps, Step::Combine(LEFT, Operation::Minus, LEFT, PART))
 }
 
-/// The steps that make where an action is a way out.
 pub(crate) fn way_out_steps(
     alloc: Global,
     class: Class,

@@ -56,7 +56,6 @@ pub fn rule_place(actions: u32, stages: u32, action: ActionId) -> usize
     takers_at(actions, stages, stages + 1) + action.0 as usize
 }
 
-/// How many places there are.
 pub(crate) fn places(actions: u32, stages: u32) -> usize
     requires { stages ≤ most_stages }
     ensures { result ≡ place_count actions stages }

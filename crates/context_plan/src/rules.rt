@@ -73,7 +73,6 @@ fn add_rules(rules: &mut Vec<AutoRule>, given: Move, cubes: Vec<Vec<Lit>>) -> Re
     Ok(())
 }
 
-/// The rules of the states at a place.
 pub(crate) fn list_at(
     enc: &Enc,
     board: &Board,

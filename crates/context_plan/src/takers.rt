@@ -102,7 +102,6 @@ fn climb_hits(enc: &mut Enc, board: &mut Board, takers: usize, a: ActionId) -> R
     board.combine(enc, NEXT, Operation::Join, NEXT, HITS)
 }
 
-/// One step once more.
 fn retrace_step(enc: &mut Enc, board: &mut Board, takers: usize, step: &Step) -> Result<(), SetErr>
     requires ready { (start : Start) × (x : Scene) × (met : ℕ) × (rest : List Noted)
         × RetracedOn start x (enc.old, board.old.slots.items) met takers (step.now ∷ rest)

@@ -127,7 +127,6 @@ pub(crate) fn keep_steps(notes: &mut Vec<Vec<Step>>, steps: Vec<Step>) -> Result
     }
 }
 
-/// The list of steps at a place.
 pub(crate) fn steps_of(notes: &[Vec<Step>], place: usize) -> &[Step]
     requires { place < length notes.now }
     ensures { result.now ≡ steps_at notes.now place }

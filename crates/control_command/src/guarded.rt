@@ -9,7 +9,7 @@ use crate::searches::follow_found;
 use controller_rules::is_plan_of;
 use plan_rules::{AutoPlan, AutoRule, FIRST_CONTEXT, Next, Plan, Rule, TablePlan};
 use std::alloc::{AllocError, Global};
-use task_core::{ActionId, Cond, FluentId, Task};
+use task_core::{ActionId, Cond, FluentId, MAX_FLUENTS, Task};
 
 /// How many rules are made of one at most. Where a precondition would take more, the rest are left out.
 const MOST_PARTS: usize = 256;
@@ -251,7 +251,7 @@ fn all_asking(
 
 /// Whether a pattern asks for the other value of a fluent.
 fn asks_other(pattern: &Pattern, fluent: FluentId, value: bool) -> bool {
-    fluent.0 < 256 && pattern.kept.get(fluent) && pattern.state.get(fluent) != value
+    fluent.0 < MAX_FLUENTS && pattern.kept.get(fluent) && pattern.state.get(fluent) != value
 }
 
 /// The parts that are the first to count somewhere where the plan leads, in the order of the first

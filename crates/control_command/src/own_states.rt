@@ -5,10 +5,7 @@ use crate::rules::Pattern;
 use crate::served::copy_of;
 use plan_rules::Rule;
 use std::alloc::{AllocError, Global};
-use task_core::{FluentId, Lit, State};
-
-/// The most fluents of a state.
-const MOST_FLUENTS: u32 = 256;
+use task_core::{FluentId, Lit, MAX_FLUENTS, State, WORDS};
 
 /// How many parts of a rule's states are looked at at most. A rule of which more would be looked at is
 /// kept.
@@ -45,7 +42,7 @@ pub(crate) fn pattern_of(cube: &[Lit]) -> Pattern {
 
 /// The same, where a fluent is to have a value, too.
 pub(crate) fn asking(pattern: &Pattern, fluent: u32, value: bool) -> Pattern {
-    let fluent = FluentId(fluent % MOST_FLUENTS);
+    let fluent = FluentId(fluent % MAX_FLUENTS);
     Pattern {
         state: pattern.state.with(fluent, value),
         kept: pattern.kept.with(fluent, true),
@@ -118,7 +115,7 @@ fn agree(pattern: &Pattern, other: &Pattern) -> bool {
     let others = other.state.bits();
     let kept = pattern.kept.bits();
     let kept_too = other.kept.bits();
-    for word in 0..4 {
+    for word in 0..WORDS {
         if (values[word] ^ others[word]) & kept[word] & kept_too[word] != 0 {
             return false;
         }
@@ -130,7 +127,7 @@ fn agree(pattern: &Pattern, other: &Pattern) -> bool {
 fn first_asked(pattern: &Pattern, part: &Pattern) -> Option<u32> {
     let asked = pattern.kept.bits();
     let kept = part.kept.bits();
-    for word in 0..4 {
+    for word in 0..WORDS {
         let open = asked[word] & !kept[word];
         if open != 0 {
             return Some((64 * word as u32).saturating_add(open.trailing_zeros()));

@@ -4,10 +4,7 @@ use crate::rules::{Pattern, ShortRule};
 use command_base::PlanKind;
 use plan_rules::{AutoPlan, AutoRule, FIRST_CONTEXT, Next, Plan, Rule, TablePlan};
 use std::alloc::{AllocError, Global};
-use task_core::{FluentId, Lit};
-
-/// The most fluents of a state.
-const MOST_FLUENTS: u32 = 256;
+use task_core::{FluentId, Lit, MAX_FLUENTS};
 
 /// The plan of a kind with these rules.
 pub(crate) fn plan_of(
@@ -81,7 +78,7 @@ fn number_of(context: u32) -> u32 {
 /// What a rule asks of a state, as literals in the order of their fluents.
 pub(crate) fn cube_of(alloc: Global, pattern: &Pattern) -> Result<Vec<Lit>, AllocError> {
     let mut cube = Vec::new(alloc);
-    for number in 0..MOST_FLUENTS {
+    for number in 0..MAX_FLUENTS {
         let fluent = FluentId(number);
         if pattern.kept.get(fluent) {
             cube.push(Lit {

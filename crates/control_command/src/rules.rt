@@ -1,18 +1,16 @@
 //! Few and short rules for what a plan does in the configurations that it reaches.
 
 ghost use Rattle.std.specs.Prelude.{◌<◌, IfSome, length};
+ghost use Rattle.task_core.specs.Limits.{most_fluents};
 
 use crate::followed::{Followed, Move, Place};
 use sexpr_text::MAX_BYTES;
 use std::alloc::{AllocError, Global};
 use std::rc::RcStr;
-use task_core::{FluentId, State, Task};
-
-/// The most fluents of a state.
-const MOST_FLUENTS: u32 = 256;
+use task_core::{FluentId, MAX_FLUENTS, State, Task, WORDS};
 
 /// A place behind all those of fluents that are false in a state, and those that are true in it.
-const NOWHERE: u32 = 2 * MOST_FLUENTS;
+const NOWHERE: u32 = 2 * MAX_FLUENTS;
 
 /// How many configurations may be looked at while rules are made short, all in all. Once there were
 /// so many, rules stay as long as they are.
@@ -39,7 +37,7 @@ impl Pattern {
         let wanted = self.state.bits();
         let kept = self.kept.bits();
         let bits = state.bits();
-        for word in 0..4 {
+        for word in 0..WORDS {
             if (wanted[word] ^ bits[word]) & kept[word] != 0 {
                 return false;
             }
@@ -49,7 +47,7 @@ impl Pattern {
 
     /// The same, where one fluent more is kept.
     fn with(&self, fluent: FluentId) -> Pattern
-        requires { fluent.0 < 256 }
+        requires { fluent.0 < most_fluents }
     {
         Pattern {
             state: self.state,
@@ -328,7 +326,7 @@ impl Maker {
             kept: State::none(),
         });
         let mut wrong = self.wrong_for(alloc, followed, &short)?;
-        for _ in 0..MOST_FLUENTS {
+        for _ in 0..MAX_FLUENTS {
             match first_wanted(followed, &short, &wrong) {
                 Some(fluent) => {
                     short = short.asking(short.pattern.with(fluent));
@@ -444,7 +442,7 @@ fn counts_at(followed: &Followed, rule: &ShortRule, number: usize) -> bool {
 /// the state that a rule was made of: those that are false there come first, and then those that
 /// are true.
 fn first_wanted(followed: &Followed, rule: &ShortRule, wrong: &[usize]) -> Option<FluentId>
-    ensures { IfSome result (λ fluent. fluent.0 < 256) }
+    ensures { IfSome result (λ fluent. fluent.0 < most_fluents) }
 {
     let mut first = NOWHERE;
     for number in wrong {
@@ -453,7 +451,7 @@ fn first_wanted(followed: &Followed, rule: &ShortRule, wrong: &[usize]) -> Optio
         }
     }
     if first < NOWHERE {
-        return Some(FluentId(first % MOST_FLUENTS));
+        return Some(FluentId(first % MAX_FLUENTS));
     }
     None
 }
@@ -464,16 +462,16 @@ fn last_difference(state: &State, other: &State) -> u32 {
     let own = state.bits();
     let bits = other.bits();
     let mut last = NOWHERE;
-    for word in 0..4 {
+    for word in 0..WORDS {
         let lost = own[word] & !bits[word];
         if lost != 0 {
-            last = MOST_FLUENTS + 64 * word as u32 + highest(lost);
+            last = MAX_FLUENTS + 64 * word as u32 + highest(lost);
         }
     }
     if last < NOWHERE {
         return last;
     }
-    for word in 0..4 {
+    for word in 0..WORDS {
         let gained = bits[word] & !own[word];
         if gained != 0 {
             last = 64 * word as u32 + highest(gained);
@@ -492,7 +490,7 @@ fn highest(word: u64) -> u32
 /// The state in which so many first fluents are true.
 fn first_fluents(fluents: u32) -> State {
     let mut state = State::none();
-    for number in 0..MOST_FLUENTS {
+    for number in 0..MAX_FLUENTS {
         if number < fluents {
             state = state.with(FluentId(number), true);
         }

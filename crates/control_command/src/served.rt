@@ -4,7 +4,7 @@
 use crate::followed::{Followed, Place};
 use plan_rules::Rule;
 use std::alloc::{AllocError, Global};
-use task_core::{Lit, State};
+use task_core::{Lit, MAX_FLUENTS, State};
 
 /// Some rules of a table, and the numbers of steps after which they are first wanted.
 #[derive(Drop)]
@@ -49,7 +49,7 @@ fn first_matching<'a>(rules: &'a [Rule], place: &Place) -> Option<&'a Rule> {
 /// Whether a state has all literals of a cube.
 fn matches(cube: &[Lit], state: &State) -> bool {
     for literal in cube {
-        if literal.fluent.0 >= 256 || state.get(literal.fluent) != literal.positive {
+        if literal.fluent.0 >= MAX_FLUENTS || state.get(literal.fluent) != literal.positive {
             return false;
         }
     }

@@ -12,6 +12,7 @@ use Rattle.task_core.specs.ContextPlans.{Configuration}
 use Rattle.task_core.specs.Cubes.{matches}
 use Rattle.task_core.specs.States.{vector}
 use Rattle.task_core.specs.declared.states.State.{State}
+use Rattle.task_core.specs.Limits.{most_fluents}
 use Rattle.controller_rules.specs.AsRun.{HasOneMoveAt, MakeSameMove, counts_at}
 use Rattle.controller_rules.specs.Checks.{AreIndexed, place_of, plain_rules, run_cube, run_value}
 use Rattle.controller_rules.specs.declared.run_rules.RunRule.{RunRule}
@@ -34,7 +35,7 @@ some_of : {X : Type 0} (xs : List X) → 0 < length xs → X
 some_of [] long = absurd (omega arith)
 some_of (x ∷ xs) long = x
 
-module _ (n : ℕ) (run : RunRules) (state : State) (context : ℕ) (few : n ≤ 256) (indexed : AreIndexed n run) where
+module _ (n : ℕ) (run : RunRules) (state : State) (context : ℕ) (few : n ≤ most_fluents) (indexed : AreIndexed n run) where
   here : Configuration
   here = place_of n state context
 

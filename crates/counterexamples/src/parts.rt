@@ -16,6 +16,7 @@ ghost use Rattle.std.specs.Prelude.{
   map,
 };
 ghost use Rattle.task_core.specs.Conditions.{holds_in, ids_below};
+ghost use Rattle.task_core.specs.Limits.{most_fluents};
 ghost use Rattle.counterexamples.specs.Parts.{HasFalseParts, IsFalsePart};
 
 use std::alloc::{AllocError, Global};
@@ -29,7 +30,7 @@ pub fn false_parts<'a>(
     cond: &'a Cond,
     state: &State,
 ) -> Result<Vec<&'a Cond>, AllocError>
-    requires { IsTrue (ids_below 256 cond.now) }
+    requires { IsTrue (ids_below most_fluents cond.now) }
     ensures each { IfOk result (λ parts.
         All (λ part. IsFalsePart cond.now state.now part.now) parts.items) }
     ensures some { IfOk result (λ parts.
@@ -47,7 +48,7 @@ fn add_false_parts<'a>(
     state: &State,
     parts: &mut Vec<&'a Cond>,
 ) -> Result<(), AllocError>
-    requires { IsTrue (ids_below 256 cond.now) }
+    requires { IsTrue (ids_below most_fluents cond.now) }
     ensures { IfOk result (λ _. HasFalseParts cond.now state.now
         (map (λ part. part.now) parts.old.items) (map (λ part. part.now) parts.new.items)) }
 {

@@ -337,7 +337,6 @@ fn visited(goal: &Ctl) -> Option<&Cond>
     }
 }
 
-/// The condition that a goal is, where it has no operators.
 fn plain_condition(goal: &Ctl) -> Option<&Cond>
     ensures { option_copied result ≡ proposition_of (ctl_value goal.now) }
 {

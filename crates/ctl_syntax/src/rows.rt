@@ -18,7 +18,6 @@ pub(crate) fn is_stage(goals: &[Ctl]) -> bool
     !goals.is_empty() && are_plain(goals)
 }
 
-/// Whether no goal has operators.
 fn are_plain(goals: &[Ctl]) -> bool
     ensures { result ≡ list_all is_plain (map ctl_value goals.now) }
 {
@@ -30,7 +29,6 @@ fn are_plain(goals: &[Ctl]) -> bool
     true
 }
 
-/// Whether a goal has no operators.
 fn is_without_operators(goal: &Ctl) -> bool
     ensures { result ≡ is_plain (ctl_value goal.now) }
 {
@@ -40,7 +38,6 @@ fn is_without_operators(goal: &Ctl) -> bool
     }
 }
 
-/// Copies of the goals that have no operators.
 pub(crate) fn plain_copies(alloc: Global, goals: &[Ctl]) -> Result<Vec<Cond>, AllocError>
     ensures { IfOk result (λ copies. map condition_value copies.items
         ≡ map condition_value (plain_parts (map ctl_value goals.now))) }

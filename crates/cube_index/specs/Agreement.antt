@@ -4,6 +4,7 @@ use Rattle.std.specs.Prelude.{slice_index_or}
 use Rattle.std.specs.List.{All, list_all}
 use Rattle.std.specs.Int.{bit_at}
 use Rattle.task_core.specs.Vectors.{Vector, value_of}
+use Rattle.task_core.specs.Limits.{most_fluents}
 use Rattle.cube_index.specs.declared.blocks.Test.{Test}
 
 -- whether bit k of a word is set
@@ -33,4 +34,4 @@ answer v blocks number =
 
 -- the tests are of fluents that a state has
 abbrev pub AreTests : List Test → Type 0
-AreTests tests = All (λ (test : Test). test.fluent.0 < 256) tests
+AreTests tests = All (λ (test : Test). test.fluent.0 < most_fluents) tests

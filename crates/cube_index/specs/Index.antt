@@ -6,6 +6,7 @@ use Rattle.task_core.specs.Vectors.{Vector}
 use Rattle.task_core.specs.States.{vector}
 use Rattle.task_core.specs.declared.states.State.{State}
 use Rattle.task_core.specs.declared.literals.Lit.{Lit}
+use Rattle.task_core.specs.Limits.{most_fluents}
 use Rattle.cube_index.specs.declared.index.CubeIndex.{CubeIndex}
 use Rattle.cube_index.specs.declared.blocks.Block.{Block}
 use Rattle.cube_index.specs.declared.blocks.Test.{Test}
@@ -25,8 +26,8 @@ IsIndexOf index cubes = (v : Vector) → answers index v ≡ map (λ (cube : Cub
 
 -- the values of all fluents that a state has
 abbrev pub values_of : State → Vector
-values_of = vector 256
+values_of = vector most_fluents
 
 -- the literals are of fluents that a state has
 abbrev pub AreLits : Cube → Type 0
-AreLits cube = All (λ (lit : Lit). lit.fluent.0 < 256) cube
+AreLits cube = All (λ (lit : Lit). lit.fluent.0 < most_fluents) cube

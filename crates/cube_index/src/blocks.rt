@@ -23,6 +23,7 @@ ghost use Rattle.std.specs.Prelude.{
 ghost use Rattle.task_core.specs.Cubes.{matches};
 ghost use Rattle.task_core.specs.States.{vector};
 ghost use Rattle.task_core.specs.Vectors.{Vector, same_value, value_of};
+ghost use Rattle.task_core.specs.Limits.{most_fluents};
 ghost use Rattle.cube_index.specs.Agreement.{
   AreTests,
   agrees,
@@ -137,7 +138,7 @@ impl Block {
     /// Has the cube at a place agree only where the literal holds, besides.
     fn want(&mut self, lit: Lit, place: usize) -> Result<(), AllocFailed<Test>>
         requires place { place < 64 }
-        requires lit { lit.fluent.0 < 256 }
+        requires lit { lit.fluent.0 < most_fluents }
         requires tests { AreTests self.old.tests.items }
         ensures tests { OnOk result (AreTests self.new.tests.items) }
         ensures narrowed { OnOk result ((v : Vector) (k : ℕ) → k < 64
@@ -156,7 +157,6 @@ impl Block {
         }
     }
 
-    /// The number of a test of this fluent, where there is one.
     fn test_of(&self, fluent: FluentId) -> Option<usize>
         ensures within { IfSome result (λ number. number < length self.now.tests.items) }
         ensures fluent { IfSome result (λ number.

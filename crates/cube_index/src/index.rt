@@ -92,7 +92,6 @@ impl CubeIndex {
     }
 }
 
-/// The cubes of the block of this number.
 fn block_of<'a, 'b>(cubes: &'a [&'b [Lit]], number: usize) -> &'a [&'b [Lit]]
     requires { 64 * number < length cubes.now }
     ensures { result.now ≡ take 64 (drop (64 * number) cubes.now) }

@@ -61,7 +61,6 @@ fn grow_and_take(enc: &mut Enc, board: &mut Board, actions: u32, a: ActionId) ->
     board.combine(enc, NEXT, Operation::Join, NEXT, HITS)
 }
 
-/// One step once more.
 fn retrace_step(enc: &mut Enc, board: &mut Board, actions: u32, step: &Step) -> Result<(), SetErr>
     requires ready { (start : Start) × (left : SetOfVectors) × (k : ℕ) × (n : ℕ)
         × (rest : List Noted)

@@ -318,7 +318,6 @@ fn keep_left(enc: &mut Enc, board: &mut Board, a: ActionId) -> Result<bool, SetE
     }
 }
 
-/// Whether one of two things is so.
 fn either(a: bool, b: bool) -> bool
     ensures { result ≡ (a || b) }
 {

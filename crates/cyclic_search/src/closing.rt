@@ -27,7 +27,6 @@ pub(crate) struct Closing {
     nexts: Vec<Vec<Next>>,
 }
 
-/// Which pairs of a policy are closed.
 pub(crate) fn closed_pairs(world: &mut World<'_>, policy: &Policy) -> Result<Vec<bool>, Stop> {
     let mut closing = Closing {
         closed: Vec::new(world.alloc),

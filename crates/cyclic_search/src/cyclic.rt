@@ -133,7 +133,6 @@ impl Rounds {
         Ok(found)
     }
 
-    /// Goes on from a state.
     fn visit(
         &mut self,
         world: &mut World<'_>,

@@ -104,7 +104,6 @@ impl Finder {
         self.ended(world, start, end)
     }
 
-    /// Begins a search.
     fn begin(&mut self, world: &mut World<'_>, start: u32) -> Result<(), Stop> {
         self.search = world.states.next_search();
         self.region.clear();

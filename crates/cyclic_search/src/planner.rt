@@ -142,7 +142,6 @@ struct Ahead {
     distance: u32,
 }
 
-/// Adds the pair of a step.
 fn add_pair(
     world: &World<'_>,
     policy: &mut Policy,

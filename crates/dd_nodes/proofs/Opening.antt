@@ -6,6 +6,7 @@ use Rattle.dd_nodes.specs.declared.arena.Cell.{Cell}
 use Rattle.dd_nodes.specs.NodeList.{node_at, IsReduced}
 use Rattle.dd_nodes.specs.Table.{IsNodeTable}
 use Rattle.dd_nodes.specs.Arena.{nodes_of, AreChained, IsArena}
+use Rattle.dd_nodes.specs.Limits.{most_variables}
 use Rattle.dd_nodes.proofs.NodeLemmas.{node_place}
 use Rattle.dd_nodes.proofs.Chains.{none_chained}
 
@@ -24,7 +25,7 @@ empty_reduced vars = record {
   hi_below = λ n node there. none_at n node there;
 }
 
-pub empty_table : (vars limit : ℕ) → vars ≤ 256 → 0 < limit → limit ≤ 16777216 → (cells : List Cell) → cells ≡ []
+pub empty_table : (vars limit : ℕ) → vars ≤ most_variables → 0 < limit → limit ≤ 16777216 → (cells : List Cell) → cells ≡ []
     → IsNodeTable (record { vars = vars; limit = limit; nodes = nodes_of cells })
 empty_table vars limit few some small cells empty =
     subst (λ list. IsNodeTable (record { vars = vars; limit = limit; nodes = nodes_of list })) (sym empty) (record {

@@ -8,12 +8,16 @@ ghost use Rattle.std.specs.List.{All};
 ghost use Rattle.dd_nodes.specs.declared.node.Ref as reference;
 ghost use Rattle.dd_nodes.specs.Collecting.{Collected};
 ghost use Rattle.dd_nodes.specs.Table.{IsNodeTable};
+ghost use Rattle.dd_nodes.specs.Limits.{most_variables};
 
 use crate::arena::{self, Cell};
 use crate::collect;
 use crate::node::{DdErr, Node, Ref};
 use std::alloc::{AllocError, Global};
 use std::marker::Model;
+
+/// How many variables a table may have.
+pub const MAX_VARIABLES: u32 = 1024;
 
 /// A table of diagram nodes: at most `limit` nodes over `vars` variables.
 ///
@@ -51,7 +55,7 @@ impl Model for Dd {
 impl Dd {
     /// An empty table for at most `limit` nodes over `vars` variables. No other call wants memory.
     pub fn new(alloc: Global, vars: u32, limit: u32) -> Result<Dd, AllocError>
-        requires few_vars { vars ≤ 256 }
+        requires few_vars { vars ≤ most_variables }
         requires some_room { 0 < limit }
         requires small_limit { limit ≤ 16777216 }
         ensures vars { IfOk result (λ dd. dd.vars ≡ vars) }
@@ -163,7 +167,7 @@ impl Dd {
 
     /// Whether the function of `f` is true at the truth values in `bits`: variable `v` is bit `v %
     /// 64` of word `v / 64`.
-    pub fn eval(&self, f: Ref, bits: &[u64; 4]) -> bool
+    pub fn eval(&self, f: Ref, bits: &[u64; 16]) -> bool
         requires { IsNumber self.now.nodes f.0 }
         ensures { result ≡ function self.now.nodes f.0 (values_of_bits bits.now) }
     {
@@ -176,8 +180,8 @@ impl Dd {
 }
 
 /// Where a walk goes from a node.
-fn child(node: Node, bits: &[u64; 4]) -> Ref
-    requires { node.var < 256 }
+fn child(node: Node, bits: &[u64; 16]) -> Ref
+    requires { node.var < most_variables }
     ensures { result.0 ≡ (if values_of_bits bits.now node.var then node.hi.0 else node.lo.0) }
 {
     if is_set(bits, node.var) {
@@ -188,8 +192,8 @@ fn child(node: Node, bits: &[u64; 4]) -> Ref
 }
 
 /// Whether the bit of a variable is set.
-fn is_set(bits: &[u64; 4], var: u32) -> bool
-    requires { var < 256 }
+fn is_set(bits: &[u64; 16], var: u32) -> bool
+    requires { var < most_variables }
     ensures { result ≡ values_of_bits bits.now var }
 {
     bits[var as usize / 64] >> (var % 64) & 1 == 1

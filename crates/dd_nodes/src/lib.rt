@@ -13,7 +13,7 @@ mod dd;
 mod laws;
 mod node;
 
-pub use dd::Dd;
+pub use dd::{Dd, MAX_VARIABLES};
 pub use laws::{
     collected_nodes_are_counted, depends_on_variables, nodes_are_reached, one_number_per_function,
     subfunctions_are_reached,

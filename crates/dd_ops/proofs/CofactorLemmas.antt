@@ -4,6 +4,7 @@ use Rattle.std.proofs.lemmas.Bool.{cond-false, ne_eqb}
 use Rattle.dd_nodes.specs.declared.node.Node.{Node}
 use Rattle.dd_nodes.specs.NodeList.{Values, with_value, IsNumber, node_at, function, StandsBelow, StandsFrom, IsReduced, Extends}
 use Rattle.dd_nodes.specs.Table.{NodeTable, IsNodeTable}
+use Rattle.dd_nodes.specs.Limits.{most_variables}
 use Rattle.dd_nodes.proofs.NodeLemmas.{function_node, node_place}
 use Rattle.dd_nodes.proofs.Extending.{extends_number, extends_node, extends_function, extends_from, extends_below, extends_from_back}
 use Rattle.dd_ops.specs.Operations.{cofactor_of}
@@ -55,20 +56,20 @@ module _ (vars : ℕ) (nodes : List Node) (reduced : IsReduced vars nodes) (f : 
 
 -- a child has a greater level than its node, in any later list too
 module _ (t : NodeTable) (table : IsNodeTable t) (f : ℕ) (node : Node) (there : node_at t.nodes f ≡ Some node) (later : List Node) (extends : Extends t.nodes later) where
-  child_smaller : (child : ℕ) → child < f → StandsBelow t.nodes node.var child → 256 - level_of later child < 256 - level_of t.nodes f
+  child_smaller : (child : ℕ) → child < f → StandsBelow t.nodes node.var child → most_variables - level_of later child < most_variables - level_of t.nodes f
   child_smaller child lower deep =
       let place : f < length t.nodes + 2 = (node_place t.nodes f node there).1 in
-      let level : level_of t.nodes f ≡ node.var = ap (λ o. option_map_or (λ (k : Node). k.var) o 256) there in
+      let level : level_of t.nodes f ≡ node.var = ap (λ o. option_map_or (λ (k : Node). k.var) o most_variables) there in
       let var : node.var < t.vars = table.reduced.in_range f node there in
-      let few : t.vars ≤ 256 = table.few_vars in
+      let few : t.vars ≤ most_variables = table.few_vars in
       let greater : node.var + 1 ≤ level_of later child = level_from later (node.var + 1) child (omega arith)
       (below_from later node.var child (extends_below t.nodes later extends node.var child (omega arith) deep)) in
       omega arith
 
-  pub lo_smaller : 256 - level_of later node.lo.0 < 256 - level_of t.nodes f
+  pub lo_smaller : most_variables - level_of later node.lo.0 < most_variables - level_of t.nodes f
   lo_smaller = child_smaller node.lo.0 (table.reduced.lo_before f node there) (table.reduced.lo_below f node there)
 
-  pub hi_smaller : 256 - level_of later node.hi.0 < 256 - level_of t.nodes f
+  pub hi_smaller : most_variables - level_of later node.hi.0 < most_variables - level_of t.nodes f
   hi_smaller = child_smaller node.hi.0 (table.reduced.hi_before f node there) (table.reduced.hi_below f node there)
 
   pub lo_later : IsNumber later node.lo.0

@@ -6,6 +6,7 @@ use Rattle.dd_nodes.specs.declared.node.Ref.{Ref}
 use Rattle.dd_nodes.specs.NodeList.{Values, IsNumber, function, StandsBelow, StandsFrom, Extends}
 use Rattle.dd_nodes.specs.Subfunctions.{Function}
 use Rattle.dd_nodes.specs.Table.{NodeTable, IsNodeTable}
+use Rattle.dd_nodes.specs.Limits.{most_variables}
 use Rattle.dd_nodes.proofs.Extending.{extends_number, extends_function, extends_below, extends_more}
 use Rattle.dd_ops.specs.declared.question.Halves.{Halves}
 use Rattle.dd_ops.specs.declared.question.Question.{Question}
@@ -46,10 +47,10 @@ module _ (t : NodeTable) (table : IsNodeTable t) (q : Question) (asked : IsAsked
   var_from = subst (λ v. AsksFrom t.nodes v q) (sym top) (asks_from_top t.nodes q)
 
   -- a half has a greater top, in any later table too
-  pub half_smaller : (later : NodeTable) → IsNodeTable later → later.vars ≡ t.vars → (b : Bool) (p : Question) → IsHalf later.nodes var b q p → 256 - top_of later.nodes p < 256 - top_of t.nodes q
+  pub half_smaller : (later : NodeTable) → IsNodeTable later → later.vars ≡ t.vars → (b : Bool) (p : Question) → IsHalf later.nodes var b q p → most_variables - top_of later.nodes p < most_variables - top_of t.nodes q
   half_smaller later is same b p half =
       let below : var < t.vars = var_below in
-      let few : t.vars ≤ 256 = table.few_vars in
+      let few : t.vars ≤ most_variables = table.few_vars in
       let greater : var + 1 ≤ top_of later.nodes p = top_greatest later.nodes (var + 1) p (omega arith) (half_from later.nodes var b q p half) in
       omega arith
 
@@ -100,7 +101,7 @@ module _ (t0 t1 t2 : NodeTable) (q p0 p1 : Question) (var lo hi : ℕ) (halves :
   least w asks =
       let back : AsksFrom t0.nodes w q = asks_from_back t0.nodes t2.nodes halves_kept.nodes w q halves.asked asks in
       let small : w < t0.vars = asks_from_small t0.nodes t0.vars halves.table0.reduced w q halves.asked halves.tests back in
-      let few : t0.vars ≤ 256 = halves.table0.few_vars in
+      let few : t0.vars ≤ most_variables = halves.table0.few_vars in
       let low : w ≤ top_of t0.nodes q = top_greatest t0.nodes w q (omega arith) back in
       let top : var ≡ top_of t0.nodes q = halves.top in
       omega arith

@@ -6,6 +6,7 @@ use Rattle.dd_nodes.specs.declared.node.Node.{Node}
 use Rattle.dd_nodes.specs.declared.node.Ref.{Ref}
 use Rattle.dd_nodes.specs.NodeList.{IsReduced, StandsBelow, node_at}
 use Rattle.dd_nodes.specs.Table.{NodeTable, IsNodeTable}
+use Rattle.dd_nodes.specs.Limits.{most_variables}
 use Rattle.dd_nodes.proofs.NodeLemmas.{node_at_constant}
 use Rattle.dd_ops.specs.declared.pairs.Pair.{Pair}
 use Rattle.dd_ops.specs.declared.pairs.PairHalves.{PairHalves}
@@ -124,13 +125,13 @@ module _ (vars : ℕ) (nodes : List Node) (reduced : IsReduced vars nodes) where
 
 -- a constant stands below every variable, so the least variable is one of the two operands
 module _ (t : NodeTable) (table : IsNodeTable t) (p : Pair) (var : ℕ) (least : var ≡ min (level_of t.nodes p.f.0) (level_of t.nodes p.g.0)) where
-  constant_level : (n : ℕ) → n < 2 → level_of t.nodes n ≡ 256
+  constant_level : (n : ℕ) → n < 2 → level_of t.nodes n ≡ most_variables
   constant_level n small = ap level_at (node_at_constant t.nodes n small)
 
   pub pair_top : (kind : ℕ) → var ≡ top_of t.nodes (question_of kind p)
   pair_top kind =
-      let small_f : level_of t.nodes p.f.0 ≤ 256 = level_small t table p.f.0 in
-      let small_g : level_of t.nodes p.g.0 ≤ 256 = level_small t table p.g.0 in
-      let none : level_of t.nodes 0 ≡ 256 = constant_level 0 (omega arith) in
-      let all : level_of t.nodes 1 ≡ 256 = constant_level 1 (omega arith) in
+      let small_f : level_of t.nodes p.f.0 ≤ most_variables = level_small t table p.f.0 in
+      let small_g : level_of t.nodes p.g.0 ≤ most_variables = level_small t table p.g.0 in
+      let none : level_of t.nodes 0 ≡ most_variables = constant_level 0 (omega arith) in
+      let all : level_of t.nodes 1 ≡ most_variables = constant_level 1 (omega arith) in
       by_kind (λ question. var ≡ top_of t.nodes (question p)) (omega arith) (omega arith) (omega arith) kind

@@ -5,6 +5,7 @@ use Rattle.std.specs.Option.{option_map_or}
 use Rattle.dd_nodes.specs.declared.node.Node.{Node}
 use Rattle.dd_nodes.specs.NodeList.{Values, with_value, IsNumber, node_at, function, StandsBelow, StandsFrom, IsReduced, Extends}
 use Rattle.dd_nodes.specs.Subfunctions.{Function}
+use Rattle.dd_nodes.specs.Limits.{most_variables}
 use Rattle.dd_nodes.proofs.NodeLemmas.{cases_Option, number_cases, node_place, function_false, function_true}
 use Rattle.dd_nodes.proofs.Canonicity.{hi_function, lo_function, blind_to}
 use Rattle.dd_nodes.proofs.Extending.{extends_number, extends_function, extends_from, extends_from_back}
@@ -33,14 +34,14 @@ module _ (nodes : List Node) where
   -- the level says from which variable on a number stands
   pub from_level : (v n : ℕ) → v ≤ level_of nodes n → StandsFrom nodes v n
   from_level v n low node there =
-      let level : level_of nodes n ≡ node.var = ap (λ o. option_map_or (λ (k : Node). k.var) o 256) there in omega arith
+      let level : level_of nodes n ≡ node.var = ap (λ o. option_map_or (λ (k : Node). k.var) o most_variables) there in omega arith
 
-  pub level_from : (v n : ℕ) → v ≤ 256 → StandsFrom nodes v n → v ≤ level_of nodes n
+  pub level_from : (v n : ℕ) → v ≤ most_variables → StandsFrom nodes v n → v ≤ level_of nodes n
   level_from v n small from = ⊎_elim
       (λ (none : node_at nodes n ≡ None).
-      let level : level_of nodes n ≡ 256 = ap (λ o. option_map_or (λ (k : Node). k.var) o 256) none in omega arith)
+      let level : level_of nodes n ≡ most_variables = ap (λ o. option_map_or (λ (k : Node). k.var) o most_variables) none in omega arith)
       (λ (found : (node : Node) × (node_at nodes n ≡ Some node)).
-      let level : level_of nodes n ≡ found.0.var = ap (λ o. option_map_or (λ (k : Node). k.var) o 256) found.1 in
+      let level : level_of nodes n ≡ found.0.var = ap (λ o. option_map_or (λ (k : Node). k.var) o most_variables) found.1 in
       let low : v ≤ found.0.var = from found.0 found.1 in omega arith)
       (cases_Option (node_at nodes n))
 
@@ -61,7 +62,7 @@ module _ (nodes : List Node) where
     h = from_level (top_of nodes q) q.h.0 (omega arith);
   }
 
-  pub top_greatest : (v : ℕ) (q : Question) → v ≤ 256 → AsksFrom nodes v q → v ≤ top_of nodes q
+  pub top_greatest : (v : ℕ) (q : Question) → v ≤ most_variables → AsksFrom nodes v q → v ≤ top_of nodes q
   top_greatest v q small from =
       let f : v ≤ level_of nodes q.f.0 = level_from v q.f.0 small from.f in
       let g : v ≤ level_of nodes q.g.0 = level_from v q.g.0 small from.g in
@@ -167,7 +168,7 @@ module _ (nodes : List Node) where
     top_in_range q asked tests = ⊎_elim
         (λ (small : (q.f.0 < 2) × (node_at nodes q.f.0 ≡ None)). let less : q.f.0 < 2 = small.0 in absurd (omega arith))
         (λ (found : (node : Node) × (node_at nodes q.f.0 ≡ Some node)).
-        let level : level_of nodes q.f.0 ≡ found.0.var = ap (λ o. option_map_or (λ (k : Node). k.var) o 256) found.1 in
+        let level : level_of nodes q.f.0 ≡ found.0.var = ap (λ o. option_map_or (λ (k : Node). k.var) o most_variables) found.1 in
         let var : found.0.var < vars = reduced.in_range q.f.0 found.0 found.1 in omega arith)
         (number_cases nodes q.f.0 asked.f)
 

@@ -8,6 +8,7 @@ use Rattle.dd_nodes.specs.declared.node.Ref.{Ref}
 use Rattle.dd_nodes.specs.NodeList.{Values, IsNumber, node_at, function, StandsBelow, StandsFrom, IsReduced, Extends, Appends, Lacks}
 use Rattle.dd_nodes.specs.Subfunctions.{Function}
 use Rattle.dd_nodes.specs.Table.{NodeTable, IsNodeTable}
+use Rattle.dd_nodes.specs.Limits.{most_variables}
 use Rattle.dd_nodes.proofs.NodeLemmas.{function_node, function_false, function_true, node_place}
 use Rattle.dd_nodes.proofs.Extending.{extends_number}
 use Rattle.dd_nodes.proofs.Dependence.{depends_function}
@@ -33,7 +34,7 @@ module _ (t : NodeTable) (table : IsNodeTable t) (map : List (ℕ × Ref)) where
   -- a number that stands from a variable on, from which on the variables stay, is its own answer
   pub stays_own : (end : ℕ) → StayFrom t.nodes map end → (f : ℕ) → IsNumber t.nodes f → StandsFrom t.nodes end f → IsReplaced t.nodes map f f
   stays_own end stay f number from =
-      let few : t.vars ≤ 256 = table.few_vars in
+      let few : t.vars ≤ most_variables = table.few_vars in
       record {
         asked = number;
         number = number;

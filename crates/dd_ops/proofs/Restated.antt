@@ -8,6 +8,7 @@ use Rattle.dd_nodes.proofs.NodeLemmas.{cases_Option, node_at_constant, function_
 use Rattle.dd_nodes.proofs.Extending.{extends_number, extends_function, extends_from, extends_below, extends_from_back}
 use Rattle.dd_ops.specs.declared.question.Question.{Question}
 use Rattle.dd_nodes.specs.Table.{NodeTable, IsNodeTable}
+use Rattle.dd_nodes.specs.Limits.{most_variables}
 use Rattle.dd_ops.specs.Operations.{cofactor_of}
 use Rattle.dd_ops.proofs.QuestionLemmas.{asks_from_top, top_greatest}
 use Rattle.dd_ops.specs.Answers.{level_at, level_of, top_of, IsAnswer, IsAsked, IsBranch, IsHalf, IsRestated}
@@ -127,18 +128,18 @@ module _ (before after : List Node) (extends : Extends before after) (vars : ℕ
 
 -- a question that is restated has no lesser top
 module _ (t : NodeTable) (table : IsNodeTable t) where
-  pub level_small : (n : ℕ) → level_of t.nodes n ≤ 256
+  pub level_small : (n : ℕ) → level_of t.nodes n ≤ most_variables
   level_small n = ⊎_elim
       (λ (none : node_at t.nodes n ≡ None).
-      let level : level_of t.nodes n ≡ 256 = ap level_at none in omega arith)
+      let level : level_of t.nodes n ≡ most_variables = ap level_at none in omega arith)
       (λ (found : (node : Node) × (node_at t.nodes n ≡ Some node)).
       let level : level_of t.nodes n ≡ found.0.var = ap level_at found.1 in
       let within : found.0.var < t.vars = table.reduced.in_range n found.0 found.1 in
-      let few : t.vars ≤ 256 = table.few_vars in
+      let few : t.vars ≤ most_variables = table.few_vars in
       omega arith)
       (cases_Option (node_at t.nodes n))
 
   pub restated_top : (q p : Question) → IsRestated t.nodes q p → top_of t.nodes q ≤ top_of t.nodes p
   restated_top q p restated =
-      let small : level_of t.nodes q.f.0 ≤ 256 = level_small q.f.0 in
+      let small : level_of t.nodes q.f.0 ≤ most_variables = level_small q.f.0 in
       top_greatest t.nodes (top_of t.nodes q) p (omega arith) (restated.from (top_of t.nodes q) (asks_from_top t.nodes q))

@@ -11,6 +11,7 @@ use Rattle.dd_nodes.specs.declared.node.Node.{Node}
 use Rattle.dd_nodes.specs.declared.node.Ref.{Ref}
 use Rattle.dd_nodes.specs.NodeList.{Values, IsNumber, node_at, function, IsReduced, Extends}
 use Rattle.dd_nodes.specs.Table.{NodeTable, IsNodeTable}
+use Rattle.dd_nodes.specs.Limits.{most_variables}
 use Rattle.dd_nodes.proofs.NodeLemmas.{cases_Option, function_node, function_without_node, node_place}
 use Rattle.dd_nodes.proofs.Extending.{extends_number, extends_node, extends_function, extends_more}
 use Rattle.dd_ops.specs.Operations.{subst_of, listed, replaced}
@@ -39,7 +40,7 @@ find_passes p (y ∷ ys) x found = ⊎_elim
 
 -- the variables from `end` on stay where each entry for them gives the variable itself
 pub stay_all : (nodes : List Node) (map : List (ℕ × Ref)) (end : ℕ)
-    → ((k : ℕ) (e : ℕ × Ref) → k < length map → slice_get map k ≡ Some e → end ≤ e.0 → e.0 < 256 → (values : Values) → function nodes e.1.0 values ≡ values e.0)
+    → ((k : ℕ) (e : ℕ × Ref) → k < length map → slice_get map k ≡ Some e → end ≤ e.0 → e.0 < most_variables → (values : Values) → function nodes e.1.0 values ≡ values e.0)
     → StayFrom nodes map end
 stay_all nodes map end each v above small values = by (find (λ (entry : ℕ × Ref). entry.0 == v) map) refl
   where

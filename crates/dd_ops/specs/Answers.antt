@@ -8,6 +8,7 @@ use Rattle.dd_nodes.specs.NodeList.{Values, IsNumber, node_at, function, StandsB
 use Rattle.dd_nodes.specs.NodeList.{Extends}
 use Rattle.dd_nodes.specs.Subfunctions.{Function}
 use Rattle.dd_nodes.specs.Table.{NodeTable}
+use Rattle.dd_nodes.specs.Limits.{most_variables}
 use Rattle.dd_ops.specs.declared.question.Halves.{Halves}
 use Rattle.dd_ops.specs.declared.question.Question.{Question}
 use Rattle.dd_ops.specs.declared.question.Settled.{Settled}
@@ -23,7 +24,7 @@ pub record Keeps (before after : NodeTable) : Type 0 where
 
 -- the variable of a node; a constant, which has none, stands below every variable
 abbrev pub level_at : Option Node → ℕ
-level_at node = option_map_or (λ k. k.var) node 256
+level_at node = option_map_or (λ k. k.var) node most_variables
 
 -- the variable of a number
 abbrev pub level_of : List Node → ℕ → ℕ
@@ -120,12 +121,12 @@ AreNumbers nodes map = (v : ℕ) (g : Ref) → listed map v ≡ Some g → IsNum
 
 -- a table by variable has for each variable what the list gives it
 abbrev pub IsByVar : List (ℕ × Ref) → List (Option Ref) → Type 0
-IsByVar map by_var = (v : ℕ) → v < 256 → slice_get by_var v ≡ Some (listed map v)
+IsByVar map by_var = (v : ℕ) → v < most_variables → slice_get by_var v ≡ Some (listed map v)
 
 -- from a variable on each keeps its value
 abbrev pub StayFrom : List Node → List (ℕ × Ref) → ℕ → Type 0
 StayFrom nodes map end =
-    (v : ℕ) → end ≤ v → v < 256 → (values : Values) → values v ≡ replaced nodes map values v
+    (v : ℕ) → end ≤ v → v < most_variables → (values : Values) → values v ≡ replaced nodes map values v
 
 -- a list of replacements by numbers of a node list, with its table by variable, and a variable from
 -- which on they stay

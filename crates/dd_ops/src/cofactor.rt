@@ -15,7 +15,7 @@ use dd_nodes::{Dd, DdErr, Node, Ref};
 
 /// The number of `f` with a variable fixed.
 ///
-/// A child looks only at greater variables, so the calls are nested at most 256 deep.
+/// A child looks only at greater variables, so the calls are nested at most 1,024 deep.
 pub fn fix(dd: &mut Dd, cache: &mut Cache, f: Ref, fixed: Fixed) -> Result<Ref, DdErr>
     requires table { IsNodeTable dd.old }
     requires number { IsNumber dd.old.nodes f.0 }

@@ -13,7 +13,7 @@ use dd_nodes::{Dd, DdErr, Ref};
 
 /// The answer to a question.
 ///
-/// Each half of a question looks only at greater variables, so the calls are nested at most 256
+/// Each half of a question looks only at greater variables, so the calls are nested at most 1,024
 /// deep.
 #[cycle(asking)]
 pub fn answer(dd: &mut Dd, cache: &mut Cache, q: Question) -> Result<Ref, DdErr>

@@ -4,6 +4,7 @@ ghost use Rattle.dd_nodes.specs.declared.node.Ref.{Ref as Number};
 ghost use Rattle.dd_nodes.specs.Collecting.{Collected};
 ghost use Rattle.dd_nodes.specs.NodeList.{IsNumber, function};
 ghost use Rattle.dd_nodes.specs.Table.{NodeTable, IsNodeTable};
+ghost use Rattle.dd_nodes.specs.Limits.{most_variables};
 ghost use Rattle.dd_ops.specs.Calls.{Answers};
 ghost use Rattle.dd_ops.specs.Growth.{Grows, pieces_of_subst};
 ghost use Rattle.dd_ops.specs.Operations.{variable, not_of, and_of, or_of, minus_of, ite_of};
@@ -57,7 +58,7 @@ impl Model for Ops {
 impl Ops {
     /// Operations on an empty table for at most `limit` nodes over `vars` variables.
     pub fn new(alloc: Global, vars: u32, limit: u32) -> Result<Ops, AllocError>
-        requires few_vars { vars ≤ 256 }
+        requires few_vars { vars ≤ most_variables }
         requires some_room { 0 < limit }
         requires small_limit { limit ≤ 16777216 }
         ensures vars { IfOk result (λ ops. ops.vars ≡ vars) }

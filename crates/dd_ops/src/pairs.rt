@@ -200,7 +200,7 @@ fn halve_pair(dd: &Dd, p: Pair) -> PairHalves
 
 /// The conjunction of a pair.
 ///
-/// Each half of a pair looks only at greater variables, so the calls are nested at most 256 deep.
+/// Each half of a pair looks only at greater variables, so the calls are nested at most 1,024 deep.
 #[cycle(meets)]
 pub fn answer_meet(dd: &mut Dd, cache: &mut Cache, p: Pair) -> Result<Ref, DdErr>
     requires table { IsNodeTable dd.old }
@@ -252,7 +252,7 @@ fn open_meet(dd: &mut Dd, cache: &mut Cache, p: Pair) -> Result<Ref, DdErr>
 
 /// The disjunction of a pair.
 ///
-/// Each half of a pair looks only at greater variables, so the calls are nested at most 256 deep.
+/// Each half of a pair looks only at greater variables, so the calls are nested at most 1,024 deep.
 #[cycle(joins)]
 pub fn answer_join(dd: &mut Dd, cache: &mut Cache, p: Pair) -> Result<Ref, DdErr>
     requires table { IsNodeTable dd.old }
@@ -304,7 +304,7 @@ fn open_join(dd: &mut Dd, cache: &mut Cache, p: Pair) -> Result<Ref, DdErr>
 
 /// The difference of a pair.
 ///
-/// Each half of a pair looks only at greater variables, so the calls are nested at most 256 deep.
+/// Each half of a pair looks only at greater variables, so the calls are nested at most 1,024 deep.
 #[cycle(rests)]
 pub fn answer_rest(dd: &mut Dd, cache: &mut Cache, p: Pair) -> Result<Ref, DdErr>
     requires table { IsNodeTable dd.old }

@@ -5,7 +5,7 @@ ghost use Rattle.dd_nodes.specs.NodeList.{IsNumber, IsReduced, StandsFrom, node_
 ghost use Rattle.dd_ops.specs.Answers.{level_at, level_of, top_of, IsAsked, IsAnswer, IsBranch};
 ghost use Rattle.dd_ops.specs.Answers.{IsHalf, IsRestated, IsSettled, IsOperandWith};
 
-use dd_nodes::{Dd, Node, Ref};
+use dd_nodes::{Dd, MAX_VARIABLES, Node, Ref};
 
 /// The question: which number has the function of `g` where `f` is true, and of `h` where it is
 /// false?
@@ -98,7 +98,7 @@ fn ordered(q: Question) -> Question
     }
 }
 
-/// The variable of a number, and 256 for a constant, which stands below every variable.
+/// The variable of a number, and `MAX_VARIABLES` for a constant, which stands below every variable.
 pub fn level(dd: &Dd, f: Ref) -> u32
     requires { IsNumber dd.now.nodes f.0 }
     ensures { result ≡ level_of dd.now.nodes f.0 }
@@ -106,13 +106,13 @@ pub fn level(dd: &Dd, f: Ref) -> u32
     level_of_node(dd.node(f))
 }
 
-/// The variable of a node, and 256 for none.
+/// The variable of a node, and `MAX_VARIABLES` for none.
 pub fn level_of_node(node: Option<Node>) -> u32
     ensures { result ≡ level_at node }
 {
     match node {
         Some(node) => node.var,
-        None => 256,
+        None => MAX_VARIABLES,
     }
 }
 

@@ -2,10 +2,11 @@
 ghost use Rattle.std.specs.Prelude.{◌≡◌, ◌≢◌, ℕ, ◌<◌, ◌≤◌, All, IfSome, Some};
 ghost use Rattle.std.specs.Prelude.{slice_get};
 ghost use Rattle.dd_nodes.specs.NodeList.{Values, IsNumber, function};
+ghost use Rattle.dd_nodes.specs.Limits.{most_variables};
 ghost use Rattle.dd_ops.specs.Answers.{IsByVar, StayFrom};
 ghost use Rattle.dd_ops.specs.Operations.{listed};
 
-use dd_nodes::{Dd, Ref};
+use dd_nodes::{Dd, MAX_VARIABLES, Ref};
 
 /// A list of variables and what replaces each, with a table by variable, so that each is found at
 /// once, and the number of the list.
@@ -13,7 +14,7 @@ use dd_nodes::{Dd, Ref};
 pub struct Replacements<'a> {
     pub number: u64,
     pub map: &'a [(u32, Ref)],
-    pub by_var: [Option<Ref>; 256],
+    pub by_var: [Option<Ref>; MAX_VARIABLES as usize],
     /// The least variable from which on no function but a variable itself replaces it.
     pub end: u32,
 }
@@ -26,7 +27,7 @@ impl<'a> Replacements<'a> {
         ensures found { IsByVar map.now result.by_var }
         ensures end { result.end ≡ end }
     {
-        let mut by_var = [None; 256];
+        let mut by_var = [None; MAX_VARIABLES as usize];
         for place in (0..map.len()).rev() {
             put(&mut by_var, map[place].0, map[place].1);
         }
@@ -51,11 +52,11 @@ impl<'a> Replacements<'a> {
 }
 
 /// Puts a number at a variable, if the table has the variable.
-fn put(by_var: &mut [Option<Ref>; 256], var: u32, image: Ref)
-    ensures here { var < 256 → slice_get by_var.new var ≡ Some (Some image) }
+fn put(by_var: &mut [Option<Ref>; MAX_VARIABLES as usize], var: u32, image: Ref)
+    ensures here { var < most_variables → slice_get by_var.new var ≡ Some (Some image) }
     ensures others { (v : ℕ) → v ≢ var → slice_get by_var.new v ≡ slice_get by_var.old v }
 {
-    if var < 256 {
+    if var < MAX_VARIABLES {
         by_var[var as usize] = Some(image);
     }
 }
@@ -70,12 +71,12 @@ fn replacement(map: &[(u32, Ref)], var: u32) -> Option<Ref>
 /// The least variable from which on no function but a variable itself replaces it.
 pub fn end_of(dd: &Dd, map: &[(u32, Ref)]) -> u32
     requires { All (λ entry. IsNumber dd.now.nodes entry.1.0) map.now }
-    ensures small { result ≤ 256 }
+    ensures small { result ≤ most_variables }
     ensures stay { StayFrom dd.now.nodes map.now result }
 {
     let mut end = 0u32;
     for entry in map {
-        if end <= entry.0 && entry.0 < 256 && variable_of(dd, entry.1) != Some(entry.0) {
+        if end <= entry.0 && entry.0 < MAX_VARIABLES && variable_of(dd, entry.1) != Some(entry.0) {
             end = entry.0 + 1;
         }
     }

@@ -68,7 +68,7 @@ pub fn substitute(
 
 /// The number of `f` with each variable of `images` replaced by its function.
 ///
-/// A child looks only at greater variables, so the calls are nested at most 256 deep.
+/// A child looks only at greater variables, so the calls are nested at most 1,024 deep.
 fn replace(dd: &mut Dd, cache: &mut Cache, f: Ref, images: &Replacements) -> Result<Ref, DdErr>
     requires table { IsNodeTable dd.old }
     requires number { IsNumber dd.old.nodes f.0 }

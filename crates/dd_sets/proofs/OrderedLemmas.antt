@@ -4,6 +4,7 @@ use Rattle.std.proofs.lemmas.Bool.{cases_lt}
 use Rattle.std.proofs.lemmas.Grind.{get_or_default_zero}
 use Rattle.std.proofs.lemmas.List.{get_or-set_same, get_or-set_other, length-map}
 use Rattle.dd_sets.specs.Orders.{at_place, HasOrder, IsOrdered, Undoes}
+use Rattle.dd_nodes.specs.Limits.{most_variables}
 
 past_end : (list : List ℕ) (k d : ℕ) → length list ≤ k → slice_index_or list k d ≡ d
 past_end [] k d out = refl
@@ -17,7 +18,7 @@ all_undone count back there long_back long_there undoes k = ⊎_elim
     (λ (out : count ≤ k). ap (at_place back) (past_end there k k (omega (arith, long_there))) ∙ past_end back k k (omega (arith, long_back)))
     (cases_lt k count)
 
-pub are_ordered : (fluents variables : List ℕ) → length fluents ≡ length variables → length variables ≤ 256 → Undoes fluents variables → Undoes variables fluents → IsOrdered fluents variables
+pub are_ordered : (fluents variables : List ℕ) → length fluents ≡ length variables → length variables ≤ most_variables → Undoes fluents variables → Undoes variables fluents → IsOrdered fluents variables
 are_ordered fluents variables same few there back = record {
   few = omega arith;
   inverse = record {
@@ -69,33 +70,33 @@ both_undo places fluents order long back = (
     leads k less = ap (at_place fluents) (sym (order.inverse.back k)) ∙ back (at_place order.fluents k) (order.inverse.fluents_within k less)
 
 -- numbers that the bound leaves below itself are as they were
-bounded : (xs : List ℕ) → ((k : ℕ) → k < length xs → slice_index_or (map (λ place. min place 256) xs) k 0 < 256) → map (λ place. min place 256) xs ≡ xs
+bounded : (xs : List ℕ) → ((k : ℕ) → k < length xs → slice_index_or (map (λ place. min place most_variables) xs) k 0 < most_variables) → map (λ place. min place most_variables) xs ≡ xs
 bounded [] small = refl
 bounded (x ∷ xs) small =
-    let first : min x 256 < 256 = small 0 (omega arith) in
-    let head : min x 256 ≡ x = omega (arith, first) in
-    let rest : map (λ place. min place 256) xs ≡ xs = bounded xs (λ k less. small (suc k) (omega arith)) in
+    let first : min x most_variables < most_variables = small 0 (omega arith) in
+    let head : min x most_variables ≡ x = omega (arith, first) in
+    let rest : map (λ place. min place most_variables) xs ≡ xs = bounded xs (λ k less. small (suc k) (omega arith)) in
     λ i. head i ∷ rest i
 
-unbounded : (xs : List ℕ) → ((k : ℕ) → k < length xs → slice_index_or xs k 0 < 256) → map (λ place. min place 256) xs ≡ xs
+unbounded : (xs : List ℕ) → ((k : ℕ) → k < length xs → slice_index_or xs k 0 < most_variables) → map (λ place. min place most_variables) xs ≡ xs
 unbounded [] small = refl
 unbounded (x ∷ xs) small =
-    let first : x < 256 = small 0 (omega arith) in
-    let head : min x 256 ≡ x = omega (arith, first) in
-    let rest : map (λ place. min place 256) xs ≡ xs = unbounded xs (λ k less. small (suc k) (omega arith)) in
+    let first : x < most_variables = small 0 (omega arith) in
+    let head : min x most_variables ≡ x = omega (arith, first) in
+    let rest : map (λ place. min place most_variables) xs ≡ xs = unbounded xs (λ k less. small (suc k) (omega arith)) in
     λ i. head i ∷ rest i
 
 -- where two lists undo each other, the second one has the places themselves
-pub are_places : (places numbers fluents : List ℕ) → numbers ≡ map (λ place. min place 256) places → length places ≤ 256
+pub are_places : (places numbers fluents : List ℕ) → numbers ≡ map (λ place. min place most_variables) places → length places ≤ most_variables
     → length fluents ≡ length numbers → Undoes fluents numbers → numbers ≡ places
 are_places places numbers fluents are few long undoes = are ∙ bounded places (λ k less.
-    let long_numbers : length numbers ≡ length places = ap length are ∙ length-map places (λ (place : ℕ). min place 256) in
+    let long_numbers : length numbers ≡ length places = ap length are ∙ length-map places (λ (place : ℕ). min place most_variables) in
     let inside : at_place numbers k < length fluents = undoes.within k (omega (arith, less, long_numbers)) in
-    let here : slice_index_or (map (λ place. min place 256) places) k 0 ≡ at_place numbers k = ap (λ (list : List ℕ). slice_index_or list k 0) (sym are) ∙ sym (get_or_default_zero numbers k k (omega (arith, less, long_numbers))) in
+    let here : slice_index_or (map (λ place. min place most_variables) places) k 0 ≡ at_place numbers k = ap (λ (list : List ℕ). slice_index_or list k 0) (sym are) ∙ sym (get_or_default_zero numbers k k (omega (arith, less, long_numbers))) in
     omega (arith, inside, here, long, long_numbers, few))
 
 -- and where the places have an order, two lists undo each other
-pub order_undoes : (places numbers fluents : List ℕ) → numbers ≡ map (λ place. min place 256) places → length fluents ≡ length numbers
+pub order_undoes : (places numbers fluents : List ℕ) → numbers ≡ map (λ place. min place most_variables) places → length fluents ≡ length numbers
     → (HasOrder numbers → (k : ℕ) → k < length numbers → at_place fluents (at_place numbers k) ≡ k) → HasOrder places → Undoes fluents numbers × Undoes numbers fluents
 order_undoes places numbers fluents are long back order = both_undo numbers fluents has long (back has)
   where

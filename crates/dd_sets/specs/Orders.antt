@@ -3,6 +3,7 @@
 -- for the fluents in an order of their own.
 use Rattle.std.specs.Prelude.{◌≡◌, ℕ, ◌<◌, ◌≤◌, ◌⊎◌, List, [], length, slice_index_or}
 use Rattle.dd_nodes.specs.Subfunctions.{Function}
+use Rattle.dd_nodes.specs.Limits.{most_variables}
 
 -- the number at a place of a list, and the place's own number past its end
 abbrev pub at_place : List ℕ → ℕ → ℕ
@@ -34,9 +35,9 @@ pub record IsOrder (count : ℕ) (fluents : List ℕ) : Type 0 where
   pub variables : List ℕ
   pub inverse : AreInverse count fluents variables
 
--- the two lists of an order of at most 256 fluents
+-- the two lists of an order of at most `most_variables` fluents
 pub record IsOrdered (fluents variables : List ℕ) : Type 0 where
-  pub few : length fluents ≤ 256
+  pub few : length fluents ≤ most_variables
   pub inverse : AreInverse (length fluents) fluents variables
 
 -- Private: a list leads back from the number at each place of another to that place
@@ -49,9 +50,9 @@ pub record AreOf (vars : ℕ) (fluents variables : List ℕ) : Type 0 where
   pub inverse : AreInverse vars fluents variables
   pub count : (fluents ≡ []) ⊎ (length fluents ≡ vars)
 
--- the places of an order of at most 256 fluents: each place from 0 on stands in the list once, since
+-- the places of an order of at most `most_variables` fluents: each place from 0 on stands in the list once, since
 -- some list of as many fluents undoes it
 pub record HasOrder (places : List ℕ) : Type 0 where
-  pub few : length places ≤ 256
+  pub few : length places ≤ most_variables
   pub fluents : List ℕ
   pub inverse : AreInverse (length places) fluents places

@@ -66,7 +66,7 @@ pub(crate) fn cubes_of_table(alloc: Global, dd: &Dd, number: Ref) -> Result<Vec<
 /// Appends the cubes of a number, each behind the literals of the path to it.
 ///
 /// Each node has a path to the constant true, so each step leads to a cube. A child tests a greater
-/// fluent, so the calls are nested at most 257 deep.
+/// fluent, so the calls are nested at most 1,025 deep.
 fn walk(
     alloc: Global,
     dd: &Dd,

@@ -2,6 +2,7 @@
 ghost use Rattle.std.specs.Prelude.{◌≡◌, ◌<◌, if◌then◌else◌};
 ghost use Rattle.dd_nodes.specs.NodeList.{IsNumber, function};
 ghost use Rattle.dd_nodes.specs.Table.{IsNodeTable};
+ghost use Rattle.dd_nodes.specs.Limits.{most_variables};
 ghost use Rattle.task_core.specs.States.{truth};
 ghost use Rattle.dd_sets.specs.Orders.{at_place, read};
 ghost use Rattle.dd_sets.specs.Rebuilt.{StaysWithin};
@@ -26,7 +27,7 @@ pub fn is_member(dd: &Dd, order: &Order, number: Ref, s: &State) -> bool
 
 /// Where the walk goes from a node.
 fn child(order: &Order, node: Node, s: &State) -> Ref
-    requires { at_place order.now.fluents node.var < 256 }
+    requires { at_place order.now.fluents node.var < most_variables }
     ensures { result.0 ≡ (if truth s.now (at_place order.now.fluents node.var) then node.hi.0
         else node.lo.0) }
 {

@@ -2,14 +2,13 @@
 ghost use Rattle.std.specs.Prelude.{◌≡◌, ℕ, ◌<◌, ◌≤◌, ◌↔◌, [], length, map, min, slice_set};
 ghost use Rattle.std.specs.Prelude.{IfNone, IfOk, IfSome, IsTrue};
 ghost use Rattle.dd_sets.specs.Orders.{at_place, HasOrder, IsOwnOrder, Undoes};
+ghost use Rattle.dd_nodes.specs.Limits.{most_variables};
 
+use dd_nodes::MAX_VARIABLES;
 use std::alloc::{AllocError, Global};
 use std::marker::Model;
 
-/// The most fluents that have an order.
-const MOST: usize = 256;
-
-/// An order of at most 256 fluents as variables of diagrams, which test their variables in the order
+/// An order of at most `MAX_VARIABLES` fluents as variables of diagrams, which test their variables in the order
 /// of their numbers.
 ///
 /// A contract sees it as two lists: the fluent of each variable, and the variable of each fluent.
@@ -37,7 +36,7 @@ impl Model for Order {
 
 impl Order {
     /// The order in which each fluent has its place, counted from 0. `None` exactly where the places
-    /// are not those from 0 on, each once, or are more than 256.
+    /// are not those from 0 on, each once, or are more than `MAX_VARIABLES`.
     pub fn of_places(alloc: Global, places: &[usize]) -> Result<Option<Order>, AllocError>
         ensures places { IfOk result (λ found. IfSome found
             (λ order. order.variables ≡ places.now)) }
@@ -45,7 +44,7 @@ impl Order {
             (λ order. length order.fluents ≡ length places.now)) }
         ensures none { IfOk result (λ found. IfNone found (¬ HasOrder places.now)) }
     {
-        if places.len() > MOST {
+        if places.len() > MAX_VARIABLES as usize {
             return Ok(None);
         }
         let variables = small_numbers(alloc, places)?;
@@ -71,7 +70,7 @@ impl Order {
     /// How many fluents it orders.
     pub fn count(&self) -> usize
         ensures count { result ≡ length self.now.fluents }
-        ensures few { result ≤ 256 }
+        ensures few { result ≤ most_variables }
     {
         self.fluents.len()
     }
@@ -122,11 +121,11 @@ fn leaves_places(numbers: &[u32]) -> bool
 
 /// Places as numbers of variables; one that is none becomes a number that is none either.
 fn small_numbers(alloc: Global, places: &[usize]) -> Result<Vec<u32>, AllocError>
-    ensures { IfOk result (λ numbers. numbers.items ≡ map (λ place. min place 256) places.now) }
+    ensures { IfOk result (λ numbers. numbers.items ≡ map (λ place. min place most_variables) places.now) }
 {
     let mut numbers = Vec::new(alloc);
     for place in places {
-        numbers.push((*place).min(MOST) as u32)?;
+        numbers.push((*place).min(MAX_VARIABLES as usize) as u32)?;
     }
     Ok(numbers)
 }
@@ -134,7 +133,7 @@ fn small_numbers(alloc: Global, places: &[usize]) -> Result<Vec<u32>, AllocError
 /// The list that has each place of a list at the place that stands there, where the list has each of
 /// its places once.
 fn turned_round(alloc: Global, numbers: &[u32]) -> Result<Vec<u32>, AllocError>
-    requires { length numbers.now ≤ 256 }
+    requires { length numbers.now ≤ most_variables }
     ensures count { IfOk result (λ turned. length turned.items ≡ length numbers.now) }
     ensures undone { IfOk result (λ turned. HasOrder numbers.now → (place : ℕ)
         → place < length numbers.now
@@ -160,8 +159,8 @@ fn write(numbers: &mut Vec<u32>, place: u32, number: u32)
 
 /// Whether each of two lists undoes the other.
 fn undo_each_other(fluents: &[u32], variables: &[u32]) -> bool
-    requires fluents { length fluents.now ≤ 256 }
-    requires variables { length variables.now ≤ 256 }
+    requires fluents { length fluents.now ≤ most_variables }
+    requires variables { length variables.now ≤ most_variables }
     ensures { IsTrue result ↔ (Undoes fluents.now variables.now × Undoes variables.now fluents.now) }
 {
     undoes(fluents, variables) && undoes(variables, fluents)
@@ -169,7 +168,7 @@ fn undo_each_other(fluents: &[u32], variables: &[u32]) -> bool
 
 /// Whether a list leads back from each number of another to the number's place.
 fn undoes(back: &[u32], there: &[u32]) -> bool
-    requires { length there.now ≤ 256 }
+    requires { length there.now ≤ most_variables }
     ensures { IsTrue result ↔ Undoes back.now there.now }
 {
     for place in 0..there.len() {

@@ -15,7 +15,7 @@ use dd_ops::Ops;
 
 /// The number of the same set in a table whose variables are the fluents in their own order.
 ///
-/// A child looks only at greater variables, so the calls are nested at most 256 deep.
+/// A child looks only at greater variables, so the calls are nested at most 1,024 deep.
 pub fn rebuild(
     from: &Dd,
     order: &Order,

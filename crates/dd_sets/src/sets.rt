@@ -3,6 +3,7 @@ ghost use Rattle.std.specs.Prelude.{◌≡◌, ℕ, ◌<◌, ◌≤◌, ◌↔�
 ghost use Rattle.std.specs.Prelude.{is_some, IsTrue, IfOk, IfErr, OnOk, OnErr, IsErrOf, ◌⊎◌};
 ghost use Rattle.dd_nodes.specs.NodeList.{Values, IsNumber};
 ghost use Rattle.dd_nodes.specs.Subfunctions.{Function};
+ghost use Rattle.dd_nodes.specs.Limits.{most_variables};
 ghost use Rattle.dd_ops.specs.Growth.{subst_pieces};
 ghost use Rattle.dd_ops.specs.Operations.{variable, not_of, and_of, or_of, minus_of, cofactor_of};
 ghost use Rattle.task_core.specs.Cubes.{cubes_of};
@@ -81,7 +82,7 @@ impl Model for Sets {
 impl Sets {
     /// No live slot, and a table for at most `limit` nodes over `vars` fluents.
     pub fn new(alloc: Global, vars: u32, limit: u32) -> Result<Sets, AllocError>
-        requires few_vars { vars ≤ 256 }
+        requires few_vars { vars ≤ most_variables }
         requires some_room { 0 < limit }
         requires small_limit { limit ≤ 16777216 }
         ensures vars { IfOk result (λ sets. sets.vars ≡ vars) }

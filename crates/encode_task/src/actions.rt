@@ -89,7 +89,6 @@ pub fn encode_actions(
     Ok(made)
 }
 
-/// The slots of an action.
 fn encode_action(
     alloc: Global,
     sets: &mut Sets,

@@ -172,7 +172,6 @@ struct KeptSlots {
     actions: Vec<ActionSets>,
 }
 
-/// The sets of a task, in new slots.
 fn encode_sets(alloc: Global, sets: &mut Sets, task: &Task) -> Result<KeptSlots, SetErr>
     requires { sets.old.vars ≡ fluent_count task.now }
     ensures made { IfOk result (λ kept. MadeOf task.now (record {

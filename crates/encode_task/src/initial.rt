@@ -8,6 +8,7 @@ ghost use Rattle.dd_sets.specs.Rooms.{NoRoom, Rough, Small};
 ghost use Rattle.task_core.specs.Initial.{entry_of, lit_within};
 ghost use Rattle.task_core.specs.States.{vector};
 ghost use Rattle.task_core.specs.Tasks.{fluent_count, initial_vectors};
+ghost use Rattle.task_core.specs.Limits.{most_fluents};
 ghost use Rattle.encode_task.specs.Made.{Holds};
 ghost use Rattle.encode_task.specs.Images.{
   has_value,
@@ -65,7 +66,7 @@ fn initial_vectors(sets: &mut Sets, task: &Task) -> Result<SetId, SetErr>
 /// The last fluent comes first, so that each step makes one node above those that are there.
 fn one_state(sets: &mut Sets, state: &State, fluents: u32) -> Result<SetId, SetErr>
     requires within { fluents ≤ sets.old.vars }
-    requires few { fluents ≤ 256 }
+    requires few { fluents ≤ most_fluents }
     ensures answer { OwnsAnswer sets.old sets.new
         (set_of_states fluents (vector fluents state.now ∷ [])) result }
     ensures full { IsErrOf result SetErr.Full → (w : ℕ) → sets.old.vars + 2 ≤ w

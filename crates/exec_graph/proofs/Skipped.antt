@@ -11,6 +11,7 @@ use Rattle.task_core.specs.States.{vector}
 use Rattle.task_core.specs.Systems.{System}
 use Rattle.task_core.specs.Vectors.{Vector}
 use Rattle.task_core.specs.declared.states.State.{State}
+use Rattle.task_core.specs.Limits.{most_fluents}
 use Rattle.cube_index.specs.Index.{AreLits, IsIndexOf, answers, values_of}
 use Rattle.cube_index.specs.Places.{HasNone}
 use Rattle.cube_index.specs.declared.index.CubeIndex.{CubeIndex}
@@ -29,7 +30,7 @@ element (x ∷ xs) zero l = (x, refl)
 element (x ∷ xs) (suc k) l = element xs k (omega arith)
 
 -- fluents below n are below 256
-pub cubes_fit : (n m : ℕ) (rules : List Rule) → n ≤ 256 → All (λ (rule : Rule). IsRuleOf n m (rule_of rule)) rules → All AreLits (cubes_of rules)
+pub cubes_fit : (n m : ℕ) (rules : List Rule) → n ≤ most_fluents → All (λ (rule : Rule). IsRuleOf n m (rule_of rule)) rules → All AreLits (cubes_of rules)
 cubes_fit n m rules few fits =
     All-map AreLits (λ (rule : Rule). rule.cube.items) rules
     (λ k d l i e h. let below : (get_or (get_or rules k d).cube.items i e).fluent.0 < n = (fits k d l).cube i e h in omega (arith, below, few))
@@ -39,7 +40,7 @@ pub rule_at : (rules : List Rule) (k : ℕ) (rule : Rule) → k < length rules �
 rule_at rules k rule l is = slice_get-map rule_of rules k ∙ ap (option_map rule_of) (slice_get_read rules (length rules) k rule refl l is)
 
 -- what an index answers of the rules of a table
-answer_is : (rules : List Rule) (index : CubeIndex) (n m : ℕ) (state : State) → n ≤ 256 → IsIndexOf index (cubes_of rules)
+answer_is : (rules : List Rule) (index : CubeIndex) (n m : ℕ) (state : State) → n ≤ most_fluents → IsIndexOf index (cubes_of rules)
     → All (λ (rule : Rule). IsRuleOf n m (rule_of rule)) rules → (k : ℕ) (rule : PlanRule) → slice_get (map rule_of rules) k ≡ Some rule
     → get_or (answers index (values_of state)) k false ≡ matches rule.cube (vector n state)
 answer_is rules index n m state few is fits k rule at =
@@ -56,7 +57,7 @@ answer_is rules index n m state few is fits k rule at =
     ∙ ap test (get_or-map cube rules k x.0 [] within ∙ ap (λ (r : PlanRule). r.cube) same)
     ∙ matches_over n state rule.cube few (subst (λ (r : PlanRule). IsCubeOf n r.cube) same (fits k x.0 within).cube)
 
-pub match_none : (rules : List Rule) (index : CubeIndex) (n m : ℕ) (state : State) → n ≤ 256 → IsIndexOf index (cubes_of rules)
+pub match_none : (rules : List Rule) (index : CubeIndex) (n m : ℕ) (state : State) → n ≤ most_fluents → IsIndexOf index (cubes_of rules)
     → All (λ (rule : Rule). IsRuleOf n m (rule_of rule)) rules → (from to : ℕ) → HasNone (answers index (values_of state)) from to
     → MatchNone (vector n state) (map rule_of rules) from to
 match_none rules index n m state few is fits from to none k rule h l at = sym (answer_is rules index n m state few is fits k rule at) ∙ none k h l

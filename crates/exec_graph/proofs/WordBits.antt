@@ -1,7 +1,8 @@
 -- The words of states, bit by bit.
-use Rattle.std.proofs.Common.{◌≡◌, ℕ, zero, suc, ◌<◌, ◌/◌, ◌%◌, Bool, false, ◌||◌, ◌&&◌, eqb, max, List, [], ◌∷◌, length, get_or, refl, sym, ◌∙◌, ap, arith, bit_and, bit_or}
+use Rattle.std.proofs.Common.{◌≡◌, ℕ, zero, suc, ◌<◌, ◌≤◌, ◌/◌, ◌%◌, Bool, false, ◌||◌, ◌&&◌, eqb, max, List, length, get_or, set, refl, sym, ◌∙◌, ap, subst, ⊎_elim, arith, bit_and, bit_or}
 use Rattle.std.specs.Int.{bit_at}
-use Rattle.std.proofs.lemmas.List.{get_or_past}
+use Rattle.std.proofs.lemmas.List.{get_or_past, get_or-set_same, get_or-set_other, length-set}
+use Rattle.std.proofs.lemmas.Bool.{cases_eq, cases_lt}
 use Rattle.std.proofs.lemmas.Nat.Bits.{bit_at_and, bit_at_or, bit_at-lt, bit_at-zero}
 use Rattle.exec_graph.specs.Effects.{truth_in}
 use Rattle.list_laws.proofs.Numbers.{least_bit}
@@ -25,30 +26,53 @@ one_word a b c k =
     ∙ either (bit_at a k) (bit_at (bit_and b c) k) (bit_at-lt a k) (bit_at-lt (bit_and b c) k)
     ∙ ap (λ t. has a k || t) (ap (λ n. eqb n 1) (bit_at_and b c k) ∙ least_bit (bit_at b k) (bit_at c k) (bit_at-lt b k) (bit_at-lt c k))
 
--- the words of a, and those of c as far as they are in b
-abbrev pub joined : List ℕ → List ℕ → List ℕ → List ℕ
-joined a b c =
-    bit_or (get_or a 0 0) (bit_and (get_or b 0 0) (get_or c 0 0))
-    ∷ bit_or (get_or a 1 0) (bit_and (get_or b 1 0) (get_or c 1 0))
-    ∷ bit_or (get_or a 2 0) (bit_and (get_or b 2 0) (get_or c 2 0))
-    ∷ bit_or (get_or a 3 0) (bit_and (get_or b 3 0) (get_or c 3 0))
-    ∷ []
+-- the words before place `done` are those of a, and those of c as far as they are in b; the others
+-- are those of a
+pub record AreJoined (done : ℕ) (a b c after : List ℕ) : Type 0 where
+  pub count : length after ≡ length a
+  pub joined : (q : ℕ) → q < done → get_or after q 0 ≡ bit_or (get_or a q 0) (bit_and (get_or b q 0) (get_or c q 0))
+  pub others : (q : ℕ) → done ≤ q → get_or after q 0 ≡ get_or a q 0
+
+pub none_joined : (a b c : List ℕ) → AreJoined 0 a b c a
+none_joined a b c = record {
+  count = refl;
+  joined = λ q h. absurd (omega (arith, h));
+  others = λ q h. refl;
+}
+
+pub one_joined : (done : ℕ) (a b c after : List ℕ) (word : ℕ) → done < length a → AreJoined done a b c after
+    → word ≡ bit_or (get_or after done 0) (bit_and (get_or b done 0) (get_or c done 0)) → AreJoined (suc done) a b c (set after done word)
+one_joined done a b c after word within so is = record {
+  count = length-set after done word ∙ so.count;
+  joined = λ q h. ⊎_elim
+      (λ (e : q ≡ done). ap (λ k. get_or (set after done word) k 0) e ∙ here ∙ ap (λ k. bit_or (get_or a k 0) (bit_and (get_or b k 0) (get_or c k 0))) (sym e))
+      (λ (other : (q ≡ done) → ⊥). get_or-set_other after done q word 0 other ∙ so.joined q (omega (arith, h, other)))
+      (cases_eq q done);
+  others = λ q h. get_or-set_other after done q word 0 (λ e. omega (arith, h, e)) ∙ so.others q (omega (arith, h));
+}
+  where
+    here : get_or (set after done word) done 0 ≡ bit_or (get_or a done 0) (bit_and (get_or b done 0) (get_or c done 0))
+    here =
+        get_or-set_same after done word 0 (subst (λ n. done < n) (sym so.count) within)
+        ∙ is
+        ∙ ap (λ n. bit_or n (bit_and (get_or b done 0) (get_or c done 0))) (so.others done (omega arith))
 
 none_of : (word k : ℕ) → word ≡ 0 → has word k ≡ false
 none_of word k e = ap (λ n. has n k) e ∙ ap (λ n. eqb n 1) (bit_at-zero k)
 
-module _ (a b c : List ℕ) (la : length a ≡ 4) (lb : length b ≡ 4) where
-  word_at : (q k : ℕ) → has (get_or (joined a b c) q 0) k ≡ (has (get_or a q 0) k || (has (get_or b q 0) k && has (get_or c q 0) k))
-  word_at zero k = one_word (get_or a 0 0) (get_or b 0 0) (get_or c 0 0) k
-  word_at (suc zero) k = one_word (get_or a 1 0) (get_or b 1 0) (get_or c 1 0) k
-  word_at (suc (suc zero)) k = one_word (get_or a 2 0) (get_or b 2 0) (get_or c 2 0) k
-  word_at (suc (suc (suc zero))) k = one_word (get_or a 3 0) (get_or b 3 0) (get_or c 3 0) k
-  word_at (suc (suc (suc (suc q)))) k =
-      let i : ℕ = suc (suc (suc (suc q))) in
-      let none_a : has (get_or a i 0) k ≡ false = none_of (get_or a i 0) k (get_or_past a i 0 (omega (arith, la))) in
-      let none_b : has (get_or b i 0) k ≡ false = none_of (get_or b i 0) k (get_or_past b i 0 (omega (arith, lb))) in
-      none_of (get_or (joined a b c) i 0) k refl
-      ∙ sym (ap (λ t. t || (has (get_or b i 0) k && has (get_or c i 0) k)) none_a ∙ ap (λ t. t && has (get_or c i 0) k) none_b)
+pub truth_joined : (a b c after : List ℕ) → length b ≡ length a → AreJoined (length a) a b c after → (f : ℕ) → truth_in after f ≡ (truth_in a f || (truth_in b f && truth_in c f))
+truth_joined a b c after same so f =
+    ⊎_elim
+    (λ (h : q < length a). ap (λ n. has n k) (so.joined q h) ∙ one_word (get_or a q 0) (get_or b q 0) (get_or c q 0) k)
+    (λ (h : length a ≤ q).
+    let none_a : has (get_or a q 0) k ≡ false = none_of (get_or a q 0) k (get_or_past a q 0 h) in
+    let none_b : has (get_or b q 0) k ≡ false = none_of (get_or b q 0) k (get_or_past b q 0 (subst (λ n. n ≤ q) (sym same) h)) in
+    none_of (get_or after q 0) k (get_or_past after q 0 (subst (λ n. n ≤ q) (sym so.count) h))
+    ∙ sym (ap (λ t. t || (has (get_or b q 0) k && has (get_or c q 0) k)) none_a ∙ ap (λ t. t && has (get_or c q 0) k) none_b))
+    (cases_lt q (length a))
+  where
+    q : ℕ
+    q = f / 64
 
-  pub truth_joined : (f : ℕ) → truth_in (joined a b c) f ≡ (truth_in a f || (truth_in b f && truth_in c f))
-  truth_joined f = word_at (f / 64) (f % 64)
+    k : ℕ
+    k = f % 64

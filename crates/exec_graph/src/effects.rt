@@ -29,7 +29,9 @@ ghost use Rattle.exec_graph.specs.Effects.{
 
 use plan_rules::Plan;
 use std::alloc::{AllocError, Global};
-use task_core::{ActionId, FluentId, Outcome, State, Task, always_holds, outcome_count, step};
+use task_core::{
+    ActionId, FluentId, Outcome, State, Task, WORDS, always_holds, outcome_count, step,
+};
 
 /// What an outcome does: it makes the fluents true that are so in `made`, and leaves those true that
 /// are so in `kept`. Each other becomes false.
@@ -47,7 +49,6 @@ pub(crate) struct Effects {
 }
 
 impl Effects {
-    /// What the outcomes of an action do.
     pub(crate) fn of(&self, action: ActionId) -> &[Option<Effect>]
         ensures { result.now ≡ effects_at self.now action.0 }
     {
@@ -59,23 +60,19 @@ impl Effects {
 }
 
 impl Effect {
-    /// The words of the state after this.
-    pub(crate) fn words_from(&self, state: &State) -> [u64; 4]
+    pub(crate) fn words_from(&self, state: &State) -> [u64; WORDS]
         ensures { (f : ℕ) → truth_in result f ≡ value_after self.now state.now f }
     {
-        let made = self.made.bits();
         let kept = self.kept.bits();
         let words = state.bits();
-        [
-            made[0] | kept[0] & words[0],
-            made[1] | kept[1] & words[1],
-            made[2] | kept[2] & words[2],
-            made[3] | kept[3] & words[3],
-        ]
+        let mut after = *self.made.bits();
+        for place in 0..WORDS {
+            after[place] = after[place] | kept[place] & words[place];
+        }
+        after
     }
 }
 
-/// What an outcome does, where that is known.
 pub(crate) fn known_effect(effects: &[Option<Effect>], outcome: u32) -> Option<&Effect>
     ensures { IfSome result (λ effect. slice_get effects.now outcome ≡ Some (Some effect.now)) }
 {
@@ -113,7 +110,6 @@ fn named_actions(alloc: Global, task: &Task, plan: &Plan) -> Result<Vec<bool>, A
     Ok(named)
 }
 
-/// Marks an action.
 fn mark_named(named: &mut Vec<bool>, action: ActionId) {
     if (action.0 as usize) < named.len() {
         named[action.0 as usize] = true;
@@ -139,7 +135,6 @@ fn effects_if(
     }
 }
 
-/// What the outcomes of an action do.
 fn action_effects(
     alloc: Global,
     task: &Task,
@@ -187,7 +182,6 @@ fn is_unconditional(outcome: &Outcome) -> bool
     true
 }
 
-/// The state in which each fluent of the task is true.
 fn all_true(task: &Task) -> State
     ensures within { IsWithin (fluent_count task.now) result }
     ensures all { (f : ℕ) → f < fluent_count task.now → truth result f ≡ true }

@@ -270,7 +270,6 @@ impl Draft {
     }
 }
 
-/// The initial states of the task.
 fn initial_states(alloc: Global, task: &Task) -> Result<Vec<State>, GraphErr>
     ensures list { let n = fluent_count task.now in IfOk result (λ states.
         map (vector n) states.items ≡ (system_of task.now).initial) }

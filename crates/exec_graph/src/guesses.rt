@@ -1,6 +1,7 @@
 //! Guesses at the numbers of configurations.
 
 use std::alloc::Global;
+use task_core::WORDS;
 
 /// The most guesses that are kept.
 const MOST: usize = 1_048_576;
@@ -21,7 +22,6 @@ pub(crate) struct Guesses {
 }
 
 impl Guesses {
-    /// No guesses.
     pub(crate) fn new(alloc: Global) -> Guesses {
         Guesses {
             numbers: Vec::new(alloc),
@@ -37,7 +37,7 @@ impl Guesses {
 
     /// Takes a number as a guess at that of its configuration, one of so many. With no memory for
     /// more guesses there are none.
-    pub(crate) fn take(&mut self, words: &[u64; 4], context: u32, number: usize, count: usize) {
+    pub(crate) fn take(&mut self, words: &[u64; WORDS], context: u32, number: usize, count: usize) {
         if count > self.numbers.len() / 8 && self.numbers.len() < MOST {
             self.widen();
         }
@@ -70,15 +70,15 @@ impl Guesses {
         let _ = self.numbers.resize(wider, 0);
     }
 
-    /// The first place of a guess; any number where there are no places. The second product brings
-    /// the high bits of the first ones down.
-    pub(crate) fn place(&self, words: &[u64; 4], context: u32) -> usize {
-        let sum = words[0]
-            .wrapping_mul(0x9e37_79b9_7f4a_7c15)
-            .wrapping_add(words[1].wrapping_mul(0xc2b2_ae3d_27d4_eb4f))
-            .wrapping_add(words[2].wrapping_mul(0x1656_67b1_9e37_79f9))
-            .wrapping_add(words[3].wrapping_mul(0x27d4_eb2f_1656_67c5))
-            .wrapping_add((context as u64).wrapping_mul(0x85eb_ca77_c2b2_ae63));
+    /// The first place of a guess; any number where there are no places. The last product brings the
+    /// high bits of the first ones down.
+    pub(crate) fn place(&self, words: &[u64; WORDS], context: u32) -> usize {
+        let mut sum = (context as u64).wrapping_mul(0x85eb_ca77_c2b2_ae63);
+        let mut factor: u64 = 0x9e37_79b9_7f4a_7c15;
+        for word in words {
+            sum = sum.wrapping_add(word.wrapping_mul(factor));
+            factor = factor.wrapping_mul(0xc2b2_ae3d_27d4_eb4f);
+        }
         let mixed = (sum ^ sum >> 32).wrapping_mul(0xff51_afd7_ed55_8ccd);
         (mixed >> 40) as usize & self.numbers.len().wrapping_sub(1)
     }

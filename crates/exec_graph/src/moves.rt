@@ -67,7 +67,7 @@ use crate::rules::{RuleIndex, next_rule};
 use indexmap::IndexSet;
 use plan_rules::{Advice, FIRST_CONTEXT, Onward, Plan, Rule, context_in, has_all};
 use std::alloc::{AllocError, Global};
-use task_core::{ActionId, State, Task, in_space, is_exec, outcome_count, step};
+use task_core::{ActionId, State, Task, WORDS, in_space, is_exec, outcome_count, step};
 
 /// The configurations that were found, numbered in the order in which they were found, and the
 /// moves from the one that is being visited: the numbers of those that follow it, each once,
@@ -416,7 +416,7 @@ impl Moves {
 
     // The number of the configuration with these words and this context, where one of the guesses at
     // it is right.
-    fn guessed(&self, words: &[u64; 4], context: u32) -> Option<usize>
+    fn guessed(&self, words: &[u64; WORDS], context: u32) -> Option<usize>
         ensures { IfSome result (StandsAt self.now.places.keys words.now context) }
     {
         let place = self.guesses.place(words, context);
@@ -431,7 +431,7 @@ impl Moves {
     }
 
     // The number, if the configuration that has it is that with these words and this context.
-    fn if_right(&self, number: usize, words: &[u64; 4], context: u32) -> Option<usize>
+    fn if_right(&self, number: usize, words: &[u64; WORDS], context: u32) -> Option<usize>
         ensures { IfSome result (StandsAt self.now.places.keys words.now context) }
     {
         let place = self.places.get_index(number)?;
@@ -605,7 +605,6 @@ pub(crate) fn number_of(places: &mut IndexSet<Place>, place: Place) -> Result<us
     Ok(number)
 }
 
-/// Whether an action can be executed in a state.
 fn is_executable(task: &Task, state: &State, action: ActionId) -> bool
     requires in_range { action.0 < action_count task.now }
     requires within { IsWithin (fluent_count task.now) state.now }

@@ -35,7 +35,6 @@ pub(crate) struct Numbers {
 impl Numbers {
     ghost use Rattle.exec_graph.specs.Numbers.{IsRoomy, numbers_of};
 
-    /// No numbers.
     pub(crate) fn new(alloc: Global) -> Numbers
         ensures { numbers_of result ≡ [] }
     {
@@ -114,7 +113,6 @@ impl Numbers {
     }
 }
 
-/// A number in two bytes.
 fn narrow(number: u32) -> u16
     requires { number < 65536 }
     ensures { result ≡ number }

@@ -48,7 +48,6 @@ pub(crate) struct Rows {
 }
 
 impl Rows {
-    /// No lists.
     pub(crate) fn new(alloc: Global) -> Result<Rows, AllocError>
         ensures rows { IfOk result AreRows }
         ensures none { IfOk result (λ rows. rows_of rows ≡ []) }
@@ -147,7 +146,6 @@ fn counted(alloc: Global, rows: &Rows) -> Result<Vec<usize>, AllocError>
     Ok(counts)
 }
 
-/// So many zeros.
 pub(crate) fn zeros(alloc: Global, len: usize) -> Result<Vec<usize>, AllocError>
     ensures count { IfOk result (λ counts. length counts.items ≡ len) }
     ensures each { IfOk result (λ counts. (i : ℕ) → i < len
@@ -171,7 +169,6 @@ fn count_row(counts: &mut Vec<usize>, rows: &Rows, i: usize)
     }
 }
 
-/// Counts one more.
 fn add_one(counts: &mut Vec<usize>, number: u32)
     requires number { number < length counts.old.items }
     requires small { slice_index_or counts.old.items number 0 + 1 < 2 ^ 64 }

@@ -82,7 +82,6 @@ pub(crate) fn by_context(
     Ok(index)
 }
 
-/// The index of the cubes of a table's rules, in their order.
 pub(crate) fn table_index(
     alloc: Global,
     task: &Task,
@@ -174,7 +173,6 @@ fn next_of_many(task: &Task, rules: &[Rule], index: &CubeIndex, state: &State, f
     }
 }
 
-/// The first of the rules that matches a state.
 fn first_match<'a>(task: &Task, rules: &[&'a AutoRule], state: &State) -> Option<Advice<'a>>
     requires in_task { let n = fluent_count task.now in let m = action_count task.now in
         All (λ rule. IsRuleWithin n m (context_rule_of rule.now)) rules.now }
@@ -191,7 +189,6 @@ fn first_match<'a>(task: &Task, rules: &[&'a AutoRule], state: &State) -> Option
     None
 }
 
-/// What a rule says.
 fn advice_of<'a>(task: &Task, rule: &'a AutoRule) -> Advice<'a>
     requires in_task { let n = fluent_count task.now in let m = action_count task.now in
         IsRuleWithin n m (context_rule_of rule.now) }

@@ -31,6 +31,7 @@ ghost use Rattle.std.specs.Prelude.{
 ghost use Rattle.std.specs.Rc.{rc_str_bytes};
 ghost use Rattle.task_core.specs.States.{truth, vector};
 ghost use Rattle.task_core.specs.Tasks.{action_names, fluent_count, fluent_names};
+ghost use Rattle.task_core.specs.Limits.{most_fluents};
 
 use counterexamples::{Source, line_at};
 use plan_document::{count_value, name_value};
@@ -159,7 +160,7 @@ fn fluent_name(task: &Task, fluent: FluentId) -> &[RcStr]
 
 /// Whether a fluent became true, or became false.
 fn is_changed(made: bool, before: &State, after: &State, fluent: FluentId) -> bool
-    requires { fluent.0 < 256 }
+    requires { fluent.0 < most_fluents }
     ensures { result
         ≡ changed_to_value made (truth before.now fluent.0) (truth after.now fluent.0) }
 {

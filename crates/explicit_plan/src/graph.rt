@@ -5,6 +5,7 @@ ghost use Rattle.std.specs.Prelude.{◌≡◌, ◌<◌, IfOk, IsTrue, OnOk, leng
 ghost use Rattle.task_core.specs.Conditions.{ids_below};
 ghost use Rattle.task_core.specs.States.{IsWithin};
 ghost use Rattle.task_core.specs.Tasks.{action_count, fluent_count, outcomes_at};
+ghost use Rattle.task_core.specs.Limits.{most_fluents};
 
 use crate::weights::tests_in_state;
 use indexmap::IndexSet;
@@ -85,7 +86,7 @@ pub(crate) fn go_through(
     goal: &Cond,
     most: usize,
 ) -> Result<StepGraph, Stop>
-    requires { IsTrue (ids_below 256 goal.now) }
+    requires { IsTrue (ids_below most_fluents goal.now) }
 {
     let mut graph = initial_graph(alloc, task, most)?;
     for number in 0..MOST_STATES {
@@ -129,7 +130,7 @@ fn most_states(task: &Task, most: usize) -> usize {
 impl StepGraph {
     /// Finds what can be done in the next state, and where it leads.
     fn expand(&mut self, alloc: Global, task: &Task, goal: &Cond, state: &State) -> Result<(), Stop>
-        requires goal { IsTrue (ids_below 256 goal.now) }
+        requires goal { IsTrue (ids_below most_fluents goal.now) }
         requires state { IsWithin (fluent_count task.now) state.now }
         requires within { AreWithin (fluent_count task.now) self.old.states.items }
         ensures { OnOk result (AreWithin (fluent_count task.now) self.new.states.items) }

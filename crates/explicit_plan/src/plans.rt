@@ -2,6 +2,7 @@
 
 ghost use Rattle.std.specs.Prelude.{IsTrue};
 ghost use Rattle.task_core.specs.Conditions.{ids_below};
+ghost use Rattle.task_core.specs.Limits.{most_fluents};
 
 use crate::before::before_each;
 use crate::graph::{StepGraph, Stop, go_through};
@@ -54,7 +55,7 @@ fn find(
     class: Class,
     most: usize,
 ) -> Result<Option<ReachedPlan>, Stop>
-    requires { IsTrue (ids_below 256 goal.now) }
+    requires { IsTrue (ids_below most_fluents goal.now) }
 {
     let graph = go_through(alloc, task, goal, most)?;
     match plan_in(alloc, &graph, class)? {

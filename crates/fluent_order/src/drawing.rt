@@ -5,6 +5,7 @@ ghost use Rattle.std.specs.Prelude.{◌≡◌, IfOk, length};
 
 use crate::ranks::ranks;
 use std::alloc::{AllocError, Global};
+use task_core::MAX_FLUENTS;
 
 /// How many rounds there are at most.
 const ROUNDS: usize = 60;
@@ -13,7 +14,7 @@ const ROUNDS: usize = 60;
 const UNITS: usize = 65_536;
 
 /// The most places there are.
-const PLACES: usize = 256;
+const PLACES: usize = MAX_FLUENTS as usize;
 
 /// An order of the fluents, from the places in another one, in which the fluents of a group stand
 /// nearer to each other. In each round a fluent goes to the mean of the centres of its groups; of
@@ -109,7 +110,6 @@ fn length_of(group: &[usize], places: &[usize]) -> usize {
     last.saturating_sub(first)
 }
 
-/// Adds to the number at a place, if there is one.
 fn add_to(numbers: &mut [usize], place: usize, more: usize) {
     if place < numbers.len() {
         numbers[place] = numbers[place].saturating_add(more);

@@ -16,7 +16,6 @@ pub(crate) fn groups_of(alloc: Global, task: &Task) -> Result<Vec<Vec<usize>>, A
     Ok(groups)
 }
 
-/// The fluents of a condition.
 fn condition_group(alloc: Global, cond: &Cond) -> Result<Vec<usize>, AllocError> {
     let mut group = Vec::new(alloc);
     push_condition(&mut group, cond)?;
@@ -59,7 +58,6 @@ fn push_condition(group: &mut Vec<usize>, cond: &Cond) -> Result<(), AllocError>
     }
 }
 
-/// The same numbers, each once.
 fn each_once(mut numbers: Vec<usize>) -> Result<Vec<usize>, AllocError> {
     numbers.sort()?;
     numbers.dedup();

@@ -87,7 +87,6 @@ pub fn plan_guided(
     }
 }
 
-/// The same for a goal.
 fn seek(
     alloc: Global,
     task: &Task,
@@ -115,7 +114,6 @@ enum SearchEnd {
     Nothing(Vec<Part>),
 }
 
-/// A weak policy, if there is one.
 fn seek_weak(world: &mut World<'_>) -> Result<SearchEnd, Stop> {
     let mut planner = Planner::new(world.alloc, world.actions.label_count(), false)?;
     if solve_weak(world, &mut planner)? {
@@ -124,7 +122,6 @@ fn seek_weak(world: &mut World<'_>) -> Result<SearchEnd, Stop> {
     Ok(SearchEnd::Nothing(planner.closed_region(world)?))
 }
 
-/// A strong policy, if there is one.
 fn seek_strong(world: &mut World<'_>) -> Result<SearchEnd, Stop> {
     let mut graph = AndOrGraph::new(world.alloc, world.actions.count())?;
     if graph.solve(world)? {

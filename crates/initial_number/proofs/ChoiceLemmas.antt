@@ -16,6 +16,7 @@ use Rattle.task_core.specs.Vectors.{Vector, value_of}
 use Rattle.task_core.specs.declared.actions.Alternative.{Alternative}
 use Rattle.task_core.specs.declared.states.State.{State}
 use Rattle.task_core.specs.declared.tasks.Task.{Task}
+use Rattle.task_core.specs.Limits.{most_fluents}
 use Rattle.task_core.proofs.EntryStates.{after_entries_are, after_entries_differ}
 use Rattle.task_core.proofs.StateLists.{alternative_at, alternatives_within, applied_vector, applied_within, entry_at, entry_widens, entry_within_at, length-entries_of, length-entry_of, lits_within, one_entry}
 use Rattle.task_core.proofs.TaskSystem.{length-vector}
@@ -225,8 +226,8 @@ entry_in_loop task found i x items h is =
     }
 
 -- the fluents of an entry are below 256
-pub fits_in_state : (task : Task) (i : ℕ) (entry : Entry) → IsEntry task i entry → list_all (list_all (lit_within 256)) entry ≡ true
-fits_in_state task i entry at = alternatives_within 256 entry (entry_widens (fluent_count task) 256 task.few_fluents entry at.fits)
+pub fits_in_state : (task : Task) (i : ℕ) (entry : Entry) → IsEntry task i entry → list_all (list_all (lit_within most_fluents)) entry ≡ true
+fits_in_state task i entry at = alternatives_within most_fluents entry (entry_widens (fluent_count task) most_fluents task.few_fluents entry at.fits)
 
 -- one more entry, as the loop over them has it
 pub more_in_loop : (task : Task) (i count : ℕ) (marks now_marks : State) (x : Vec (Alternative) Global) (read for_apart for_marks : List Alternative) → IsEntry task i (entry_of x.items) → HaveChoices task i count (truth marks) → read ≡ x.items → for_apart ≡ x.items → for_marks ≡ x.items → false ≡ entry_names_one (truth marks) (entry_of read)

@@ -28,6 +28,7 @@ ghost use Rattle.task_core.specs.Initial.{
   lit_within,
   names_it,
 };
+ghost use Rattle.task_core.specs.Limits.{most_fluents};
 
 use indexmap::IndexSet;
 use std::alloc::{AllocError, Global};
@@ -39,7 +40,7 @@ pub(crate) fn are_apart(
     state: &State,
     entry: &[Alternative],
 ) -> Result<bool, AllocError>
-    requires { list_all (list_all (lit_within 256)) (entry_of entry.now) ≡ true }
+    requires { list_all (list_all (lit_within most_fluents)) (entry_of entry.now) ≡ true }
     ensures { IfOk result (λ apart. IsTrue apart → (n : ℕ)
         → list_all (list_all (lit_within n)) (entry_of entry.now) ≡ true → IsWithin n state.now
         → length (after_entry n (vector n state.now ∷ []) (entry_of entry.now))
@@ -56,7 +57,7 @@ fn add_alternatives(
     state: &State,
     entry: &[Alternative],
 ) -> Result<(), AllocError>
-    requires { list_all (list_all (lit_within 256)) (entry_of entry.now) ≡ true }
+    requires { list_all (list_all (lit_within most_fluents)) (entry_of entry.now) ≡ true }
     ensures { OnOk result ((n : ℕ) (vs : List Vector)
         → list_all (list_all (lit_within n)) (entry_of entry.now) ≡ true
         → IsWithin n state.now → ShowsVectors n made.old.keys vs

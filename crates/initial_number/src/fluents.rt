@@ -4,6 +4,7 @@ ghost use Rattle.std.specs.Prelude.{◌≡◌, ℕ, ◌||◌, true};
 ghost use Rattle.std.specs.List.{list_all};
 ghost use Rattle.task_core.specs.States.{truth};
 ghost use Rattle.task_core.specs.Initial.{entry_of, lit_within};
+ghost use Rattle.task_core.specs.Limits.{most_fluents};
 ghost use Rattle.initial_number.specs.Fluents.{
   entry_names,
   entry_names_one,
@@ -15,7 +16,7 @@ use task_core::{Alternative, Lit, State};
 
 // Whether an entry names a marked fluent.
 pub(crate) fn names_marked(entry: &[Alternative], marks: &State) -> bool
-    requires { list_all (list_all (lit_within 256)) (entry_of entry.now) ≡ true }
+    requires { list_all (list_all (lit_within most_fluents)) (entry_of entry.now) ≡ true }
     ensures { result ≡ entry_names_one (truth marks.now) (entry_of entry.now) }
 {
     for alternative in entry {
@@ -28,7 +29,7 @@ pub(crate) fn names_marked(entry: &[Alternative], marks: &State) -> bool
 
 // Whether some of the literals names a marked fluent.
 fn literals_name_marked(lits: &[Lit], marks: &State) -> bool
-    requires { list_all (lit_within 256) lits.now ≡ true }
+    requires { list_all (lit_within most_fluents) lits.now ≡ true }
     ensures { result ≡ lits_name_one (truth marks.now) lits.now }
 {
     for lit in lits {
@@ -41,7 +42,7 @@ fn literals_name_marked(lits: &[Lit], marks: &State) -> bool
 
 // The marks, and one at each fluent that the entry names.
 pub(crate) fn with_marks(marks: State, entry: &[Alternative]) -> State
-    requires { list_all (list_all (lit_within 256)) (entry_of entry.now) ≡ true }
+    requires { list_all (list_all (lit_within most_fluents)) (entry_of entry.now) ≡ true }
     ensures { (f : ℕ) → truth result f ≡ (entry_names f (entry_of entry.now) || truth marks f) }
 {
     let mut marks = marks;
@@ -53,7 +54,7 @@ pub(crate) fn with_marks(marks: State, entry: &[Alternative]) -> State
 
 // The marks, and one at each fluent that a literal names.
 fn with_literal_marks(marks: State, lits: &[Lit]) -> State
-    requires { list_all (lit_within 256) lits.now ≡ true }
+    requires { list_all (lit_within most_fluents) lits.now ≡ true }
     ensures { (f : ℕ) → truth result f ≡ (lits_name f lits.now || truth marks f) }
 {
     let mut marks = marks;

@@ -30,6 +30,7 @@ ghost use Rattle.std.specs.Rc.{rc_str_bytes};
 ghost use Rattle.task_core.specs.Names.{name_bytes};
 ghost use Rattle.task_core.specs.States.{truth};
 ghost use Rattle.task_core.specs.Tasks.{fluent_names};
+ghost use Rattle.task_core.specs.Limits.{most_fluents};
 
 use itoa::Buffer;
 use lint_shapes::OneOf;
@@ -168,7 +169,7 @@ fn push_count(out: &mut String, count: usize) -> Result<(), AllocError>
 
 /// The members of the first of those groups with the most members.
 fn widest(alloc: Global, count: u32, groups: &[State]) -> Result<Vec<u32>, AllocError>
-    requires { count ≤ 256 }
+    requires { count ≤ most_fluents }
     ensures { IfOk result (λ members. members.items ≡ widest_of count groups.now) }
 {
     let mut most = Vec::new(alloc);
@@ -190,7 +191,7 @@ fn longer(first: Vec<u32>, second: Vec<u32>) -> Vec<u32>
 
 /// The members of a group, in rising order.
 fn members_in(alloc: Global, count: u32, group: &State) -> Result<Vec<u32>, AllocError>
-    requires { count ≤ 256 }
+    requires { count ≤ most_fluents }
     ensures { IfOk result (λ members. members.items ≡ members_below (truth group.now) count) }
 {
     let mut members = Vec::new(alloc);

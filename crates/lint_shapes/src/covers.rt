@@ -9,7 +9,7 @@ use crate::shapes::{Part, Shape};
 use crate::signatures::Signature;
 use crate::world::World;
 use std::alloc::{AllocError, Global};
-use task_core::FluentId;
+use task_core::{FluentId, MAX_FLUENTS};
 
 /// Two or three pieces, by their numbers.
 #[derive(Clone, Copy)]
@@ -115,7 +115,7 @@ fn is_cover(pieces: &[Piece], cover: Cover) -> bool {
             return false;
         }
     }
-    for number in 0..256 {
+    for number in 0..MAX_FLUENTS {
         if (number as usize) < first.bindings && !is_once(pieces, cover, FluentId(number)) {
             return false;
         }
@@ -149,7 +149,7 @@ fn is_once(pieces: &[Piece], cover: Cover, number: FluentId) -> bool {
 /// Whether the piece has an atom for the binding that is true at the start.
 fn begins(pieces: &[Piece], piece: usize, number: FluentId) -> bool {
     match pieces.get(piece) {
-        Some(piece) => number.0 < 256 && piece.begun.get(number),
+        Some(piece) => number.0 < MAX_FLUENTS && piece.begun.get(number),
         None => false,
     }
 }

@@ -1,6 +1,6 @@
 //! How much is judged, so that the search ends soon.
 
-use task_core::{FluentId, State, Task};
+use task_core::{FluentId, MAX_FLUENTS, State, Task};
 
 /// How much may be judged: members of groups times outcomes.
 const MOST_WORK: u64 = 400_000_000;
@@ -43,7 +43,7 @@ fn outcome_total(task: &Task) -> u64 {
 /// How many fluents are true.
 pub(crate) fn member_count(members: &State) -> u64 {
     let mut count: u64 = 0;
-    for number in 0..256 {
+    for number in 0..MAX_FLUENTS {
         if members.get(FluentId(number)) {
             count = count.saturating_add(1);
         }

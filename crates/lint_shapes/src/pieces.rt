@@ -7,7 +7,7 @@ use crate::singles::{free_types, part_of};
 use crate::world::World;
 use pddl_ast::{ObjectId, TypeId};
 use std::alloc::{AllocError, Global};
-use task_core::{FluentId, State};
+use task_core::{FluentId, MAX_FLUENTS, State};
 
 /// The most pieces that are looked at.
 const MOST_PIECES: usize = 64;
@@ -116,7 +116,7 @@ fn push_piece(
 /// For which bindings an atom is true at the start; `None` where two are for one of them.
 fn begun_at(world: &World<'_>, part: &Part, chosen: &[Vec<ObjectId>]) -> Option<State> {
     let mut begun = State::none();
-    for number in 0..256 {
+    for number in 0..MAX_FLUENTS {
         if let Some(binding) = chosen.get(number as usize) {
             let count = true_count(world, part, binding);
             if count > 1 {
@@ -145,5 +145,5 @@ fn true_count(world: &World<'_>, part: &Part, binding: &[ObjectId]) -> usize {
 }
 
 fn is_fact(world: &World<'_>, number: usize) -> bool {
-    number < 256 && world.task.init.facts.get(FluentId(number as u32))
+    number < MAX_FLUENTS as usize && world.task.init.facts.get(FluentId(number as u32))
 }

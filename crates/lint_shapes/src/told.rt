@@ -1,7 +1,7 @@
 //! Groups that have one that is found already.
 
 use crate::shapes::OneOf;
-use task_core::{FluentId, State};
+use task_core::{FluentId, MAX_FLUENTS, State};
 
 /// Whether a group has all members of one that is found already.
 pub(crate) fn is_told(members: &State, found: &[OneOf]) -> bool {
@@ -24,7 +24,7 @@ fn has_one_of(members: &State, groups: &[State]) -> bool {
 
 /// Whether a group has all members of another.
 fn has_all(members: &State, others: &State) -> bool {
-    for number in 0..256 {
+    for number in 0..MAX_FLUENTS {
         let fluent = FluentId(number);
         if others.get(fluent) && !members.get(fluent) {
             return false;

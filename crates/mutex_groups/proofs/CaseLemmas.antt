@@ -16,6 +16,7 @@ use Rattle.task_core.specs.declared.actions.Change.{Change}
 use Rattle.task_core.specs.declared.actions.GroundAction.{GroundAction}
 use Rattle.task_core.specs.declared.actions.Outcome.{Outcome}
 use Rattle.task_core.specs.declared.literals.Lit.{Lit}
+use Rattle.task_core.specs.Limits.{most_fluents}
 use Rattle.task_core.proofs.Vectors.{same_value_equal}
 use Rattle.relaxed_reach.specs.Literals.{LiteralSet, can_be, has}
 use Rattle.relaxed_reach.specs.declared.literals.Literals.{Literals}
@@ -27,7 +28,7 @@ use Rattle.mutex_groups.specs.Groups.{Group, HasOne, IsTheOne}
 pub those_are_in : (set : Literals) (others : ℕ → Bool) (g : ℕ)
     → truth set.possible g ≡ true → ((f : ℕ) → (f ≡ g → ⊥) → truth set.possible f ≡ others f)
     → ((f : ℕ) → (f ≡ g → ⊥) → truth set.certain f ≡ false)
-    → (group : Group) (value : ℕ → Bool) → ((f : ℕ) → f < 256 → others f ≡ not (group f))
+    → (group : Group) (value : ℕ → Bool) → ((f : ℕ) → f < most_fluents → others f ≡ not (group f))
     → IsTheOne group g value → IsFew value → AreIn (has set) value
 those_are_in set others g here there certain group value opposite is few f =
     by (value f) refl
@@ -39,8 +40,8 @@ those_are_in set others g here there certain group value opposite is few f =
     by : (b : Bool) → value f ≡ b → has set f b ≡ true
     by true t =
         ⊎_elim (λ (e : f ≡ g). subst (λ k. truth set.possible k ≡ true) (sym e) here)
-        (λ (n : f ≡ g → ⊥). there f n ∙ ⊎_elim (λ (h : f < 256). opposite f h ∙ outside (group f) refl t n)
-        (λ (h : 256 ≤ f). absurd (true_and_false (value f) t (few f h))) (cases_lt f 256))
+        (λ (n : f ≡ g → ⊥). there f n ∙ ⊎_elim (λ (h : f < most_fluents). opposite f h ∙ outside (group f) refl t n)
+        (λ (h : most_fluents ≤ f). absurd (true_and_false (value f) t (few f h))) (cases_lt f most_fluents))
         (cases_eq f g)
     by false t =
         ⊎_elim (λ (e : f ≡ g). absurd (true_and_false (value f) (subst (λ k. value k ≡ true) (sym e) is.holds) t))

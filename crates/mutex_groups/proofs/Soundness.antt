@@ -22,6 +22,7 @@ use Rattle.task_core.specs.declared.conditions.Cond.TheVariants.{All as AllOf}
 use Rattle.task_core.specs.declared.actions.Outcome.{Outcome}
 use Rattle.task_core.specs.declared.states.State.{State}
 use Rattle.task_core.specs.declared.tasks.Task.{Task}
+use Rattle.task_core.specs.Limits.{most_fluents}
 use Rattle.task_core.proofs.Paths.{path_keeps}
 use Rattle.task_core.proofs.EntryStates.{after_entries_are}
 use Rattle.task_core.proofs.Holds.{holds_All}
@@ -122,12 +123,12 @@ excludes task groups are follows = record {
 }
 
 -- a condition that can't be false whichever member is the one
-pub follows_from_each : (group : Group) (cond : Cond) → ((f : ℕ) → 256 ≤ f → group f ≡ false)
-    → ((f : ℕ) → f < 256 → group f ≡ true → FollowsAt group f cond) → FollowsFrom group cond
+pub follows_from_each : (group : Group) (cond : Cond) → ((f : ℕ) → most_fluents ≤ f → group f ≡ false)
+    → ((f : ℕ) → f < most_fluents → group f ≡ true → FollowsAt group f cond) → FollowsFrom group cond
 follows_from_each group cond within at value one is_few =
-    ⊎_elim (λ (h : one.fluent < 256). at one.fluent h one.is.member value one.is is_few)
-    (λ (h : 256 ≤ one.fluent). absurd (true_and_false (group one.fluent) one.is.member (within one.fluent h)))
-    (cases_lt one.fluent 256)
+    ⊎_elim (λ (h : one.fluent < most_fluents). at one.fluent h one.is.member value one.is is_few)
+    (λ (h : most_fluents ≤ one.fluent). absurd (true_and_false (group one.fluent) one.is.member (within one.fluent h)))
+    (cases_lt one.fluent most_fluents)
 
 -- where it can't be false, it holds
 pub cannot_fail : (group : Group) (g : ℕ) (cond : Cond) (set : LiteralSet) → ((value : ℕ → Bool) → IsTheOne group g value → IsFew value → AreIn set value)

@@ -18,6 +18,7 @@ use Rattle.task_core.specs.declared.actions.Alternative.{Alternative}
 use Rattle.task_core.specs.declared.literals.Lit.{Lit}
 use Rattle.task_core.specs.declared.states.State.{State}
 use Rattle.task_core.specs.declared.tasks.Task.{Task}
+use Rattle.task_core.specs.Limits.{most_fluents}
 use Rattle.task_core.proofs.StateLists.{alternatives_within, entry_at, entry_widens, entry_within_at, length-entries_of, one_entry}
 use Rattle.task_core.proofs.TaskSystem.{value_of-vector_within}
 use Rattle.mutex_groups.specs.Cases.{adds_member, adds_other, are_paired}
@@ -99,27 +100,27 @@ pair_keeps group lits g to there alone pair value is =
     (⊎_elim (λ (e : (g == to) ≡ true). inl (eqb-true g to e)) (λ (e : (g == to) ≡ false). inr (paired_back g to lits pair e)) (cases_Bool (g == to)))
 
 -- whichever member was the one
-pub keeps_one_of_all : (members : State) (lits : Cube) → IsWithin 256 members → ((f : ℕ) → f < 256 → truth members f ≡ true → KeepsOne (truth members) f lits)
+pub keeps_one_of_all : (members : State) (lits : Cube) → IsWithin most_fluents members → ((f : ℕ) → f < most_fluents → truth members f ≡ true → KeepsOne (truth members) f lits)
     → LeadsTo (truth members) OneTrue OneTrue lits
 keeps_one_of_all members lits within keeps value one =
-    ⊎_elim (λ (h : one.fluent < 256). keeps one.fluent h one.is.member value one.is)
-    (λ (h : 256 ≤ one.fluent). absurd (true_and_false (truth members one.fluent) one.is.member (within one.fluent h)))
-    (cases_lt one.fluent 256)
+    ⊎_elim (λ (h : one.fluent < most_fluents). keeps one.fluent h one.is.member value one.is)
+    (λ (h : most_fluents ≤ one.fluent). absurd (true_and_false (truth members one.fluent) one.is.member (within one.fluent h)))
+    (cases_lt one.fluent most_fluents)
 
 -- what is known of a state
-pub none_is_true : (members : State) (value : ℕ → Bool) → IsWithin 256 members → ((f : ℕ) → f < 256 → truth members f ≡ true → value f ≡ false) → HasNone (truth members) value
+pub none_is_true : (members : State) (value : ℕ → Bool) → IsWithin most_fluents members → ((f : ℕ) → f < most_fluents → truth members f ≡ true → value f ≡ false) → HasNone (truth members) value
 none_is_true members value within none f there =
-    ⊎_elim (λ (h : f < 256). none f h there) (λ (h : 256 ≤ f). absurd (true_and_false (truth members f) there (within f h))) (cases_lt f 256)
+    ⊎_elim (λ (h : f < most_fluents). none f h there) (λ (h : most_fluents ≤ f). absurd (true_and_false (truth members f) there (within f h))) (cases_lt f most_fluents)
 
-pub one_is_true : (members : State) (value : ℕ → Bool) (g : ℕ) → IsWithin 256 members → truth members g ≡ true → value g ≡ true
-    → ((f : ℕ) → f < 256 → truth members f ≡ true → value f ≡ true → f ≡ g) → HasOne (truth members) value
+pub one_is_true : (members : State) (value : ℕ → Bool) (g : ℕ) → IsWithin most_fluents members → truth members g ≡ true → value g ≡ true
+    → ((f : ℕ) → f < most_fluents → truth members f ≡ true → value f ≡ true → f ≡ g) → HasOne (truth members) value
 one_is_true members value g within there holds only = record {
   fluent = g;
   is = record {
     member = there;
     holds = holds;
     only = λ f among now.
-        ⊎_elim (λ (h : f < 256). only f h among now) (λ (h : 256 ≤ f). absurd (true_and_false (truth members f) among (within f h))) (cases_lt f 256);
+        ⊎_elim (λ (h : f < most_fluents). only f h among now) (λ (h : most_fluents ≤ f). absurd (true_and_false (truth members f) among (within f h))) (cases_lt f most_fluents);
   };
 }
 
@@ -204,7 +205,7 @@ all_entries task group known i past are =
     subst (AreAfter task group known) (take_all i (entries_of task.init) (subst (λ k. k ≤ i) (sym (length-entries_of task.init)) past)) are
 
 -- the members and the entries of a task are among 256 fluents
-pub within_256 : (task : Task) (members : State) → IsWithin (fluent_count task) members → IsWithin 256 members
+pub within_256 : (task : Task) (members : State) → IsWithin (fluent_count task) members → IsWithin most_fluents members
 within_256 task members within f h = let small = task.few_fluents in within f (omega arith)
 
 list_all-lits : (p : Cube → Bool) (entry : List Alternative) → list_all p (entry_of entry) ≡ true → list_all (λ (a : Alternative). p a.lits.items) entry ≡ true
@@ -214,8 +215,8 @@ list_all-lits p (a ∷ entry) e =
     and_from (p a.lits.items) (list_all (λ (a : Alternative). p a.lits.items) entry) parts.0 (list_all-lits p entry parts.1)
 
 pub alternatives_within_256 : (task : Task) (i : ℕ) (entry : Vec Alternative Global) → i < length task.init.entries.items → entry ≡ get_or task.init.entries.items i entry
-    → list_all (λ (a : Alternative). list_all (lit_within 256) a.lits.items) entry.items ≡ true
+    → list_all (λ (a : Alternative). list_all (lit_within most_fluents) a.lits.items) entry.items ≡ true
 alternatives_within_256 task i entry h is =
     let n = fluent_count task in
-    list_all-lits (list_all (lit_within 256)) entry.items
-    (alternatives_within 256 (entry_of entry.items) (entry_widens n 256 task.few_fluents (entry_of entry.items) (entry_within_at n task.init i entry task.entries_within h is)))
+    list_all-lits (list_all (lit_within most_fluents)) entry.items
+    (alternatives_within most_fluents (entry_of entry.items) (entry_widens n most_fluents task.few_fluents (entry_of entry.items) (entry_within_at n task.init i entry task.entries_within h is)))

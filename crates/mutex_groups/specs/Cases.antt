@@ -10,6 +10,7 @@ use Rattle.task_core.specs.declared.actions.Change.{Change}
 use Rattle.task_core.specs.declared.actions.GroundAction.{GroundAction}
 use Rattle.task_core.specs.declared.actions.Outcome.{Outcome}
 use Rattle.task_core.specs.declared.literals.Lit.{Lit}
+use Rattle.task_core.specs.Limits.{most_fluents}
 use Rattle.relaxed_reach.specs.Literals.{LiteralSet, can_be}
 use Rattle.mutex_groups.specs.Groups.{Group, HasOne, IsTheOne}
 
@@ -17,9 +18,9 @@ use Rattle.mutex_groups.specs.Groups.{Group, HasOne, IsTheOne}
 abbrev pub AreIn : LiteralSet → (ℕ → Bool) → Type 0
 AreIn set value = (f : ℕ) → set f (value f) ≡ true
 
--- only the first 256 fluents may be true
+-- only the first `most_fluents` fluents may be true
 abbrev pub IsFew : (ℕ → Bool) → Type 0
-IsFew value = (f : ℕ) → 256 ≤ f → value f ≡ false
+IsFew value = (f : ℕ) → most_fluents ≤ f → value f ≡ false
 
 -- whether a literal adds another member than h; whether one of some literals does
 abbrev pub is_other : Group → ℕ → Lit → Bool

@@ -5,6 +5,7 @@ ghost use Rattle.std.specs.List.{All, list_all};
 ghost use Rattle.task_core.specs.Actions.{action_within, outcome_within};
 ghost use Rattle.task_core.specs.States.{IsWithin, truth};
 ghost use Rattle.task_core.specs.Tasks.{fluent_count};
+ghost use Rattle.task_core.specs.Limits.{most_fluents};
 ghost use Rattle.relaxed_reach.specs.Literals.{has};
 ghost use Rattle.mutex_groups.specs.Cases.{Keeps, KeepsAt, Moves};
 ghost use Rattle.mutex_groups.specs.Groups.{IsInductive, IsOneOf};
@@ -43,10 +44,10 @@ fn task_keeps(task: &Task, members: &State) -> bool
 
 /// Whether an action keeps that exactly one member is true.
 fn action_keeps(action: &GroundAction, members: &State, others: &State, count: u32) -> bool
-    requires action { action_within 256 action.now ≡ true }
-    requires few { count ≤ 256 }
+    requires action { action_within most_fluents action.now ≡ true }
+    requires few { count ≤ most_fluents }
     requires within { IsWithin count members.now }
-    requires others { (f : ℕ) → f < 256 → truth others.now f ≡ not (truth members.now f) }
+    requires others { (f : ℕ) → f < most_fluents → truth others.now f ≡ not (truth members.now f) }
     ensures { IsTrue result → Keeps (truth members.now) action.now }
 {
     for number in 0..count {
@@ -60,10 +61,10 @@ fn action_keeps(action: &GroundAction, members: &State, others: &State, count: u
 
 /// Whether it does where this is the member that is true.
 fn keeps_at(action: &GroundAction, members: &State, others: &State, fluent: FluentId) -> bool
-    requires action { action_within 256 action.now ≡ true }
-    requires fluent { fluent.0 < 256 }
+    requires action { action_within most_fluents action.now ≡ true }
+    requires fluent { fluent.0 < most_fluents }
     requires member { truth members.now fluent.0 ≡ true }
-    requires others { (f : ℕ) → f < 256 → truth others.now f ≡ not (truth members.now f) }
+    requires others { (f : ℕ) → f < most_fluents → truth others.now f ≡ not (truth members.now f) }
     ensures { IsTrue result → KeepsAt (truth members.now) fluent.0 action.now }
 {
     let literals = literals_with(others, fluent);
@@ -80,8 +81,8 @@ fn keeps_at(action: &GroundAction, members: &State, others: &State, fluent: Flue
 
 /// Whether each outcome moves the truth from the member that is true to one other, or leaves it.
 fn outcomes_move(outcomes: &[Outcome], case: &Case<'_>) -> bool
-    requires outcomes { list_all (outcome_within 256) outcomes.now ≡ true }
-    requires fluent { case.now.fluent.0 < 256 }
+    requires outcomes { list_all (outcome_within most_fluents) outcomes.now ≡ true }
+    requires fluent { case.now.fluent.0 < most_fluents }
     requires member { truth case.now.members.now case.now.fluent.0 ≡ true }
     ensures { IsTrue result → All (λ outcome. Moves (truth case.now.members.now)
         (has case.now.literals.now) case.now.fluent.0 outcome.changes.items) outcomes.now }

@@ -5,6 +5,7 @@ ghost use Rattle.std.specs.List.{list_all, list_any};
 ghost use Rattle.task_core.specs.Actions.{change_within, outcome_within};
 ghost use Rattle.task_core.specs.Initial.{lit_within, names_it};
 ghost use Rattle.task_core.specs.States.{truth};
+ghost use Rattle.task_core.specs.Limits.{most_fluents};
 ghost use Rattle.relaxed_reach.specs.Literals.{can_be as can_have, has};
 ghost use Rattle.mutex_groups.specs.Cases.{
   Moves,
@@ -36,14 +37,14 @@ pub(crate) fn names(lits: &[Lit], fluent: FluentId, positive: bool) -> bool
 
 /// Whether the literal adds another member of the group than this one.
 fn is_other(lit: &Lit, members: &State, target: FluentId) -> bool
-    requires { lit_within 256 lit.now ≡ true }
+    requires { lit_within most_fluents lit.now ≡ true }
     ensures { result ≡ is_another (truth members.now) target.0 lit.now }
 {
     lit.positive && members.get(lit.fluent) && lit.fluent.0 != target.0
 }
 
 pub(crate) fn adds_other(lits: &[Lit], members: &State, target: FluentId) -> bool
-    requires { list_all (lit_within 256) lits.now ≡ true }
+    requires { list_all (lit_within most_fluents) lits.now ≡ true }
     ensures { result ≡ add_another (truth members.now) target.0 lits.now }
 {
     for lit in lits {
@@ -67,8 +68,8 @@ pub(crate) fn are_paired(lits: &[Lit], from: FluentId, to: FluentId) -> bool
 
 /// The first member that the literals add.
 pub(crate) fn added_member(lits: &[Lit], members: &State) -> Option<FluentId>
-    requires { list_all (lit_within 256) lits.now ≡ true }
-    ensures some { IfSome result (λ f. (f.0 < 256) × (truth members.now f.0 ≡ true)) }
+    requires { list_all (lit_within most_fluents) lits.now ≡ true }
+    ensures some { IfSome result (λ f. (f.0 < most_fluents) × (truth members.now f.0 ≡ true)) }
     ensures none { IfNone result (add_any (truth members.now) lits.now ≡ false) }
 {
     for lit in lits {
@@ -81,10 +82,10 @@ pub(crate) fn added_member(lits: &[Lit], members: &State) -> Option<FluentId>
 
 /// The first member that a change may add; the one that is true, where there is none.
 fn target_of(changes: &[Change], case: &Case<'_>) -> FluentId
-    requires changes { list_all (change_within 256) changes.now ≡ true }
-    requires fluent { case.now.fluent.0 < 256 }
+    requires changes { list_all (change_within most_fluents) changes.now ≡ true }
+    requires fluent { case.now.fluent.0 < most_fluents }
     requires member { truth case.now.members.now case.now.fluent.0 ≡ true }
-    ensures few { result.0 < 256 }
+    ensures few { result.0 < most_fluents }
     ensures member { truth case.now.members.now result.0 ≡ true }
 {
     for change in changes {
@@ -97,8 +98,8 @@ fn target_of(changes: &[Change], case: &Case<'_>) -> FluentId
 
 /// The first member that a change may add.
 fn added_by(change: &Change, case: &Case<'_>) -> Option<FluentId>
-    requires { change_within 256 change.now ≡ true }
-    ensures { IfSome result (λ f. (f.0 < 256) × (truth case.now.members.now f.0 ≡ true)) }
+    requires { change_within most_fluents change.now ≡ true }
+    ensures { IfSome result (λ f. (f.0 < most_fluents) × (truth case.now.members.now f.0 ≡ true)) }
 {
     if can_be(&change.cond, true, case.literals) {
         added_member(&change.lits, case.members)
@@ -109,7 +110,7 @@ fn added_by(change: &Change, case: &Case<'_>) -> Option<FluentId>
 
 /// Whether no change may add another member than this one.
 fn adds_only(changes: &[Change], case: &Case<'_>, target: FluentId) -> bool
-    requires { list_all (change_within 256) changes.now ≡ true }
+    requires { list_all (change_within most_fluents) changes.now ≡ true }
     ensures { result ≡ not (list_any (may_add_other (truth case.now.members.now)
         (has case.now.literals.now) target.0) changes.now) }
 {
@@ -123,7 +124,7 @@ fn adds_only(changes: &[Change], case: &Case<'_>, target: FluentId) -> bool
 
 /// Whether a change may add another member than this one.
 fn may_add_other(change: &Change, case: &Case<'_>, target: FluentId) -> bool
-    requires { change_within 256 change.now ≡ true }
+    requires { change_within most_fluents change.now ≡ true }
     ensures { result ≡ may_add_other (truth case.now.members.now) (has case.now.literals.now)
         target.0 change.now }
 {
@@ -132,7 +133,7 @@ fn may_add_other(change: &Change, case: &Case<'_>, target: FluentId) -> bool
 
 /// Whether some change makes the literal so in any case.
 fn is_sure(changes: &[Change], literals: &Literals, fluent: FluentId, positive: bool) -> bool
-    requires { list_all (change_within 256) changes.now ≡ true }
+    requires { list_all (change_within most_fluents) changes.now ≡ true }
     ensures { result ≡ is_sure (has literals.now) fluent.0 positive changes.now }
 {
     for change in changes {
@@ -144,7 +145,7 @@ fn is_sure(changes: &[Change], literals: &Literals, fluent: FluentId, positive: 
 }
 
 fn makes_surely(change: &Change, literals: &Literals, fluent: FluentId, positive: bool) -> bool
-    requires { change_within 256 change.now ≡ true }
+    requires { change_within most_fluents change.now ≡ true }
     ensures { result ≡ makes_surely (has literals.now) fluent.0 positive change.now }
 {
     names(&change.lits, fluent, positive) && !can_be(&change.cond, false, literals)
@@ -153,7 +154,7 @@ fn makes_surely(change: &Change, literals: &Literals, fluent: FluentId, positive
 /// Whether the target is added, and the member that is true deleted unless it is the target, in any
 /// case.
 fn lands(changes: &[Change], case: &Case<'_>, target: FluentId) -> bool
-    requires { list_all (change_within 256) changes.now ≡ true }
+    requires { list_all (change_within most_fluents) changes.now ≡ true }
     ensures { result ≡ (is_sure (has case.now.literals.now) target.0 true changes.now
         && (case.now.fluent.0 == target.0
         || is_sure (has case.now.literals.now) case.now.fluent.0 false changes.now)) }
@@ -164,7 +165,7 @@ fn lands(changes: &[Change], case: &Case<'_>, target: FluentId) -> bool
 
 /// Whether each change that may come about moves the truth to the target, or leaves it.
 fn all_move(changes: &[Change], case: &Case<'_>, target: FluentId) -> bool
-    requires { list_all (change_within 256) changes.now ≡ true }
+    requires { list_all (change_within most_fluents) changes.now ≡ true }
     ensures { result ≡ list_all (may_move (has case.now.literals.now) case.now.fluent.0 target.0)
         changes.now }
 {
@@ -178,7 +179,7 @@ fn all_move(changes: &[Change], case: &Case<'_>, target: FluentId) -> bool
 
 /// Whether a change does, if it may come about.
 fn may_move(change: &Change, case: &Case<'_>, target: FluentId) -> bool
-    requires { change_within 256 change.now ≡ true }
+    requires { change_within most_fluents change.now ≡ true }
     ensures { result
         ≡ may_move (has case.now.literals.now) case.now.fluent.0 target.0 change.now }
 {
@@ -187,8 +188,8 @@ fn may_move(change: &Change, case: &Case<'_>, target: FluentId) -> bool
 
 /// Whether an outcome moves the truth from the member that is true to one other, or leaves it.
 pub(crate) fn outcome_moves(outcome: &Outcome, case: &Case<'_>) -> bool
-    requires outcome { outcome_within 256 outcome.now ≡ true }
-    requires fluent { case.now.fluent.0 < 256 }
+    requires outcome { outcome_within most_fluents outcome.now ≡ true }
+    requires fluent { case.now.fluent.0 < most_fluents }
     requires member { truth case.now.members.now case.now.fluent.0 ≡ true }
     ensures { IsTrue result → Moves (truth case.now.members.now) (has case.now.literals.now)
         case.now.fluent.0 outcome.now.changes.items }
@@ -200,7 +201,7 @@ pub(crate) fn outcome_moves(outcome: &Outcome, case: &Case<'_>) -> bool
 
 /// Whether changes move the truth to the target alone, or leave it.
 fn moves_to(changes: &[Change], case: &Case<'_>, target: FluentId) -> bool
-    requires changes { list_all (change_within 256) changes.now ≡ true }
+    requires changes { list_all (change_within most_fluents) changes.now ≡ true }
     requires member { truth case.now.members.now target.0 ≡ true }
     ensures { IsTrue result → Moves (truth case.now.members.now) (has case.now.literals.now)
         case.now.fluent.0 changes.now }

@@ -6,10 +6,10 @@ ghost use Rattle.task_core.specs.Initial.{entries_of, lit_within};
 ghost use Rattle.task_core.specs.States.{IsWithin, truth};
 ghost use Rattle.task_core.specs.Tasks.{fluent_count, initial_vectors};
 ghost use Rattle.task_core.specs.Vectors.{Vector, value_of};
+ghost use Rattle.task_core.specs.Limits.{most_fluents};
 ghost use Rattle.mutex_groups.specs.Groups.{HasOne};
 ghost use Rattle.mutex_groups.specs.Starts.{AreAfter, KeepsOne, LeadsTo, Says};
 
-use crate::cases::FLUENTS;
 use crate::outcomes::{added_member, adds_other, are_paired, names};
 use task_core::{Alternative, FluentId, Lit, State, Task};
 
@@ -49,7 +49,7 @@ fn known_at_start(task: &Task, members: &State) -> Known
 }
 
 fn known_of(state: &State, members: &State) -> Known
-    requires { IsWithin 256 members.now }
+    requires { IsWithin most_fluents members.now }
     ensures { Says result (truth members.now) (truth state.now) }
 {
     match true_member(state, members) {
@@ -67,10 +67,10 @@ fn known_of(state: &State, members: &State) -> Known
 fn true_member(state: &State, members: &State) -> Option<FluentId>
     ensures some { IfSome result (λ f. (truth members.now f.0 ≡ true)
         × (truth state.now f.0 ≡ true)) }
-    ensures none { IfNone result ((f : ℕ) → f < 256 → truth members.now f ≡ true
+    ensures none { IfNone result ((f : ℕ) → f < most_fluents → truth members.now f ≡ true
         → truth state.now f ≡ false) }
 {
-    for number in 0..FLUENTS {
+    for number in 0..MAX_FLUENTS {
         let fluent = FluentId(number);
         if members.get(fluent) && state.get(fluent) {
             return Some(fluent);
@@ -81,10 +81,10 @@ fn true_member(state: &State, members: &State) -> Option<FluentId>
 
 /// Whether no other member is true in a state.
 fn is_only(state: &State, members: &State, fluent: FluentId) -> bool
-    ensures { IsTrue result → (f : ℕ) → f < 256 → truth members.now f ≡ true
+    ensures { IsTrue result → (f : ℕ) → f < most_fluents → truth members.now f ≡ true
         → truth state.now f ≡ true → f ≡ fluent.0 }
 {
-    for number in 0..FLUENTS {
+    for number in 0..MAX_FLUENTS {
         let other = FluentId(number);
         if members.get(other) && state.get(other) && number != fluent.0 {
             return false;
@@ -95,8 +95,8 @@ fn is_only(state: &State, members: &State, fluent: FluentId) -> bool
 
 #[tactic(auto, using(crate::proofs::StartLemmas::all_unknown))]
 fn known_after(known: Known, entry: &[Alternative], members: &State) -> Known
-    requires within { IsWithin 256 members.now }
-    requires entry { list_all (λ alternative. list_all (lit_within 256) alternative.lits.items) entry.now
+    requires within { IsWithin most_fluents members.now }
+    requires entry { list_all (λ alternative. list_all (lit_within most_fluents) alternative.lits.items) entry.now
         ≡ true }
     ensures { All (λ alternative. LeadsTo (truth members.now) known result
         alternative.lits.items) entry.now }
@@ -111,8 +111,8 @@ fn known_after(known: Known, entry: &[Alternative], members: &State) -> Known
 }
 
 fn all_lead_to(known: Known, after: Known, entry: &[Alternative], members: &State) -> bool
-    requires within { IsWithin 256 members.now }
-    requires entry { list_all (λ alternative. list_all (lit_within 256) alternative.lits.items) entry.now
+    requires within { IsWithin most_fluents members.now }
+    requires entry { list_all (λ alternative. list_all (lit_within most_fluents) alternative.lits.items) entry.now
         ≡ true }
     ensures { IsTrue result → All (λ alternative. LeadsTo (truth members.now) known after
         alternative.lits.items) entry.now }
@@ -127,8 +127,8 @@ fn all_lead_to(known: Known, after: Known, entry: &[Alternative], members: &Stat
 
 /// Whether this is known after the literals of an alternative.
 fn leads_to(known: Known, after: Known, lits: &[Lit], members: &State) -> bool
-    requires within { IsWithin 256 members.now }
-    requires lits { list_all (lit_within 256) lits.now ≡ true }
+    requires within { IsWithin most_fluents members.now }
+    requires lits { list_all (lit_within most_fluents) lits.now ≡ true }
     ensures { IsTrue result → LeadsTo (truth members.now) known after lits.now }
 {
     known_with(known, lits, members) == after
@@ -136,8 +136,8 @@ fn leads_to(known: Known, after: Known, lits: &[Lit], members: &State) -> bool
 
 /// What is known after the literals of an alternative.
 fn known_with(known: Known, lits: &[Lit], members: &State) -> Known
-    requires within { IsWithin 256 members.now }
-    requires lits { list_all (lit_within 256) lits.now ≡ true }
+    requires within { IsWithin most_fluents members.now }
+    requires lits { list_all (lit_within most_fluents) lits.now ≡ true }
     ensures { LeadsTo (truth members.now) known result lits.now }
 {
     match known {
@@ -149,7 +149,7 @@ fn known_with(known: Known, lits: &[Lit], members: &State) -> Known
 
 /// What is known after them, if none was true.
 fn known_from_none(lits: &[Lit], members: &State) -> Known
-    requires { list_all (lit_within 256) lits.now ≡ true }
+    requires { list_all (lit_within most_fluents) lits.now ≡ true }
     ensures { LeadsTo (truth members.now) Known.NoneTrue result lits.now }
 {
     match added_member(lits, members) {
@@ -166,11 +166,11 @@ fn known_from_none(lits: &[Lit], members: &State) -> Known
 
 /// What is known after them, if one was true.
 fn known_from_one(lits: &[Lit], members: &State) -> Known
-    requires within { IsWithin 256 members.now }
-    requires lits { list_all (lit_within 256) lits.now ≡ true }
+    requires within { IsWithin most_fluents members.now }
+    requires lits { list_all (lit_within most_fluents) lits.now ≡ true }
     ensures { LeadsTo (truth members.now) Known.OneTrue result lits.now }
 {
-    for number in 0..FLUENTS {
+    for number in 0..MAX_FLUENTS {
         let fluent = FluentId(number);
         if members.get(fluent) && !keeps_one(lits, members, fluent) {
             return Known::Unknown;
@@ -182,9 +182,9 @@ fn known_from_one(lits: &[Lit], members: &State) -> Known
 /// Whether the literals keep that exactly one member is true, if this is the one before.
 #[tactic(auto, using(crate::proofs::StartLemmas::pair_keeps))]
 fn keeps_one(lits: &[Lit], members: &State, fluent: FluentId) -> bool
-    requires few { fluent.0 < 256 }
+    requires few { fluent.0 < most_fluents }
     requires member { truth members.now fluent.0 ≡ true }
-    requires lits { list_all (lit_within 256) lits.now ≡ true }
+    requires lits { list_all (lit_within most_fluents) lits.now ≡ true }
     ensures { IsTrue result → KeepsOne (truth members.now) fluent.0 lits.now }
 {
     let target = target_in(lits, members, fluent);
@@ -193,10 +193,10 @@ fn keeps_one(lits: &[Lit], members: &State, fluent: FluentId) -> bool
 
 /// The first member that the literals add; else this one.
 fn target_in(lits: &[Lit], members: &State, fluent: FluentId) -> FluentId
-    requires few { fluent.0 < 256 }
+    requires few { fluent.0 < most_fluents }
     requires member { truth members.now fluent.0 ≡ true }
-    requires lits { list_all (lit_within 256) lits.now ≡ true }
-    ensures few { result.0 < 256 }
+    requires lits { list_all (lit_within most_fluents) lits.now ≡ true }
+    ensures few { result.0 < most_fluents }
     ensures member { truth members.now result.0 ≡ true }
 {
     match added_member(lits, members) {

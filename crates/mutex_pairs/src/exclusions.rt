@@ -23,7 +23,6 @@ struct Addition {
 }
 
 impl Exclusions {
-    /// None.
     pub(crate) fn none(alloc: Global) -> Exclusions {
         Exclusions {
             rows: Vec::new(alloc),

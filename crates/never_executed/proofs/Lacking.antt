@@ -10,14 +10,15 @@ use Rattle.task_core.specs.declared.actions.Outcome.{Outcome}
 use Rattle.task_core.specs.declared.conditions.Cond.{Cond}
 use Rattle.task_core.specs.declared.literals.Lit.{Lit}
 use Rattle.task_core.specs.declared.tasks.Task.{Task}
+use Rattle.task_core.specs.Limits.{most_fluents}
 use Rattle.task_core.proofs.TaskSystem.{element_passes}
 use Rattle.relaxed_reach.specs.Literals.{LiteralSet}
 use Rattle.never_executed.specs.Makers.{MakerPlace, lacks, lacks_in}
 
-pub outcome_is_within : (x : GroundAction) (k : ℕ) (o : Outcome) → action_within 256 x ≡ true → slice_get x.outcomes.items k ≡ Some o → outcome_within 256 o ≡ true
+pub outcome_is_within : (x : GroundAction) (k : ℕ) (o : Outcome) → action_within most_fluents x ≡ true → slice_get x.outcomes.items k ≡ Some o → outcome_within most_fluents o ≡ true
 outcome_is_within x k o within e =
     let all = (and_parts _ _ (and_parts _ _ (and_parts _ _ within).0).0).1 in
-    element_passes (outcome_within 256) x.outcomes.items k o all (slice_get_within x.outcomes.items k o e) (sym (get_or_from_slice_get x.outcomes.items k o o e))
+    element_passes (outcome_within most_fluents) x.outcomes.items k o all (slice_get_within x.outcomes.items k o e) (sym (get_or_from_slice_get x.outcomes.items k o o e))
 
 pub lacks_of_action : (task : Task) (set : LiteralSet) (lit : Lit) (place : MakerPlace) (x : GroundAction) (parts : List Cond) → slice_get task.actions.items place.action ≡ Some x
     → parts ≡ option_map_or (λ outcome. lacks_in set lit x outcome) (slice_get x.outcomes.items place.outcome) [] → parts ≡ lacks task set lit place

@@ -15,6 +15,7 @@ ghost use Rattle.std.specs.Prelude.{
   true,
 };
 ghost use Rattle.task_core.specs.Conditions.{ids_below};
+ghost use Rattle.task_core.specs.Limits.{most_fluents};
 ghost use Rattle.relaxed_reach.specs.Literals.{can_be as can_have, has};
 ghost use Rattle.never_executed.specs.Blocked.{blocked, conjuncts};
 
@@ -29,7 +30,7 @@ pub fn push_blocked<'a>(
     literals: &Literals,
     parts: &mut Vec<&'a Cond>,
 ) -> Result<(), AllocError>
-    requires { IsTrue (ids_below 256 cond.now) }
+    requires { IsTrue (ids_below most_fluents cond.now) }
     ensures { OnOk result (map (λ part. part.now) parts.new.items
         ≡ map (λ part. part.now) parts.old.items ++ blocked (has literals.now) cond.now) }
 {
@@ -43,8 +44,8 @@ pub fn push_blocked<'a>(
 pub fn parts_of(cond: &Cond) -> Option<&[Cond]>
     ensures some { IfSome result (λ parts. parts.now ≡ conjuncts cond.now) }
     ensures none { IfNone result (cond.now ∷ [] ≡ conjuncts cond.now) }
-    ensures below { IfSome result (λ parts. IsTrue (ids_below 256 cond.now)
-        → list_all (ids_below 256) parts.now ≡ true) }
+    ensures below { IfSome result (λ parts. IsTrue (ids_below most_fluents cond.now)
+        → list_all (ids_below most_fluents) parts.now ≡ true) }
 {
     match cond {
         Cond::All(parts) => Some(parts),
@@ -58,7 +59,7 @@ fn push_each<'a>(
     literals: &Literals,
     parts: &mut Vec<&'a Cond>,
 ) -> Result<(), AllocError>
-    requires { list_all (ids_below 256) conds.now ≡ true }
+    requires { list_all (ids_below most_fluents) conds.now ≡ true }
     ensures { OnOk result (map (λ part. part.now) parts.new.items
         ≡ map (λ part. part.now) parts.old.items
         ++ filter (λ part. not (can_have part (has literals.now) true)) conds.now) }
@@ -75,7 +76,7 @@ fn push_if_blocked<'a>(
     literals: &Literals,
     parts: &mut Vec<&'a Cond>,
 ) -> Result<(), AllocError>
-    requires { IsTrue (ids_below 256 cond.now) }
+    requires { IsTrue (ids_below most_fluents cond.now) }
     ensures { OnOk result (map (λ part. part.now) parts.new.items
         ≡ map (λ part. part.now) parts.old.items
         ++ filter (λ part. not (can_have part (has literals.now) true)) (cond.now ∷ [])) }

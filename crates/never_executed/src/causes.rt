@@ -9,6 +9,7 @@ ghost use Rattle.relaxed_reach.specs.Literals.{has};
 ghost use Rattle.std.specs.List.{All, list_any};
 ghost use Rattle.std.specs.Prelude.{◌≡◌, IfOk, IfSome, IsTrue, true};
 ghost use Rattle.task_core.specs.Actions.{action_within};
+ghost use Rattle.task_core.specs.Limits.{most_fluents};
 
 use crate::facts::cause_by_facts;
 use crate::parts::is_false_part;
@@ -127,7 +128,7 @@ fn is_false_in_each(looked: &Looked<'_>, name: &Text, part: usize) -> bool
 
 /// Whether it can't hold in an action of the task, where that is an instance of it.
 fn is_false_in(literals: &Literals, action: &GroundAction, name: &Text, part: usize) -> bool
-    requires { action_within 256 action.now ≡ true }
+    requires { action_within most_fluents action.now ≡ true }
     ensures { IsTrue result → is_of name.now action.now ≡ true
         → IsFalsePart (has literals.now) part action.now.exec }
 {

@@ -11,6 +11,7 @@ ghost use Rattle.relaxed_reach.specs.Literals.{has};
 ghost use Rattle.std.specs.List.{All, filter};
 ghost use Rattle.std.specs.Prelude.{◌≡◌, ◌++◌, ◌∷◌, [], IfOk, OnOk, map, true};
 ghost use Rattle.task_core.specs.Actions.{action_within};
+ghost use Rattle.task_core.specs.Limits.{most_fluents};
 
 use crate::causes::{Cause, Looked, cause_of, is_instance};
 use ground_instances::Setting;
@@ -120,7 +121,7 @@ fn never_runs(looked: &Looked<'_>, name: &Text) -> bool
 /// Whether an action of a task is an instance of the action of this name, and its precondition can
 /// hold.
 fn may_run(literals: &Literals, action: &GroundAction, name: &Text) -> bool
-    requires { action_within 256 action.now ≡ true }
+    requires { action_within most_fluents action.now ≡ true }
     ensures { result ≡ can_run (has literals.now) name.now action.now }
 {
     is_instance(action, name) && can_be(&action.exec, true, literals)

@@ -5,6 +5,7 @@ ghost use Rattle.never_executed.specs.Parts.{IsFalsePart};
 ghost use Rattle.relaxed_reach.specs.Literals.{has};
 ghost use Rattle.std.specs.Prelude.{◌≡◌, IfNone, IfSome, IsTrue, false};
 ghost use Rattle.task_core.specs.Conditions.{ids_below};
+ghost use Rattle.task_core.specs.Limits.{most_fluents};
 
 use crate::parts::is_false_part;
 use relaxed_reach::{Literals, can_be, goal_of};
@@ -35,7 +36,7 @@ pub fn goal_never(task: &Task, literals: &Literals) -> Option<GoalNever>
 
 /// The first part of a condition that can't hold.
 fn false_part(cond: &Cond, literals: &Literals) -> Option<usize>
-    requires { IsTrue (ids_below 256 cond.now) }
+    requires { IsTrue (ids_below most_fluents cond.now) }
     ensures { IfSome result (λ k. IsFalsePart (has literals.now) k cond.now) }
 {
     for part in 0..part_count(cond) {

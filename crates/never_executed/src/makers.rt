@@ -17,6 +17,7 @@ ghost use Rattle.std.specs.Prelude.{
 };
 ghost use Rattle.std.specs.Option.{option_map_or};
 ghost use Rattle.task_core.specs.Actions.{action_within, change_within, outcome_within};
+ghost use Rattle.task_core.specs.Limits.{most_fluents};
 ghost use Rattle.relaxed_reach.specs.Literals.{has};
 ghost use Rattle.never_executed.specs.Makers.{
   change_lacks,
@@ -143,7 +144,7 @@ fn lacks_of_outcome<'a>(
     lit: Lit,
     number: u32,
 ) -> Result<Vec<&'a Cond>, AllocError>
-    requires { action_within 256 action.now ≡ true }
+    requires { action_within most_fluents action.now ≡ true }
     ensures { IfOk result (λ parts. map (λ part. part.now) parts.items
         ≡ option_map_or (λ outcome. lacks_in (has literals.now) lit action.now outcome)
         (slice_get action.now.outcomes.items number) []) }
@@ -164,8 +165,8 @@ fn push_lacks<'a>(
     lit: Lit,
     parts: &mut Vec<&'a Cond>,
 ) -> Result<(), AllocError>
-    requires action { action_within 256 action.now ≡ true }
-    requires outcome { outcome_within 256 outcome.now ≡ true }
+    requires action { action_within most_fluents action.now ≡ true }
+    requires outcome { outcome_within most_fluents outcome.now ≡ true }
     ensures { OnOk result (map (λ part. part.now) parts.new.items
         ≡ map (λ part. part.now) parts.old.items
         ++ lacks_in (has literals.now) lit action.now outcome.now) }
@@ -186,7 +187,7 @@ fn push_change_lacks<'a>(
     lit: Lit,
     parts: &mut Vec<&'a Cond>,
 ) -> Result<(), AllocError>
-    requires { change_within 256 change.now ≡ true }
+    requires { change_within most_fluents change.now ≡ true }
     ensures { OnOk result (map (λ part. part.now) parts.new.items
         ≡ map (λ part. part.now) parts.old.items
         ++ change_lacks (has literals.now) lit change.now) }

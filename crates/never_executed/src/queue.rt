@@ -8,7 +8,7 @@ use crate::makers::{Maker, lacks_of, makers_of};
 use crate::relaxed::Relaxed;
 use relaxed_reach::Literals;
 use std::alloc::{AllocError, Global};
-use task_core::{Cond, FluentId, Lit};
+use task_core::{Cond, FluentId, Lit, MAX_FLUENTS};
 
 /// How many literals are explained at most.
 const MOST_LITERALS: usize = 20;
@@ -125,5 +125,5 @@ fn add_literal(lit: Lit, literals: &Literals, lits: &mut Vec<Lit>) -> Result<(),
 fn is_never(lit: Lit, literals: &Literals) -> bool
     ensures { IsTrue result → has literals.now lit.fluent.0 lit.positive ≡ false }
 {
-    lit.fluent.0 < 256 && !literals.has(lit.fluent, lit.positive)
+    lit.fluent.0 < MAX_FLUENTS && !literals.has(lit.fluent, lit.positive)
 }

@@ -16,7 +16,6 @@ use crate::trees::{GroundAtom, Objects, PredicateId, Term, Terms};
 use sexpr_text::{FaultKind, Form, ReadErr, Text, View, fault_at};
 use std::alloc::{AllocError, Global};
 
-/// How many forms the row has.
 #[tactic(auto, using(crate::proofs::Forests::count_length))]
 pub(crate) fn count(row: &[Form]) -> usize
     ensures { result ≡ atoms.count (forest_of row.now) }
@@ -24,7 +23,6 @@ pub(crate) fn count(row: &[Form]) -> usize
     row.len()
 }
 
-/// The term that a word is.
 fn term_of(known: &Known, scope: &Scope, word: &Text) -> Option<Term>
     ensures { result ≡ atoms.term_of (known_value known.now) scope.now word.now }
 {

@@ -25,14 +25,12 @@ pub fn no_change(alloc: Global) -> Effect
     Effect::Both(Vec::new(alloc))
 }
 
-/// The first of some effects.
 fn first_effect(alloc: Global, effects: Vec<Effect>) -> Effect
     ensures { effect_value result ≡ effect.first_effect (map effect_value effects.items) }
 {
     effects.into_iter().next().unwrap_or(no_change(alloc))
 }
 
-/// The effects of a row.
 #[cycle(reading)]
 fn read_effects(
     alloc: Global,

@@ -28,7 +28,6 @@ pub fn always(alloc: Global) -> Formula
     Formula::All(Vec::new(alloc))
 }
 
-/// The first of some formulas.
 fn first_formula(alloc: Global, formulas: Vec<Formula>) -> Formula
     ensures { formula_value result ≡ formula.first_formula (map formula_value formulas.items) }
 {
@@ -106,7 +105,6 @@ pub fn read_variables(
     Ok(types)
 }
 
-/// The formulas of a row.
 #[cycle(reading)]
 fn read_formulas(
     alloc: Global,

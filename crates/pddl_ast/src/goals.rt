@@ -134,7 +134,6 @@ fn read_quantified(
     read_plain(alloc, known, span, parts)
 }
 
-/// The goals of a row.
 #[cycle(reading)]
 fn read_temporals(alloc: Global, known: &Known, row: &[Form]) -> Result<Vec<Temporal>, ReadErr>
     ensures sound { OnOk result (goals.temporals_flaws (known_value known.now)

@@ -38,7 +38,6 @@ impl Known {
     }
 }
 
-/// The table of the names of types.
 fn table_of_types(alloc: Global, types: &[Text]) -> Result<NameTable, AllocError>
     requires { AreDistinct types.now }
     ensures { IfOk result (λ table. table ≡ types.now) }
@@ -50,7 +49,6 @@ fn table_of_types(alloc: Global, types: &[Text]) -> Result<NameTable, AllocError
     Ok(table)
 }
 
-/// The table of the names of predicates.
 fn table_of_predicates(alloc: Global, predicates: &[Predicate]) -> Result<NameTable, AllocError>
     requires { AreDistinct (names_of_predicates predicates.now) }
     ensures { IfOk result (λ table. table ≡ names_of_predicates predicates.now) }
@@ -62,7 +60,6 @@ fn table_of_predicates(alloc: Global, predicates: &[Predicate]) -> Result<NameTa
     Ok(table)
 }
 
-/// The table of the names of constants or objects.
 fn table_of_objects(alloc: Global, objects: &[Named]) -> Result<NameTable, AllocError>
     requires { AreDistinct (names_of_objects objects.now) }
     ensures { IfOk result (λ table. table ≡ names_of_objects objects.now) }

@@ -88,7 +88,6 @@ fn either_fault(alloc: Global, parts: &[Form]) -> Result<FaultKind, AllocError>
     }
 }
 
-/// Whether the row begins with the word `either`.
 fn begins_with_either(row: &[Form]) -> bool
     ensures { result ≡ lists.begins_with_either (forest_of row.now) }
 {
@@ -120,7 +119,6 @@ impl Declares {
         }
     }
 
-    /// Whether the word may be a type.
     fn is_type(self, types: &NameTable, word: &Text) -> bool
         ensures { result ≡ lists.is_type self types.now word.now }
     {
@@ -159,7 +157,6 @@ fn read_name(
     Ok(Text::new(alloc, word.as_bytes())?)
 }
 
-/// A word in a type's place.
 fn read_type(
     alloc: Global,
     declares: Declares,
@@ -188,7 +185,6 @@ pub struct Pending {
 }
 
 impl Pending {
-    /// Nothing was read.
     fn new(alloc: Global) -> Pending
         ensures name { result.typed ≡ false }
         ensures flaws { (declares : Declares) (types seen : List (List ℕ)) (rest : Forest)
@@ -236,7 +232,6 @@ impl Pending {
         Ok(())
     }
 
-    /// Takes a `-`.
     fn take_dash(
         &mut self,
         rules: &ListRules<'_>,
@@ -265,7 +260,6 @@ impl Pending {
         Ok(())
     }
 
-    /// Takes a word in a name's place.
     fn take_name(
         &mut self,
         alloc: Global,
@@ -320,7 +314,6 @@ impl Pending {
     }
 }
 
-/// Takes a word.
 #[tactic(auto, using(crate::proofs::Pending::all_seen_push))]
 fn take_word(
     alloc: Global,

@@ -60,7 +60,6 @@ fn is_given(parts: &ActionParts<'_>, key: Key) -> bool
     }
 }
 
-/// The parts with the form that follows a key.
 fn with_part<'a>(parts: ActionParts<'a>, key: Key, form: View<'a>) -> ActionParts<'a>
     ensures { parts_value result
         ≡ specs.with_part (parts_value parts.entry) key (view_then form.entry nothing) }

@@ -152,7 +152,6 @@ fn read_stated(
     Ok((invariant, actions))
 }
 
-/// The domain of this name with what its sections declare.
 #[tactic(auto, unfolding(crate::specs::Reading::contents_flaws, crate::specs::Reading::tree_of))]
 fn read_contents(alloc: Global, name: &Text, sections: &[Form]) -> Result<Domain, ReadErr>
     ensures sound { OnOk result (reading.contents_flaws (forest_of sections.now) ≡ []) }
@@ -176,7 +175,6 @@ fn read_contents(alloc: Global, name: &Text, sections: &[Form]) -> Result<Domain
     })
 }
 
-/// The domain of this name and these sections.
 #[tactic(auto, unfolding(crate::specs::Reading::all_section_flaws))]
 fn read_sections(alloc: Global, name: &Text, sections: &[Form]) -> Result<Domain, ReadErr>
     ensures sound { OnOk result (reading.all_section_flaws (forest_of sections.now) ≡ []) }
@@ -190,7 +188,6 @@ fn read_sections(alloc: Global, name: &Text, sections: &[Form]) -> Result<Domain
     read_contents(alloc, name, sections)
 }
 
-/// The domain that the forms of a text define.
 #[tactic(auto, unfolding(crate::specs::Reading::domain_flaws))]
 fn read_defined(alloc: Global, forms: &[Form]) -> Result<Domain, ReadErr>
     ensures sound { OnOk result (reading.domain_flaws (forest_of forms.now) ≡ []) }

@@ -92,7 +92,6 @@ fn read_parameters(
     }
 }
 
-/// An action's precondition.
 fn read_precondition(
     alloc: Global,
     known: &Known,
@@ -116,7 +115,6 @@ fn read_precondition(
     }
 }
 
-/// An action's effect.
 fn read_whole_effect(
     alloc: Global,
     known: &Known,

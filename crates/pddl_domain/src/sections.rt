@@ -157,7 +157,6 @@ fn has_wrong_size(section: Section, rest: &[Form]) -> bool
     }
 }
 
-/// The flaw of a section of this kind, where it has one.
 fn check_kind(
     alloc: Global,
     seen: Seen,

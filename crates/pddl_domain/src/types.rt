@@ -24,7 +24,6 @@ pub struct Types {
     pub parents: Vec<TypeId>,
 }
 
-/// Whether the word is `object`.
 fn is_object(word: &Text) -> bool
     ensures { result ≡ specs.is_object word.now }
 {
@@ -50,7 +49,6 @@ fn add_word(alloc: Global, names: &mut TypeNames, word: &Text) -> Result<(), All
     Ok(())
 }
 
-/// Adds the words, each where it is new.
 fn add_words(alloc: Global, names: &mut TypeNames, words: &[Text]) -> Result<(), AllocError>
     requires { names.old.texts.items ≡ names.old.table }
     ensures table { OnOk result (names.new.table ≡ fold specs.with_name names.old.table words.now) }
@@ -62,7 +60,6 @@ fn add_words(alloc: Global, names: &mut TypeNames, words: &[Text]) -> Result<(),
     Ok(())
 }
 
-/// Adds the names of the groups.
 fn add_names(alloc: Global, names: &mut TypeNames, groups: &[TypedGroup]) -> Result<(), AllocError>
     requires { names.old.texts.items ≡ names.old.table }
     ensures table { OnOk result
@@ -76,7 +73,6 @@ fn add_names(alloc: Global, names: &mut TypeNames, groups: &[TypedGroup]) -> Res
     Ok(())
 }
 
-/// Whether the words are `object` alone.
 fn are_objects(words: &[Text]) -> bool
     ensures { result ≡ list_all specs.is_object words.now }
 {
@@ -116,7 +112,6 @@ fn only_object(alloc: Global) -> Result<TypeNames, AllocError>
     Ok(names)
 }
 
-/// The names of the types by their numbers.
 fn name_types(alloc: Global, groups: &[TypedGroup]) -> Result<TypeNames, AllocError>
     ensures table { IfOk result
         (λ names. names.table ≡ specs.type_names (map group_value groups.now)) }
@@ -180,7 +175,6 @@ fn push_zeros(numbers: &mut Vec<TypeId>, count: usize) -> Result<(), AllocError>
     Ok(())
 }
 
-/// The parents of the types by their numbers.
 fn find_parents(
     alloc: Global,
     names: &NameTable,

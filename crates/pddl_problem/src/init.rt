@@ -150,7 +150,6 @@ fn read_part(
     read_literal(alloc, known, &list)
 }
 
-/// The literals of an alternative's parts.
 fn read_parts(alloc: Global, known: &Known, row: &[Form]) -> Result<Vec<InitialLiteral>, ReadErr>
     ensures sound { OnOk result (parts.flaws_of_groups (init.part_flaws (known_value known.now))
         (forest_of row.now) ≡ []) }

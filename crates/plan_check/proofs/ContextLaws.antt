@@ -10,6 +10,7 @@ use Rattle.task_core.specs.Tasks.{fluent_count}
 use Rattle.task_core.specs.Vectors.{Vector}
 use Rattle.task_core.specs.declared.conditions.Cond.{Cond}
 use Rattle.task_core.specs.declared.tasks.Task.{Task}
+use Rattle.task_core.specs.Limits.{most_fluents}
 use Rattle.task_core.proofs.Agreement.{ids_below_widen}
 use Rattle.ctl_syntax.specs.Goals.{CtlTree}
 use Rattle.ctl_syntax.specs.Truth.{Satisfies}
@@ -217,6 +218,6 @@ module _ (sys : System) (contexts : ℕ) (rules : List ContextRule) (n : ℕ) (g
         (λ t. x.unmarked ((shows.each x.number x.below).1 ((true_at goal names x.number x.below).1 t)))
 
 -- the fluents of a task are few
-pub few_names : (task : Task) (goal : CtlTree Cond) → NamesBelow (fluent_count task) goal → NamesBelow 256 goal
+pub few_names : (task : Task) (goal : CtlTree Cond) → NamesBelow (fluent_count task) goal → NamesBelow most_fluents goal
 few_names task goal names =
-    each_weaker (λ (c : Cond). ids_below (fluent_count task) c ≡ true) (λ (c : Cond). ids_below 256 c ≡ true) (λ c k. ids_below_widen c (fluent_count task) 256 task.few_fluents k) goal names
+    each_weaker (λ (c : Cond). ids_below (fluent_count task) c ≡ true) (λ (c : Cond). ids_below most_fluents c ≡ true) (λ c k. ids_below_widen c (fluent_count task) most_fluents task.few_fluents k) goal names

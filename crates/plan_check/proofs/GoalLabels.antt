@@ -13,6 +13,7 @@ use Rattle.ctl_syntax.proofs.Shapes.{value_Imply, value_Ax, value_Ex, value_Af, 
 use Rattle.exec_graph.specs.Values.{followers_at, graph_size}
 use Rattle.exec_graph.specs.declared.graphs.Graph.{Graph}
 use Rattle.task_core.specs.declared.conditions.Cond.{Cond}
+use Rattle.task_core.specs.Limits.{most_fluents}
 use Rattle.plan_check.specs.Labels.{ComesAfter, HasFollowers, HoldsIn, IsJoined, IsLeast, IsNext, IsWeakest, Shows, ShowsGoal, mark_at}
 use Rattle.plan_check.specs.Plain.{HasFollowersInside}
 use Rattle.plan_check.specs.declared.spreading.Need.TheVariants.{One, Each}
@@ -30,7 +31,7 @@ choice goals = any (goal_row (map ctl_value goals))
 -- the marks are where all goals but those that are left are true
 pub record AllSoFar (graph : Graph) (goals left : List Ctl) (marks : List Bool) : Type 0 where
   pub count : length marks ≡ graph_size graph
-  pub names : NamesBelow 256 (row left)
+  pub names : NamesBelow most_fluents (row left)
   pub known : (n : ℕ) → NamesBelow n (row goals) → NamesBelow n (row left)
   pub each : (n i : ℕ) → NamesBelow n (row goals) → i < graph_size graph
       → ((mark_at marks i ≡ true) × Satisfies (ComesAfter graph) (HoldsIn n graph) (row left) i) ↔ Satisfies (ComesAfter graph) (HoldsIn n graph) (row goals) i
@@ -38,17 +39,17 @@ pub record AllSoFar (graph : Graph) (goals left : List Ctl) (marks : List Bool) 
 -- the marks are where some of the goals but those that are left is true
 pub record AnySoFar (graph : Graph) (goals left : List Ctl) (marks : List Bool) : Type 0 where
   pub count : length marks ≡ graph_size graph
-  pub names : NamesBelow 256 (choice left)
+  pub names : NamesBelow most_fluents (choice left)
   pub known : (n : ℕ) → NamesBelow n (choice goals) → NamesBelow n (choice left)
   pub each : (n i : ℕ) → NamesBelow n (choice goals) → i < graph_size graph
       → ((mark_at marks i ≡ true) ⊎ Satisfies (ComesAfter graph) (HoldsIn n graph) (choice left) i) ↔ Satisfies (ComesAfter graph) (HoldsIn n graph) (choice goals) i
 
 module _ (graph : Graph) (goals : List Ctl) where
-  pub all_begin : (marks : List Bool) → NamesBelow 256 (row goals) → length marks ≡ graph_size graph → ((i : ℕ) → i < graph_size graph → mark_at marks i ≡ true) → AllSoFar graph goals goals marks
+  pub all_begin : (marks : List Bool) → NamesBelow most_fluents (row goals) → length marks ≡ graph_size graph → ((i : ℕ) → i < graph_size graph → mark_at marks i ≡ true) → AllSoFar graph goals goals marks
   all_begin marks names count each =
       record { count = count; names = names; known = λ n k. k; each = λ n i k l. (λ s. s.1, λ s. (each i l, s)) }
 
-  pub any_begin : (marks : List Bool) → NamesBelow 256 (choice goals) → length marks ≡ graph_size graph → ((i : ℕ) → i < graph_size graph → mark_at marks i ≡ false) → AnySoFar graph goals goals marks
+  pub any_begin : (marks : List Bool) → NamesBelow most_fluents (choice goals) → length marks ≡ graph_size graph → ((i : ℕ) → i < graph_size graph → mark_at marks i ≡ false) → AnySoFar graph goals goals marks
   any_begin marks names count each =
       record { count = count; names = names; known = λ n k. k; each = λ n i k l. (λ s. ⊎_elim (λ m. absurd (false≢true (sym (each i l) ∙ m))) (λ a. a) s, λ s. inr s) }
 
@@ -97,11 +98,11 @@ module _ (graph : Graph) (goals : List Ctl) where
       any_next goal (drop (k + 1) goals) marks part now (subst (λ gs. AnySoFar graph goals gs marks) (drop_more goals k goal l ∙ ap (λ g. g ∷ drop (k + 1) goals) is) h)
 
   -- the names of the next goal
-  pub all_names : (k : ℕ) (goal : Ctl) (marks : List Bool) → k < length goals → get_or goals k goal ≡ goal → AllSoFar graph goals (drop k goals) marks → NamesBelow 256 (ctl_value goal)
+  pub all_names : (k : ℕ) (goal : Ctl) (marks : List Bool) → k < length goals → get_or goals k goal ≡ goal → AllSoFar graph goals (drop k goals) marks → NamesBelow most_fluents (ctl_value goal)
   all_names k goal marks l is h =
       (subst (λ gs. AllSoFar graph goals gs marks) (drop_more goals k goal l ∙ ap (λ g. g ∷ drop (k + 1) goals) is) h).names.0
 
-  pub any_names : (k : ℕ) (goal : Ctl) (marks : List Bool) → k < length goals → get_or goals k goal ≡ goal → AnySoFar graph goals (drop k goals) marks → NamesBelow 256 (ctl_value goal)
+  pub any_names : (k : ℕ) (goal : Ctl) (marks : List Bool) → k < length goals → get_or goals k goal ≡ goal → AnySoFar graph goals (drop k goals) marks → NamesBelow most_fluents (ctl_value goal)
   any_names k goal marks l is h =
       (subst (λ gs. AnySoFar graph goals gs marks) (drop_more goals k goal l ∙ ap (λ g. g ∷ drop (k + 1) goals) is) h).names.0
 
@@ -222,23 +223,23 @@ module _ (n : ℕ) (graph : Graph) (inside : HasFollowersInside graph) (full : H
       implies_shows size (Is left.value) (Is right.value) read other l r marks (subst (λ m. IsJoined m Implies read other marks) l.count h))
 
 -- labels of two parts have a mark for each configuration
-module _ (graph : Graph) (goal : Ctl) (left right : Box Ctl Global) (first second : Ctl) (one two : List Bool) (same : first ≡ left.value) (too : second ≡ right.value) (names : NamesBelow 256 (ctl_value goal))
+module _ (graph : Graph) (goal : Ctl) (left right : Box Ctl Global) (first second : Ctl) (one two : List Bool) (same : first ≡ left.value) (too : second ≡ right.value) (names : NamesBelow most_fluents (ctl_value goal))
     (shows : (n : ℕ) → NamesBelow n (ctl_value first) → ShowsGoal n graph (ctl_value first) one) (more : (n : ℕ) → NamesBelow n (ctl_value second) → ShowsGoal n graph (ctl_value second) two) where
-  sizes : NamesBelow 256 (ctl_value left.value) → NamesBelow 256 (ctl_value right.value) → (length one ≡ graph_size graph) × (length two ≡ graph_size graph)
+  sizes : NamesBelow most_fluents (ctl_value left.value) → NamesBelow most_fluents (ctl_value right.value) → (length one ≡ graph_size graph) × (length two ≡ graph_size graph)
   sizes a b =
-      ((shows 256 (subst (λ g. NamesBelow 256 (ctl_value g)) (sym same) a)).count, (more 256 (subst (λ g. NamesBelow 256 (ctl_value g)) (sym too) b)).count)
+      ((shows most_fluents (subst (λ g. NamesBelow most_fluents (ctl_value g)) (sym same) a)).count, (more most_fluents (subst (λ g. NamesBelow most_fluents (ctl_value g)) (sym too) b)).count)
 
   pub sizes_Imply : goal ≡ Shut.Imply left right → (length one ≡ graph_size graph) × (length two ≡ graph_size graph)
-  sizes_Imply is = let both = subst (NamesBelow 256) (ap ctl_value is ∙ value_Imply left right) names in sizes both.0 both.1
+  sizes_Imply is = let both = subst (NamesBelow most_fluents) (ap ctl_value is ∙ value_Imply left right) names in sizes both.0 both.1
 
   pub sizes_Au : goal ≡ Shut.Au left right → (length one ≡ graph_size graph) × (length two ≡ graph_size graph)
-  sizes_Au is = let both = subst (NamesBelow 256) (ap ctl_value is ∙ value_Au left right) names in sizes both.0 both.1
+  sizes_Au is = let both = subst (NamesBelow most_fluents) (ap ctl_value is ∙ value_Au left right) names in sizes both.0 both.1
 
   pub sizes_Eu : goal ≡ Shut.Eu left right → (length one ≡ graph_size graph) × (length two ≡ graph_size graph)
-  sizes_Eu is = let both = subst (NamesBelow 256) (ap ctl_value is ∙ value_Eu left right) names in sizes both.0 both.1
+  sizes_Eu is = let both = subst (NamesBelow most_fluents) (ap ctl_value is ∙ value_Eu left right) names in sizes both.0 both.1
 
   pub sizes_Aw : goal ≡ Shut.Aw left right → (length one ≡ graph_size graph) × (length two ≡ graph_size graph)
-  sizes_Aw is = let both = subst (NamesBelow 256) (ap ctl_value is ∙ value_Aw left right) names in sizes both.0 both.1
+  sizes_Aw is = let both = subst (NamesBelow most_fluents) (ap ctl_value is ∙ value_Aw left right) names in sizes both.0 both.1
 
   pub sizes_Ew : goal ≡ Shut.Ew left right → (length one ≡ graph_size graph) × (length two ≡ graph_size graph)
-  sizes_Ew is = let both = subst (NamesBelow 256) (ap ctl_value is ∙ value_Ew left right) names in sizes both.0 both.1
+  sizes_Ew is = let both = subst (NamesBelow most_fluents) (ap ctl_value is ∙ value_Ew left right) names in sizes both.0 both.1

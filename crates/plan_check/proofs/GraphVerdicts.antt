@@ -17,6 +17,7 @@ use Rattle.task_core.specs.declared.classes.Class.{Class}
 use Rattle.task_core.specs.declared.classes.Class.TheVariants.{Weak, Strong, Cyclic}
 use Rattle.task_core.specs.declared.conditions.Cond.{Cond}
 use Rattle.task_core.specs.declared.tasks.Task.{Task}
+use Rattle.task_core.specs.Limits.{most_fluents}
 use Rattle.task_core.proofs.TaskSystem.{goal_states_of, is_system, states_where_has, states_where_holds, value_of-vector}
 use Rattle.plan_rules.specs.Rules.{PlanRule, table}
 use Rattle.plan_rules.specs.Denoted.{denoted}
@@ -99,8 +100,8 @@ goal_value n goal s v below e =
 pub goal_below : (task : Task) (goal : Cond) → task.goal ≡ Some goal → IsTrue (ids_below (fluent_count task) goal)
 goal_below task goal is = subst (λ (o : Option Cond). goal_within (fluent_count task) o ≡ true) is task.goal_within
 
-pub goal_small : (task : Task) (goal : Cond) → task.goal ≡ Some goal → IsTrue (ids_below 256 goal)
-goal_small task goal is = ids_below_widen goal (fluent_count task) 256 task.few_fluents (goal_below task goal is)
+pub goal_small : (task : Task) (goal : Cond) → task.goal ≡ Some goal → IsTrue (ids_below most_fluents goal)
+goal_small task goal is = ids_below_widen goal (fluent_count task) most_fluents task.few_fluents (goal_below task goal is)
 
 -- the followers in the graph of a plan
 pub followers_inside : (sys : System) (word : Class) (rules : List PlanRule) (n : ℕ) (graph : Graph) → IsGraphOf sys (table word rules) (plain_graph n graph) → HasFollowersInside graph

@@ -6,6 +6,7 @@ ghost use Rattle.task_core.specs.declared.tasks.Task.{Task};
 ghost use Rattle.task_core.specs.Tasks.{fluent_count, system_of};
 ghost use Rattle.task_core.specs.declared.classes.Class.{Class};
 ghost use Rattle.task_core.specs.declared.classes.Class.TheVariants.{Cyclic, Strong, Weak};
+ghost use Rattle.task_core.specs.Limits.{most_fluents};
 ghost use Rattle.plan_rules.specs.Rules.{PlanRule, table};
 ghost use Rattle.exec_graph.specs.Graphs.{IsGraphOf};
 ghost use Rattle.exec_graph.specs.Values.{edge_count, plain_graph};
@@ -61,7 +62,7 @@ fn check_weak<L: Ledger>(
     graph: &Graph,
     steps: &mut Steps<L>,
 ) -> Result<Verdict, AllocError>
-    requires goal { IsTrue (ids_below 256 goal.now) }
+    requires goal { IsTrue (ids_below most_fluents goal.now) }
     requires inside { HasFollowersInside graph.now }
     requires turned { HasPredecessors graph.now }
     ensures verdict { (task : Task) (word : Class) (rules : List PlanRule) → task.goal ≡ Some goal.now
@@ -87,7 +88,7 @@ fn check_strong<L: Ledger>(
     graph: &Graph,
     steps: &mut Steps<L>,
 ) -> Result<Verdict, AllocError>
-    requires goal { IsTrue (ids_below 256 goal.now) }
+    requires goal { IsTrue (ids_below most_fluents goal.now) }
     requires inside { HasFollowersInside graph.now }
     requires turned { HasPredecessors graph.now }
     ensures verdict { (task : Task) (word : Class) (rules : List PlanRule) → task.goal ≡ Some goal.now
@@ -115,7 +116,7 @@ fn check_cyclic<L: Ledger>(
     graph: &Graph,
     steps: &mut Steps<L>,
 ) -> Result<Verdict, AllocError>
-    requires goal { IsTrue (ids_below 256 goal.now) }
+    requires goal { IsTrue (ids_below most_fluents goal.now) }
     requires inside { HasFollowersInside graph.now }
     requires turned { HasPredecessors graph.now }
     ensures verdict { (task : Task) (word : Class) (rules : List PlanRule) → task.goal ≡ Some goal.now

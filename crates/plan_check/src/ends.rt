@@ -2,6 +2,7 @@
 
 ghost use Rattle.std.specs.Prelude.{◌≡◌, ◌==◌, ◌<◌, ◌↔◌, ℕ, IfOk, IsTrue, MatchBool, length};
 ghost use Rattle.task_core.specs.Conditions.{ids_below};
+ghost use Rattle.task_core.specs.Limits.{most_fluents};
 ghost use Rattle.exec_graph.specs.Values.{followers_at, graph_size};
 ghost use Rattle.plan_check.specs.Plain.{
   HasAllMarked,
@@ -21,7 +22,7 @@ use task_core::{Cond, cond_holds};
 
 /// Whether the goal holds in the configuration of this number.
 pub(crate) fn is_goal(goal: &Cond, graph: &Graph, number: u32) -> bool
-    requires goal { IsTrue (ids_below 256 goal.now) }
+    requires goal { IsTrue (ids_below most_fluents goal.now) }
     requires number { number < graph_size graph.now }
     ensures { (n : ℕ) → IsTrue (ids_below n goal.now)
         → result ≡ is_goal_at n goal.now graph.now number }
@@ -39,7 +40,7 @@ fn is_end(graph: &Graph, number: u32) -> bool
 
 /// Whether some configuration without a follower is outside the goal.
 pub(crate) fn has_end_outside(goal: &Cond, graph: &Graph) -> bool
-    requires { IsTrue (ids_below 256 goal.now) }
+    requires { IsTrue (ids_below most_fluents goal.now) }
     ensures { (n : ℕ) → IsTrue (ids_below n goal.now) → MatchBool result
         (HasEndOutside n goal.now graph.now) (HasEndsInside n goal.now graph.now) }
 {
@@ -53,7 +54,7 @@ pub(crate) fn has_end_outside(goal: &Cond, graph: &Graph) -> bool
 
 /// A mark for each configuration that has no follower and is in the goal.
 pub fn goal_ends(alloc: Global, goal: &Cond, graph: &Graph) -> Result<Vec<bool>, AllocError>
-    requires { IsTrue (ids_below 256 goal.now) }
+    requires { IsTrue (ids_below most_fluents goal.now) }
     ensures count { IfOk result (λ marks. length marks.items ≡ graph_size graph.now) }
     ensures marked { IfOk result (λ marks. (n i : ℕ) → IsTrue (ids_below n goal.now)
         → i < graph_size graph.now
@@ -80,7 +81,6 @@ pub(crate) fn has_marked_starts(graph: &Graph, marks: &[bool]) -> bool
     true
 }
 
-/// Whether each configuration has a mark.
 pub(crate) fn has_all_marked(marks: &[bool]) -> bool
     ensures { MatchBool result (HasAllMarked (length marks.now) marks.now)
         (HasUnmarked (length marks.now) marks.now) }

@@ -7,6 +7,7 @@ ghost use Rattle.exec_graph.specs.Values.{edge_count, graph_size};
 ghost use Rattle.plan_check.specs.Labels.{HasFollowers, ShowsGoal};
 ghost use Rattle.plan_check.specs.Operators.{operator_count, operator_count_of};
 ghost use Rattle.plan_check.specs.Plain.{HasFollowersInside, HasPredecessors};
+ghost use Rattle.task_core.specs.Limits.{most_fluents};
 
 use crate::labelling::{Join, joined, negated, next_label, plain_label, same_label, weak_until};
 use crate::spreading::{Along, Need, spread};
@@ -26,7 +27,7 @@ fn labels_of_all<L: Ledger>(
     requires inside { HasFollowersInside graph.now }
     requires turned { HasPredecessors graph.now }
     requires followers { HasFollowers graph.now }
-    requires names { NamesBelow 256 (all (goal_row (map ctl_value goals.now))) }
+    requires names { NamesBelow most_fluents (all (goal_row (map ctl_value goals.now))) }
     ensures shows { (n : ℕ) → NamesBelow n (all (goal_row (map ctl_value goals.now)))
         → IfOk result (λ marks.
         ShowsGoal n graph.now (all (goal_row (map ctl_value goals.now))) marks.items) }
@@ -52,7 +53,7 @@ fn labels_of_any<L: Ledger>(
     requires inside { HasFollowersInside graph.now }
     requires turned { HasPredecessors graph.now }
     requires followers { HasFollowers graph.now }
-    requires names { NamesBelow 256 (any (goal_row (map ctl_value goals.now))) }
+    requires names { NamesBelow most_fluents (any (goal_row (map ctl_value goals.now))) }
     ensures shows { (n : ℕ) → NamesBelow n (any (goal_row (map ctl_value goals.now)))
         → IfOk result (λ marks.
         ShowsGoal n graph.now (any (goal_row (map ctl_value goals.now))) marks.items) }
@@ -78,7 +79,7 @@ pub fn labels<L: Ledger>(
     requires inside { HasFollowersInside graph.now }
     requires turned { HasPredecessors graph.now }
     requires followers { HasFollowers graph.now }
-    requires names { NamesBelow 256 (ctl_value goal.now) }
+    requires names { NamesBelow most_fluents (ctl_value goal.now) }
     ensures shows { (n : ℕ) → NamesBelow n (ctl_value goal.now)
         → IfOk result (λ marks. ShowsGoal n graph.now (ctl_value goal.now) marks.items) }
     ensures steps { steps.new

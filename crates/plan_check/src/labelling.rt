@@ -13,6 +13,7 @@ ghost use Rattle.std.specs.Prelude.{
   ℕ,
 };
 ghost use Rattle.task_core.specs.Conditions.{ids_below};
+ghost use Rattle.task_core.specs.Limits.{most_fluents};
 ghost use Rattle.exec_graph.specs.Values.{edge_count, followers_at, graph_size};
 ghost use Rattle.plan_check.specs.Labels.{
   HasFollowers,
@@ -98,7 +99,7 @@ pub(crate) fn plain_label(
     graph: &Graph,
     cond: &Cond,
 ) -> Result<Vec<bool>, AllocError>
-    requires { IsTrue (ids_below 256 cond.now) }
+    requires { IsTrue (ids_below most_fluents cond.now) }
     ensures count { IfOk result (λ marks. length marks.items ≡ graph_size graph.now) }
     ensures each { IfOk result (λ marks. (n i : ℕ) → IsTrue (ids_below n cond.now)
         → i < graph_size graph.now
@@ -111,7 +112,6 @@ pub(crate) fn plain_label(
     Ok(marks)
 }
 
-/// Where one, or each, of the followers has a label.
 pub(crate) fn next_label<L: Ledger>(
     alloc: Global,
     need: Need,

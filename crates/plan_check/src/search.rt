@@ -265,7 +265,6 @@ impl Search {
         self.path.pop();
     }
 
-    /// The greatest height.
     pub(crate) fn greatest(&self) -> u64
         ensures most { (i : ℕ) → (visit_at self.now.visits.items i).height ≤ result }
         ensures attained { (result ≡ 0) ⊎ ((i : ℕ) × (i < length self.now.visits.items)

@@ -69,7 +69,6 @@ struct Front {
     found: Vec<u32>,
 }
 
-/// The other of the two.
 pub(crate) fn other(need: Need) -> Need
     ensures { result ≡ other need }
 {
@@ -159,7 +158,6 @@ fn follower_counts(alloc: Global, graph: &Graph) -> Result<Vec<u32>, AllocError>
     Ok(counts)
 }
 
-/// The numbers with a mark.
 fn marked_numbers(alloc: Global, marks: &[bool]) -> Result<Vec<u32>, AllocError>
     requires { length marks.now < 2 ^ 32 }
     ensures listed { IfOk result (λ found. ListsMarked marks.now found.items) }
@@ -172,7 +170,6 @@ fn marked_numbers(alloc: Global, marks: &[bool]) -> Result<Vec<u32>, AllocError>
     Ok(found)
 }
 
-/// Lists a number where it has a mark.
 fn list_marked(marks: &[bool], found: &mut Vec<u32>, number: u32) -> Result<(), AllocError>
     requires { number < length marks.now }
     ensures { IfOk result (λ _. found.new.items

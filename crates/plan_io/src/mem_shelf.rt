@@ -196,7 +196,6 @@ fn copy_of(
     }
 }
 
-/// The file under `name`, if there is one.
 fn find<'a>(stored: &'a BTreeMap<String, Vec<u8>>, name: &str) -> Option<&'a Vec<u8>>
     ensures { held_of (files_of stored.now) name.now ≡ told (option_map (λ v. v.now.items) result) }
 {

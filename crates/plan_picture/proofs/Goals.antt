@@ -22,14 +22,15 @@ use Rattle.task_core.specs.Vectors.{Vector, value_of}
 use Rattle.task_core.specs.declared.conditions.Cond.{Cond}
 use Rattle.task_core.specs.declared.states.State.{State}
 use Rattle.task_core.specs.declared.tasks.Task.{Task}
+use Rattle.task_core.specs.Limits.{most_fluents}
 use Rattle.list_laws.proofs.Elements.{Contains-map, Contains-nil, Contains-range_with_len}
 use Rattle.list_laws.proofs.Distinct.{Apart, Apart-few, first_once, rest_once}
 
 goal_inside : (task : Task) (goal : Cond) → task.goal ≡ Some goal → ids_below (fluent_count task) goal ≡ true
 goal_inside task goal e = ap (goal_within (fluent_count task)) (sym e) ∙ task.goal_within
 
-pub goal_below : (task : Task) (goal : Cond) → task.goal ≡ Some goal → IsTrue (ids_below 256 goal)
-goal_below task goal e = ids_below_widen goal (fluent_count task) 256 task.few_fluents (goal_inside task goal e)
+pub goal_below : (task : Task) (goal : Cond) → task.goal ≡ Some goal → IsTrue (ids_below most_fluents goal)
+goal_below task goal e = ids_below_widen goal (fluent_count task) most_fluents task.few_fluents (goal_inside task goal e)
 
 goal_value : (task : Task) (goal : Cond) (s : State) → task.goal ≡ Some goal → holds_in goal s ≡ holds goal (value_of (vector (fluent_count task) s))
 goal_value task goal s e =

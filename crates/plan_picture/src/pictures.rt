@@ -21,6 +21,7 @@ ghost use Rattle.task_core.specs.States.{IsWithin, vector};
 ghost use Rattle.task_core.specs.Systems.{goal_states};
 ghost use Rattle.task_core.specs.Tasks.{action_count, fluent_count, in_space, system_of};
 ghost use Rattle.task_core.specs.Initials.{HasTooManyInitial};
+ghost use Rattle.task_core.specs.Limits.{most_fluents};
 
 use crate::advised::steps_from;
 use crate::places::{place_at, places_of};
@@ -221,7 +222,7 @@ fn is_in_goal(task: &Task, state: &State) -> bool
 
 /// Whether a vector is a state in which a condition holds.
 fn holds_in_state(task: &Task, cond: &Cond, state: &State) -> bool
-    requires { IsTrue (ids_below 256 cond.now) }
+    requires { IsTrue (ids_below most_fluents cond.now) }
     ensures { result ≡ (in_space task.now (vector (fluent_count task.now) state.now)
         && holds_in cond.now state.now) }
 {

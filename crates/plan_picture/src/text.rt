@@ -42,6 +42,7 @@ ghost use Rattle.std.specs.Prelude.{
 };
 ghost use Rattle.task_core.specs.States.{vector};
 ghost use Rattle.task_core.specs.Tasks.{action_names, fluent_count, fluent_names};
+ghost use Rattle.task_core.specs.Limits.{most_fluents};
 
 use crate::labels::{Labels, label_at, labels_of};
 use crate::marks::{Mark, is_marked, marks_of};
@@ -141,7 +142,7 @@ impl<'a> Shown<'a> {
 
 fn shown_text(alloc: Global, shown: &Shown<'_>, nodes: &[Node]) -> Result<Vec<u8>, TextErr>
     requires few { length nodes.now ≤ 262144 }
-    requires fluents { length shown.now.labels.now.fluents.items ≤ 256 }
+    requires fluents { length shown.now.labels.now.fluents.items ≤ most_fluents }
     ensures text { IfOk result (λ text. text.items ≡ text_of_shown shown.now nodes.now) }
     ensures short { IfOk result (λ text. length text.items ≤ most_in_text) }
     ensures long { IsErrOf result TextErr.TooLong
@@ -204,7 +205,7 @@ fn push_fluent(out: &mut Vec<u8>, label: &[u8], is_true: bool) -> Result<(), All
 
 /// Appends the lines with the true fluents of a state.
 fn push_fluents(out: &mut Vec<u8>, labels: &[Vec<u8>], state: &State) -> Result<(), AllocError>
-    requires { length labels.now ≤ 256 }
+    requires { length labels.now ≤ most_fluents }
     ensures { OnOk result (out.new.items ≡ out.old.items
         ++ fluent_lines (bytes_of labels.now) (vector (length labels.now) state.now)) }
 {
@@ -268,7 +269,7 @@ fn push_marks(out: &mut Vec<u8>, node: &Node) -> Result<(), AllocError>
 }
 
 fn push_node_label(out: &mut Vec<u8>, shown: &Shown<'_>, node: &Node) -> Result<(), AllocError>
-    requires fluents { length shown.now.labels.now.fluents.items ≤ 256 }
+    requires fluents { length shown.now.labels.now.fluents.items ≤ most_fluents }
     ensures { let fluents = shown.now.labels.now.fluents.items in OnOk result (out.new.items
         ≡ out.old.items ++ label_text shown.now.tells_contexts (bytes_of fluents) node.now.context
         (vector (length fluents) node.now.state)) }
@@ -286,7 +287,7 @@ fn push_node(
     number: u32,
     node: &Node,
 ) -> Result<(), AllocError>
-    requires fluents { length shown.now.labels.now.fluents.items ≤ 256 }
+    requires fluents { length shown.now.labels.now.fluents.items ≤ most_fluents }
     ensures { OnOk result (out.new.items
         ≡ out.old.items ++ line_of_node shown.now number node.now) }
 {
@@ -300,7 +301,7 @@ fn push_node(
 /// Appends the lines of all nodes.
 fn push_nodes(out: &mut Vec<u8>, shown: &Shown<'_>, nodes: &[Node]) -> Result<(), TextErr>
     requires few { length nodes.now ≤ 262144 }
-    requires fluents { length shown.now.labels.now.fluents.items ≤ 256 }
+    requires fluents { length shown.now.labels.now.fluents.items ≤ most_fluents }
     ensures lines { OnOk result (out.new.items
         ≡ out.old.items ++ numbered (line_of_node shown.now) 0 nodes.now) }
     ensures long { IsErrOf result TextErr.TooLong

@@ -81,7 +81,6 @@ pub fn has_all(task: &Task, cube: &[Lit], state: &State) -> bool
     true
 }
 
-/// Whether a state has a literal.
 fn has(task: &Task, lit: &Lit, state: &State) -> bool
     requires { lit.now.fluent.0 < fluent_count task.now }
     ensures { result ≡ same_value

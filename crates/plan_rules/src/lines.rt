@@ -40,7 +40,6 @@ fn lines_of_forms(alloc: Global, forms: &[Form]) -> Result<Vec<u32>, AllocError>
     }
 }
 
-/// The lines of the lists of a row.
 fn lines_in(alloc: Global, row: &[Form]) -> Result<Vec<u32>, AllocError>
     ensures { IfOk result (λ lines. lines.items ≡ group_lines (forest_of row.now)) }
 {

@@ -39,7 +39,6 @@ impl Model for NameTable {
 }
 
 impl NameTable {
-    /// A table without names.
     pub(crate) fn new(alloc: Global) -> NameTable
         ensures { result ≡ [] }
     {
@@ -124,7 +123,6 @@ fn word_of(alloc: Global, text: &Text) -> Result<Option<RcStr>, AllocError>
     }
 }
 
-/// Whether the row has words alone.
 pub(crate) fn are_words(row: &[Form]) -> bool
     ensures { result ≡ are_words (forest_of row.now) }
 {

@@ -22,6 +22,7 @@ ghost use Rattle.task_core.specs.Cubes.{matches};
 ghost use Rattle.task_core.specs.States.{IsWithin, vector};
 ghost use Rattle.task_core.specs.Systems.{Exec};
 ghost use Rattle.task_core.specs.Tasks.{action_count, fluent_count, system_of};
+ghost use Rattle.task_core.specs.Limits.{most_fluents};
 ghost use Rattle.plan_check.specs.Walks.{IsMarked};
 ghost use Rattle.rule_lookup.specs.RunRules.{IsRunRuleOf};
 ghost use Rattle.plan_rules.specs.Denoted.{denoted_contexts};
@@ -212,7 +213,7 @@ fn is_bad_rule(task: &Task, rule: &Rule, state: &State) -> bool
 
 /// A mark for each configuration that none follows and that is outside the goal.
 fn ends_outside(alloc: Global, goal: &Cond, graph: &Graph) -> Result<Vec<bool>, AllocError>
-    requires { IsTrue (ids_below 256 goal.now) }
+    requires { IsTrue (ids_below most_fluents goal.now) }
     ensures count { IfOk result (λ marks. length marks.items ≡ graph_size graph.now) }
     ensures marked { IfOk result (λ marks. (n i : ℕ) → IsTrue (ids_below n goal.now)
         → i < graph_size graph.now
@@ -227,7 +228,7 @@ fn ends_outside(alloc: Global, goal: &Cond, graph: &Graph) -> Result<Vec<bool>, 
 
 /// Whether none follows a configuration, and it is outside the goal.
 fn is_outside(goal: &Cond, graph: &Graph, number: u32) -> bool
-    requires goal { IsTrue (ids_below 256 goal.now) }
+    requires goal { IsTrue (ids_below most_fluents goal.now) }
     requires number { number < graph_size graph.now }
     ensures { (n : ℕ) → IsTrue (ids_below n goal.now)
         → (result ≡ true) ↔ IsNumberOutside n goal.now graph.now number }

@@ -80,7 +80,6 @@ fn grow_and_take(
     )
 }
 
-/// One step once more.
 fn retrace_step(
     enc: &mut Enc,
     board: &mut Board,

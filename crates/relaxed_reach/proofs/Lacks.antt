@@ -9,6 +9,7 @@ use Rattle.std.proofs.lemmas.List.Folds.{list_any_more}
 use Rattle.task_core.specs.States.{truth}
 use Rattle.task_core.specs.Vectors.{same_value}
 use Rattle.task_core.specs.declared.states.State.{State}
+use Rattle.task_core.specs.Limits.{most_fluents}
 use Rattle.relaxed_reach.specs.Lacking.{lacking}
 use Rattle.relaxed_reach.specs.Literals.{LiteralSet, has}
 use Rattle.relaxed_reach.specs.Relaxed.{IsPartOf}
@@ -90,25 +91,25 @@ same_below (suc n) set other part h f l value =
     go false pos neg = neg
 
 -- past the last word every fluent is false
-truth_past : (s : State) (f : ℕ) → 256 ≤ f → truth s f ≡ false
+truth_past : (s : State) (f : ℕ) → most_fluents ≤ f → truth s f ≡ false
 truth_past s f h =
-    let four = s.four_words.count in
+    let four = s.state_words.count in
     let past : length s.bits ≤ f / 64 = omega (arith, four, h) in
     ap (λ w. bit_at w (f % 64) == 1) (get_or_past s.bits (f / 64) 0 past) ∙ ap (λ b. b == 1) (bit_at-zero (f % 64))
 
-has_past : (a b : Literals) (f : ℕ) → 256 ≤ f → (value : Bool) → has a f value ≡ has b f value
+has_past : (a b : Literals) (f : ℕ) → most_fluents ≤ f → (value : Bool) → has a f value ≡ has b f value
 has_past a b f h true = truth_past a.possible f h ∙ sym (truth_past b.possible f h)
 has_past a b f h false = ap not (truth_past a.certain f h ∙ sym (truth_past b.certain f h))
 
 no_more : (a b : ℕ) → a ≡ b → b ≤ a
 no_more a b e = omega (arith, e)
 
--- sets that lack as many literals of the first 256 fluents, the one a part of the other, are the same
-pub same_where_no_fewer : (n : ℕ) → n ≡ 256 → (a b : Literals) → IsPartOf (has a) (has b) → lacking n (has b) ≡ lacking n (has a) → IsPartOf (has b) (has a)
+-- sets that lack as many literals of the first `most_fluents` fluents, the one a part of the other, are the same
+pub same_where_no_fewer : (n : ℕ) → n ≡ most_fluents → (a b : Literals) → IsPartOf (has a) (has b) → lacking n (has b) ≡ lacking n (has a) → IsPartOf (has b) (has a)
 same_where_no_fewer n whole a b part e f value h =
-    ⊎_elim (λ (below : f < 256). same_below n (has a) (has b) part (no_more (lacking n (has b)) (lacking n (has a)) e) f (subst (λ k. f < k) (sym whole) below) value ∙ h)
-    (λ (past : 256 ≤ f). has_past a b f past value ∙ h)
-    (cases_lt f 256)
+    ⊎_elim (λ (below : f < most_fluents). same_below n (has a) (has b) part (no_more (lacking n (has b)) (lacking n (has a)) e) f (subst (λ k. f < k) (sym whole) below) value ∙ h)
+    (λ (past : most_fluents ≤ f). has_past a b f past value ∙ h)
+    (cases_lt f most_fluents)
 
 -- all elements were looked at
 pub all_looked_at : {X : Type 0} (p : X → Bool) (xs ys : List X) (i : ℕ) (first before : Bool) → length xs ≤ i → xs ≡ ys → before ≡ (list_any p (take i xs) || first) → before ≡ (list_any p ys || first)

@@ -9,6 +9,7 @@ use Rattle.task_core.specs.Tasks.{fluent_count}
 use Rattle.task_core.specs.declared.actions.GroundAction.{GroundAction}
 use Rattle.task_core.specs.declared.actions.Outcome.{Outcome}
 use Rattle.task_core.specs.declared.tasks.Task.{Task}
+use Rattle.task_core.specs.Limits.{most_fluents}
 use Rattle.task_core.proofs.Agreement.{ids_below_widen}
 use Rattle.task_core.proofs.Changes.{outcome_widen}
 use Rattle.task_core.proofs.TaskSystem.{element_passes}
@@ -29,6 +30,6 @@ action_widens n m le x h =
     (and_from (ids_below m x.exec) (list_all (outcome_within m) x.outcomes.items) (ids_below_widen x.exec n m le parts.0) (outcomes_widen n m le x.outcomes.items parts.1)) some.1) last.1
 
 -- an action of a task
-pub action_within_256 : (task : Task) (a : ℕ) (x : GroundAction) → a < length task.actions.items → x ≡ get_or task.actions.items a x → action_within 256 x ≡ true
+pub action_within_256 : (task : Task) (a : ℕ) (x : GroundAction) → a < length task.actions.items → x ≡ get_or task.actions.items a x → action_within most_fluents x ≡ true
 action_within_256 task a x in_range is =
-    action_widens (fluent_count task) 256 task.few_fluents x (element_passes (action_within (fluent_count task)) task.actions.items a x task.actions_within in_range is)
+    action_widens (fluent_count task) most_fluents task.few_fluents x (element_passes (action_within (fluent_count task)) task.actions.items a x task.actions_within in_range is)

@@ -2,6 +2,7 @@
 
 ghost use Rattle.std.specs.Prelude.{◌≡◌, IsTrue};
 ghost use Rattle.task_core.specs.Conditions.{ids_below};
+ghost use Rattle.task_core.specs.Limits.{most_fluents};
 ghost use Rattle.relaxed_reach.specs.Literals.{can_be as can_have, has};
 
 use crate::Literals;
@@ -10,7 +11,7 @@ use task_core::Cond;
 /// Whether a condition can have the truth value where these literals can be true, its parts looked at
 /// one by one.
 pub fn can_be(cond: &Cond, value: bool, literals: &Literals) -> bool
-    requires { IsTrue (ids_below 256 cond.now) }
+    requires { IsTrue (ids_below most_fluents cond.now) }
     ensures { result ≡ can_have cond.now (has literals.now) value }
 {
     match cond {

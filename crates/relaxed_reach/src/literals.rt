@@ -4,6 +4,7 @@ ghost use Rattle.std.specs.Prelude.{◌≡◌, ℕ, ◌<◌, ◌&&◌, ◌||◌,
 ghost use Rattle.std.specs.List.{list_all};
 ghost use Rattle.task_core.specs.Initial.{lit_within, names_it};
 ghost use Rattle.task_core.specs.Vectors.{same_value};
+ghost use Rattle.task_core.specs.Limits.{most_fluents};
 ghost use Rattle.relaxed_reach.specs.Literals.{has};
 
 use task_core::{FluentId, Lit, State};
@@ -20,7 +21,7 @@ pub struct Literals {
 impl Literals {
     /// Whether the fluent can have the value.
     pub fn has(&self, fluent: FluentId, value: bool) -> bool
-        requires { fluent.0 < 256 }
+        requires { fluent.0 < most_fluents }
         ensures { result ≡ has self.now fluent.0 value }
     {
         if value {
@@ -31,7 +32,7 @@ impl Literals {
     }
 
     pub(crate) fn with(&self, lit: Lit) -> Literals
-        requires { lit.fluent.0 < 256 }
+        requires { lit.fluent.0 < most_fluents }
         ensures { (f : ℕ) (value : Bool) → has result f value
             ≡ ((lit.fluent.0 == f && same_value lit.positive value) || has self.now f value) }
     {
@@ -50,7 +51,7 @@ impl Literals {
 
     /// The set with some more literals.
     pub(crate) fn with_all(&self, lits: &[Lit]) -> Literals
-        requires { list_all (lit_within 256) lits.now ≡ true }
+        requires { list_all (lit_within most_fluents) lits.now ≡ true }
         ensures { (f : ℕ) (value : Bool) → has result f value
             ≡ (names_it value f lits.now || has self.now f value) }
     {

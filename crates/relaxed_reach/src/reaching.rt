@@ -4,6 +4,7 @@ ghost use Rattle.std.specs.Prelude.{◌≡◌, ℕ, ◌<◌, ◌≤◌, ◌&&◌
 ghost use Rattle.std.specs.List.{list_all, list_any};
 ghost use Rattle.task_core.specs.Actions.{action_within, change_within, outcome_within};
 ghost use Rattle.task_core.specs.Initial.{entry_of, entry_within, names_it};
+ghost use Rattle.task_core.specs.Limits.{most_fluents};
 ghost use Rattle.relaxed_reach.specs.Lacking.{lacking};
 ghost use Rattle.relaxed_reach.specs.Literals.{has};
 ghost use Rattle.relaxed_reach.specs.Relaxed.{
@@ -17,7 +18,7 @@ ghost use Rattle.relaxed_reach.specs.Relaxed.{
 
 use crate::Literals;
 use crate::conditions::can_be;
-use task_core::{Alternative, Change, FluentId, GroundAction, Outcome, Task};
+use task_core::{Alternative, Change, FluentId, GroundAction, MAX_FLUENTS, Outcome, Task};
 
 /// The literals that can come true: the least set that has those with which the task starts, and all
 /// that its actions give.
@@ -40,14 +41,14 @@ pub fn reached_literals(task: &Task) -> Literals
 
 /// How many fluents a state has values for.
 fn fluent_limit() -> u32
-    ensures { result ≡ 256 }
+    ensures { result ≡ most_fluents }
 {
-    256
+    MAX_FLUENTS
 }
 
 /// How many literals of the first fluents are not in the set.
 fn missing_count(literals: &Literals, count: u32) -> u32
-    requires { count ≤ 256 }
+    requires { count ≤ most_fluents }
     ensures { result ≡ lacking count (has literals.now) }
 {
     let mut missing = 0;
@@ -62,7 +63,7 @@ fn missing_count(literals: &Literals, count: u32) -> u32
 
 /// 1 where a literal is not in the set, else 0.
 fn lacks(literals: &Literals, fluent: FluentId, value: bool) -> u32
-    requires { fluent.0 < 256 }
+    requires { fluent.0 < most_fluents }
     ensures counted { result ≡ (if has literals.now fluent.0 value then 0 else 1) }
     ensures small { result ≤ 1 }
 {
@@ -85,7 +86,7 @@ pub fn start_literals(task: &Task) -> Literals
 
 /// The set with the literals of each alternative of an uncertain entry.
 fn with_entry(literals: &Literals, entry: &[Alternative]) -> Literals
-    requires { entry_within 256 (entry_of entry.now) ≡ true }
+    requires { entry_within most_fluents (entry_of entry.now) ≡ true }
     ensures { (f : ℕ) (value : Bool) → has result f value
         ≡ (list_any (names_it value f) (entry_of entry.now) || has literals.now f value) }
 {
@@ -110,7 +111,7 @@ fn with_task(task: &Task, known: &Literals) -> Literals
 
 /// A set with what the action gives.
 fn with_action(literals: &Literals, action: &GroundAction, known: &Literals) -> Literals
-    requires { action_within 256 action.now ≡ true }
+    requires { action_within most_fluents action.now ≡ true }
     ensures { (f : ℕ) (value : Bool) → has result f value
         ≡ (action_gives (has known.now) f value action.now || has literals.now f value) }
 {
@@ -123,7 +124,7 @@ fn with_action(literals: &Literals, action: &GroundAction, known: &Literals) -> 
 
 /// A set with what each of some outcomes gives.
 fn with_outcomes(literals: &Literals, outcomes: &[Outcome], known: &Literals) -> Literals
-    requires { list_all (outcome_within 256) outcomes.now ≡ true }
+    requires { list_all (outcome_within most_fluents) outcomes.now ≡ true }
     ensures { (f : ℕ) (value : Bool) → has result f value
         ≡ (list_any (outcome_gives (has known.now) f value) outcomes.now || has literals.now f value) }
 {
@@ -136,7 +137,7 @@ fn with_outcomes(literals: &Literals, outcomes: &[Outcome], known: &Literals) ->
 
 /// A set with what each of some changes gives.
 fn with_changes(literals: &Literals, changes: &[Change], known: &Literals) -> Literals
-    requires { list_all (change_within 256) changes.now ≡ true }
+    requires { list_all (change_within most_fluents) changes.now ≡ true }
     ensures { (f : ℕ) (value : Bool) → has result f value
         ≡ (list_any (change_gives (has known.now) f value) changes.now || has literals.now f value) }
 {
@@ -149,7 +150,7 @@ fn with_changes(literals: &Literals, changes: &[Change], known: &Literals) -> Li
 
 /// A set with what the change gives.
 fn with_change(literals: &Literals, change: &Change, known: &Literals) -> Literals
-    requires { change_within 256 change.now ≡ true }
+    requires { change_within most_fluents change.now ≡ true }
     ensures { (f : ℕ) (value : Bool) → has result f value
         ≡ (change_gives (has known.now) f value change.now || has literals.now f value) }
 {

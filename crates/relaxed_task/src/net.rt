@@ -52,7 +52,6 @@ impl Draft {
         }
     }
 
-    /// A new fact.
     fn fact(&mut self) -> u32 {
         let fact = self.facts;
         self.facts = fact.saturating_add(1);
@@ -83,7 +82,6 @@ impl Draft {
         self.add(0, NONE, needs, gives)
     }
 
-    /// The fact that a condition has a value.
     fn fact_of(&mut self, cond: &Cond, value: bool) -> Result<u32, AllocError> {
         match cond {
             Cond::Is(fluent) => Ok(literal(fluent.0, value)),
@@ -228,7 +226,6 @@ impl Draft {
     }
 }
 
-/// A list of one number.
 fn one(alloc: Global, number: u32) -> Result<Vec<u32>, AllocError> {
     let mut list = Vec::new(alloc);
     list.push(number)?;

@@ -229,7 +229,6 @@ impl Work {
         Ok(())
     }
 
-    /// Notes that a fact is there at such a cost.
     fn reach(&mut self, fact: u32, cost: u32, by: u32) -> Result<(), AllocError> {
         let place = fact as usize;
         if place >= self.reached.len() || self.reached[place].cost <= cost {
@@ -437,7 +436,6 @@ fn users_of(alloc: Global, draft: &Draft) -> Result<Rows, AllocError> {
     Ok(users)
 }
 
-/// Counts one more at a place.
 fn count_one(counts: &mut [u32], place: u32) {
     let count = at(counts, place);
     put(counts, place, count.saturating_add(1));

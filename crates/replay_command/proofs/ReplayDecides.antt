@@ -15,7 +15,7 @@ use Rattle.plan_rules.specs.Rules.{PlainPlan}
 use Rattle.sexpr_text.proofs.PassLaws.{not_both, one_fault_by}
 use Rattle.task_core.proofs.StateLists.{same_as_vectors, state_eq}
 use Rattle.task_core.proofs.Vectors.{same_vector_refl}
-use Rattle.task_core.specs.FourWords.{IsFourWords}
+use Rattle.task_core.specs.StateWords.{AreStateWords}
 use Rattle.task_core.specs.Names.{Name}
 use Rattle.task_core.specs.States.{IsWithin, vector}
 use Rattle.task_core.specs.Systems.{System}
@@ -43,7 +43,7 @@ same_state n a b within within' e =
     let equal : state_eq a b ≡ true =
     same_as_vectors n a b within within' ∙ subst (λ (v : Vector). same_vector (vector n a) v ≡ true) e (same_vector_refl (vector n a)) in
     let bits = bits_same a b equal in
-    λ i. record { bits = bits i; four_words = is_prop→PathP (λ j. IsFourWords (bits j)) (λ j. hlevel props) a.four_words b.four_words i }
+    λ i. record { bits = bits i; state_words = is_prop→PathP (λ j. AreStateWords (bits j)) (λ j. hlevel props) a.state_words b.state_words i }
 
 -- so the steps of a trace were told in one way
 same_step : (n m : ℕ) (s t : Step) → IsStepOf n m s → IsStepOf n m t → step_value n s ≡ step_value n t → s ≡ t

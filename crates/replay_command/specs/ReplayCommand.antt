@@ -35,7 +35,7 @@ abbrev pub trace_under : System → PlainPlan → Vector → List ℕ → Trace
 trace_under sys plan first words = trace_of sys (run_plan plan) first words
 
 -- the steps of a trace, as monitors are told of them: the same, with states that hold a value for
--- each of 256 fluents, in which those that the system doesn't have are false
+-- each of `most_fluents` fluents, in which those that the system doesn't have are false
 pub record AreToldAs (sys : System) (steps : List TraceStep) (told : List Step) : Type 0 where
   pub same : steps_value sys.fluents told ≡ steps
   pub in_system : All (IsStepOf sys.fluents sys.actions) told

@@ -8,6 +8,7 @@ use Rattle.std.proofs.lemmas.List.{get_or-map, length-map}
 use Rattle.task_core.specs.Cubes.{Cube, matches}
 use Rattle.task_core.specs.States.{vector}
 use Rattle.task_core.specs.declared.states.State.{State}
+use Rattle.task_core.specs.Limits.{most_fluents}
 use Rattle.cube_index.specs.Index.{IsIndexOf, answers, values_of}
 use Rattle.cube_index.specs.Places.{IsFirstTrue}
 use Rattle.cube_index.specs.declared.index.CubeIndex.{CubeIndex}
@@ -48,7 +49,7 @@ find_both a b [] = refl
 find_both a b (x ∷ xs) = both_first (a x) b x (filter a xs) (find (λ y. a y && b y) xs) (find_both a b xs)
 
 -- what an index answers, over the fluents of a task
-pub answer_is : {X : Type 0} (cube : X → Cube) (xs : List X) (index : CubeIndex) (n : ℕ) (state : State) → n ≤ 256
+pub answer_is : {X : Type 0} (cube : X → Cube) (xs : List X) (index : CubeIndex) (n : ℕ) (state : State) → n ≤ most_fluents
     → IsIndexOf index (map cube xs) → All (λ (x : X). IsCubeOf n (cube x)) xs → (j : ℕ) (d : X) → j < length xs
     → get_or (answers index (values_of state)) j false ≡ matches (cube (get_or xs j d)) (vector n state)
 answer_is cube xs index n state few is fits j d lt =
@@ -60,7 +61,7 @@ answer_is cube xs index n state few is fits j d lt =
     ∙ matches_over n state (cube (get_or xs j d)) few (fits j d lt)
 
 -- the first that matches, in the whole list
-pub first_found : {X : Type 0} (cube : X → Cube) (xs : List X) (index : CubeIndex) (n : ℕ) (state : State) → n ≤ 256
+pub first_found : {X : Type 0} (cube : X → Cube) (xs : List X) (index : CubeIndex) (n : ℕ) (state : State) → n ≤ most_fluents
     → IsIndexOf index (map cube xs) → All (λ (x : X). IsCubeOf n (cube x)) xs → (k : ℕ) (d : X)
     → IsFirstTrue (answers index (values_of state)) 0 (length xs) (Some k)
     → find (λ x. matches (cube x) (vector n state)) xs ≡ Some (get_or xs k d)
@@ -69,7 +70,7 @@ first_found cube xs index n state few is fits k d (low, high, here, none) =
     (sym (answer_is cube xs index n state few is fits k d high) ∙ here)
     (λ j h. sym (answer_is cube xs index n state few is fits j d (omega (arith, h, high))) ∙ none j (omega arith) h)
 
-pub none_found : {X : Type 0} (cube : X → Cube) (xs : List X) (index : CubeIndex) (n : ℕ) (state : State) → n ≤ 256
+pub none_found : {X : Type 0} (cube : X → Cube) (xs : List X) (index : CubeIndex) (n : ℕ) (state : State) → n ≤ most_fluents
     → IsIndexOf index (map cube xs) → All (λ (x : X). IsCubeOf n (cube x)) xs
     → IsFirstTrue (answers index (values_of state)) 0 (length xs) None
     → find (λ x. matches (cube x) (vector n state)) xs ≡ None
@@ -97,7 +98,7 @@ part_between key xs c start end low high = record {
 }
 
 -- the first of that key that matches
-pub first_in_part : {X : Type 0} (cube : X → Cube) (key : X → ℕ) (xs : List X) (index : CubeIndex) (n : ℕ) (state : State) → n ≤ 256
+pub first_in_part : {X : Type 0} (cube : X → Cube) (key : X → ℕ) (xs : List X) (index : CubeIndex) (n : ℕ) (state : State) → n ≤ most_fluents
     → IsIndexOf index (map cube xs) → All (λ (x : X). IsCubeOf n (cube x)) xs → (c start end k : ℕ) (d : X) → end ≤ length xs
     → IsPartOf key xs c start end → IsFirstTrue (answers index (values_of state)) start end (Some k)
     → find (λ x. eqb (key x) c && matches (cube x) (vector n state)) xs ≡ Some (get_or xs k d)
@@ -119,7 +120,7 @@ first_in_part cube key xs index n state few is fits c start end k d within part 
     (λ (from : start ≤ j). and_right one other (sym (answer_is cube xs index n state few is fits j d there) ∙ none j from h))
     (cases_lt j start))
 
-pub none_in_part : {X : Type 0} (cube : X → Cube) (key : X → ℕ) (xs : List X) (index : CubeIndex) (n : ℕ) (state : State) → n ≤ 256
+pub none_in_part : {X : Type 0} (cube : X → Cube) (key : X → ℕ) (xs : List X) (index : CubeIndex) (n : ℕ) (state : State) → n ≤ most_fluents
     → IsIndexOf index (map cube xs) → All (λ (x : X). IsCubeOf n (cube x)) xs → (c start end : ℕ)
     → IsPartOf key xs c start end → IsFirstTrue (answers index (values_of state)) start end None
     → find (λ x. eqb (key x) c && matches (cube x) (vector n state)) xs ≡ None

@@ -5,6 +5,7 @@ use Rattle.std.proofs.lemmas.List.{get_or-map, length-map}
 use Rattle.std.proofs.lemmas.List.Elements.{All-map, All-weaker}
 use Rattle.task_core.specs.Cubes.{Cube}
 use Rattle.task_core.specs.declared.literals.Lit.{Lit}
+use Rattle.task_core.specs.Limits.{most_fluents}
 use Rattle.plan_rules.specs.Advices.{AreCasesOf}
 use Rattle.plan_rules.specs.Plans.{IsCubeOf, IsRuleOf, IsContextRuleOf, IsNextOf, IsPlainPlanOf}
 use Rattle.plan_rules.specs.Rules.{ContextRule, PlainPlan, PlanCase, PlanNext, PlanRule, always, automaton, by_cases, case_of, context_rule_of, next_of, table}
@@ -28,17 +29,17 @@ run_rules_in_task n m (automaton contexts rules) all =
     (λ (rule : ContextRule) h. record { cube = h.cube; action = h.action; cases = cases_of_next n contexts rule.next h.next }) rules all.each
 
 -- fluents below n are below 256
-pub lits_of_cube : (n : ℕ) (cube : Cube) → n ≤ 256 → IsCubeOf n cube → AreLits cube
+pub lits_of_cube : (n : ℕ) (cube : Cube) → n ≤ most_fluents → IsCubeOf n cube → AreLits cube
 lits_of_cube n cube few fits k d lt =
     let here : (get_or cube k d).fluent.0 < n = fits k d lt in
     omega (arith, here, few)
 
-pub cases_below : (n : ℕ) (next : PlanNext) → n ≤ 256 → AreCasesOf n next → AreCasesOf 256 next
+pub cases_below : (n : ℕ) (next : PlanNext) → n ≤ most_fluents → AreCasesOf n next → AreCasesOf most_fluents next
 cases_below n (always context) few fits = tt
 cases_below n (by_cases cases) few fits = λ k d lt. lits_of_cube n (get_or cases k d).cube few (fits k d lt)
 
-pub next_cases : (n m : ℕ) (rules : List AutoRule) → n ≤ 256 → All (IsRunRuleOf n m) (map context_rule_of rules)
-    → All (λ (rule : AutoRule). AreCasesOf 256 (next_of rule.next)) rules
+pub next_cases : (n m : ℕ) (rules : List AutoRule) → n ≤ most_fluents → All (IsRunRuleOf n m) (map context_rule_of rules)
+    → All (λ (rule : AutoRule). AreCasesOf most_fluents (next_of rule.next)) rules
 next_cases n m rules few all k d lt =
     cases_below n (next_of (get_or rules k d).next) few (All-unmap (IsRunRuleOf n m) context_rule_of rules all k d lt).cases
 
@@ -50,7 +51,7 @@ all_ready n m rules plain is all indexed k d lt = record {
   indexed = indexed k d lt;
 }
 
-pub ready_lits : (n m : ℕ) (rules : List GuideRule) → n ≤ 256 → All (IsReady n m) rules → All (λ (rule : GuideRule). AreLits rule.cube.now) rules
+pub ready_lits : (n m : ℕ) (rules : List GuideRule) → n ≤ most_fluents → All (IsReady n m) rules → All (λ (rule : GuideRule). AreLits rule.cube.now) rules
 ready_lits n m rules few all k d lt = lits_of_cube n (get_or rules k d).cube.now few (all k d lt).in_task.cube
 
 pub ready_cubes : (n m : ℕ) (rules : List GuideRule) → All (IsReady n m) rules → All (λ (rule : GuideRule). IsCubeOf n rule.cube.now) rules
@@ -60,5 +61,5 @@ ready_cubes n m rules all k d lt = (all k d lt).in_task.cube
 pub lits_mapped : {X : Type 0} (cube : X → Cube) (xs : List X) (cubes : List Cube) → cubes ≡ map cube xs → All (λ (x : X). AreLits (cube x)) xs → All AreLits cubes
 lits_mapped cube xs cubes is all = subst (All AreLits) (sym is) (All-map AreLits cube xs all)
 
-pub lits_of_cases : (cases : List Case) → All (λ (case : PlanCase). IsCubeOf 256 case.cube) (map case_of cases) → All (λ (case : Case). AreLits case.cube.items) cases
-lits_of_cases cases all k d lt = All-unmap (λ (case : PlanCase). IsCubeOf 256 case.cube) case_of cases all k d lt
+pub lits_of_cases : (cases : List Case) → All (λ (case : PlanCase). IsCubeOf most_fluents case.cube) (map case_of cases) → All (λ (case : Case). AreLits case.cube.items) cases
+lits_of_cases cases all k d lt = All-unmap (λ (case : PlanCase). IsCubeOf most_fluents case.cube) case_of cases all k d lt

@@ -50,7 +50,6 @@ impl<'a> GuideCases<'a> {
     }
 }
 
-/// The cubes of cases, in order.
 fn cubes_of<'a>(alloc: Global, cases: &'a [Case]) -> Result<Vec<&'a [Lit]>, AllocError>
     ensures { IfOk result (λ cubes.
         map (λ cube. cube.now) cubes.items ≡ map (λ case. case.cube.items) cases.now) }

@@ -38,7 +38,6 @@ impl<'a> Guide<'a> {
         Guide::of_rules(alloc, task, rules)
     }
 
-    /// The guide of these rules.
     fn of_rules(
         alloc: Global,
         task: &Task,
@@ -77,7 +76,6 @@ impl<'a> Guide<'a> {
     }
 }
 
-/// The rules of a plan, in its order.
 fn rules_of_plan<'a>(
     alloc: Global,
     task: &Task,
@@ -96,7 +94,6 @@ fn rules_of_plan<'a>(
     }
 }
 
-/// The cubes of rules, in order.
 fn cubes_of<'a>(alloc: Global, rules: &[GuideRule<'a>]) -> Result<Vec<&'a [Lit]>, AllocError>
     ensures { IfOk result (λ cubes.
         map (λ cube. cube.now) cubes.items ≡ map (λ rule. rule.cube.now) rules.now) }

@@ -8,6 +8,7 @@ ghost use Rattle.rule_lookup.specs.GuideRules.{IsNextIndexed, next_value, rule_v
 ghost use Rattle.rule_lookup.specs.RunRules.{in_one_context};
 ghost use Rattle.task_core.specs.States.{vector};
 ghost use Rattle.task_core.specs.Tasks.{fluent_count};
+ghost use Rattle.task_core.specs.Limits.{most_fluents};
 
 use crate::cases::GuideCases;
 use plan_rules::{AutoRule, FIRST_CONTEXT, Next, Rule};
@@ -34,7 +35,7 @@ pub enum GuideNext<'a> {
 impl<'a> GuideNext<'a> {
     /// How a rule goes on, with an index of its cases.
     fn new(alloc: Global, next: &'a Next) -> Result<GuideNext<'a>, AllocError>
-        requires lits { AreCasesOf 256 (next_of next.now) }
+        requires lits { AreCasesOf most_fluents (next_of next.now) }
         ensures value { IfOk result (λ onward. next_value onward ≡ next_of next.now) }
         ensures indexed { IfOk result IsNextIndexed }
     {
@@ -79,12 +80,11 @@ pub(crate) fn table_rules<'a>(
     Ok(made)
 }
 
-/// The rules of an automaton.
 pub(crate) fn context_rules<'a>(
     alloc: Global,
     rules: &'a [AutoRule],
 ) -> Result<Vec<GuideRule<'a>>, AllocError>
-    requires { All (λ rule. AreCasesOf 256 (next_of rule.next)) rules.now }
+    requires { All (λ rule. AreCasesOf most_fluents (next_of rule.next)) rules.now }
     ensures values { IfOk result (λ made. map rule_value made.items
         ≡ map context_rule_of rules.now) }
     ensures indexed { IfOk result (λ made. All (λ rule. IsNextIndexed rule.onward) made.items) }

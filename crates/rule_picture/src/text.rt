@@ -54,6 +54,7 @@ ghost use Rattle.std.specs.Str.{bytes_eq};
 ghost use Rattle.task_core.specs.Names.{name_bytes};
 ghost use Rattle.task_core.specs.States.{vector};
 ghost use Rattle.task_core.specs.Tasks.{action_count, action_names, fluent_count, fluent_names};
+ghost use Rattle.task_core.specs.Limits.{most_fluents};
 
 use crate::lines::{add_line, push_lines};
 use crate::rules::{Seen, number_at, rules_of};
@@ -460,7 +461,7 @@ fn push_changes(
     old: &State,
     new: &State,
 ) -> Result<(), AllocError>
-    requires { length fluents.now ≤ 256 }
+    requires { length fluents.now ≤ most_fluents }
     ensures { OnOk result (out.new.items ≡ out.old.items
         ++ change_lines (map name_bytes fluents.now) (vector (length fluents.now) old.now)
         (vector (length fluents.now) new.now)) }

@@ -4,6 +4,7 @@ ghost use Rattle.std.specs.Prelude.{◌≡◌, ◌+◌, ◌++◌, ◌<◌, ◌�
 ghost use Rattle.run_replay.specs.Changes.{changes_between, differs};
 ghost use Rattle.run_replay.specs.Watching.{MonitorData};
 ghost use Rattle.run_replay.specs.declared.worlds.Step.{Step};
+ghost use Rattle.task_core.specs.Limits.{most_fluents};
 
 use crate::worlds::Step;
 use std::alloc::{AllocError, Global};
@@ -127,7 +128,7 @@ impl Monitor for ChangeMonitor {
 /// How many fluents have different values in two states.
 fn changes(before: &State, after: &State) -> u32
     ensures value { result ≡ changes_between before.now after.now }
-    ensures few { result ≤ 256 }
+    ensures few { result ≤ most_fluents }
 {
     let mut count: u32 = 0;
     for f in 0..256u32 {
@@ -140,7 +141,7 @@ fn changes(before: &State, after: &State) -> u32
 
 /// Whether a fluent has different values in two states.
 fn is_changed(before: &State, after: &State, f: FluentId) -> bool
-    requires { f.0 < 256 }
+    requires { f.0 < most_fluents }
     ensures { result ≡ differs f.0 before.now after.now }
 {
     before.get(f) != after.get(f)

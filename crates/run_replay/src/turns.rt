@@ -37,7 +37,6 @@ pub(crate) struct Standing<'a> {
     pub(crate) full: bool,
 }
 
-/// The turn of a run that is there.
 pub(crate) fn take_turn(
     task: &Task,
     guide: &Guide<'_>,

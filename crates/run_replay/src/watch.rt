@@ -15,7 +15,6 @@ fn tell_one(monitor: &mut Box<dyn Monitor>, step: &Step)
     monitor.seen(step);
 }
 
-/// Tells each monitor of a step, in order.
 pub(crate) fn tell(monitors: &mut Vec<Box<dyn Monitor>>, step: &Step)
     requires small { All (λ monitor. (shown monitor).counted ≤ 2 ^ 127) monitors.old.items }
     ensures { AreTold (step.now ∷ [])

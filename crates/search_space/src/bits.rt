@@ -16,8 +16,9 @@ impl Bits {
 
     /// The values in a state.
     pub fn of(state: &State) -> Bits {
+        let words = state.bits();
         Bits {
-            words: *state.bits(),
+            words: [words[0], words[1], words[2], words[3]],
         }
     }
 

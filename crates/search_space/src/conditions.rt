@@ -3,7 +3,6 @@
 use crate::bits::{Bits, Part};
 use task_core::Cond;
 
-/// Whether a condition holds in a state.
 pub(crate) fn holds(cond: &Cond, state: &Bits) -> bool {
     match cond {
         Cond::Yes => true,

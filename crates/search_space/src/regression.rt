@@ -18,7 +18,6 @@ pub fn regress(effect: &Effect<'_>, state: &Bits, wanted: &Part, part: &mut Part
     }
 }
 
-/// The same for the value of one fluent.
 fn regress_fluent(effect: &Effect<'_>, state: &Bits, fluent: u32, value: bool, part: &mut Part) {
     if value && effect.always.trues.get(fluent) {
         return;

@@ -57,7 +57,6 @@ impl<'a> Space<'a> {
         true
     }
 
-    /// Whether a part holds in a state.
     fn holds_at(&self, place: u32, state: &Bits) -> bool {
         match self.parts.get(place as usize) {
             Some(part) => part.holds(state),
@@ -66,7 +65,6 @@ impl<'a> Space<'a> {
     }
 }
 
-/// The places of the sets that have a fluent.
 fn places_of(alloc: Global, sets: &[Bits], fluent: u32) -> Result<Vec<u32>, AllocError> {
     let mut places = Vec::new(alloc);
     for (place, set) in sets.iter().enumerate() {

@@ -121,7 +121,6 @@ impl States {
         (0, NONE)
     }
 
-    /// Whether this state has this number.
     fn is_at(&self, number: u32, bits: &Bits) -> bool {
         match self.bits.get(number as usize) {
             Some(own) => *own == *bits,

@@ -221,7 +221,6 @@ impl<'a> World<'a> {
     }
 }
 
-/// Without the fluents from one up to another.
 fn without_range(fluents: &Bits, from: u32, to: u32) -> Bits {
     let mut left = *fluents;
     for fluent in from..to {

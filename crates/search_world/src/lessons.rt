@@ -45,7 +45,6 @@ impl Lessons {
         Ok(())
     }
 
-    /// Learns from a pattern.
     fn learn_pattern(&mut self, world: &mut World<'_>, pattern: &Part) -> Result<(), Stop> {
         for action in 0..world.actions.count() {
             let lessons = lessons_of(world, pattern, action)?;

@@ -12,6 +12,7 @@ use Rattle.task_core.specs.Tasks.{fluent_count}
 use Rattle.task_core.specs.declared.actions.GroundAction.{GroundAction}
 use Rattle.task_core.specs.declared.conditions.Cond.{Cond}
 use Rattle.task_core.specs.declared.tasks.Task.{Task}
+use Rattle.task_core.specs.Limits.{most_fluents}
 use Rattle.short_conditions.specs.Meanings.{Replaces, ReplacesEach, action_meaning, goal_meaning}
 
 -- as many fluents, as names show
@@ -26,7 +27,7 @@ pub same_action_count : (news olds : List GroundAction) → map action_meaning n
 same_action_count news olds e = sym (length-map news action_meaning) ∙ ap length e ∙ length-map olds action_meaning
 
 module _ (fluents : List Words) (old : Task) (names : map name_bytes fluents ≡ map name_bytes old.fluents.items) where
-  pub new_few_fluents : length fluents ≤ 256
+  pub new_few_fluents : length fluents ≤ most_fluents
   new_few_fluents = let h = same_count fluents old names in omega (arith, h, old.few_fluents)
 
   pub new_fluent_names : AreFluentNames (map name_bytes fluents)

@@ -79,7 +79,6 @@ pub(crate) fn fingerprint(cond: &Cond) -> u64 {
     }
 }
 
-/// One number of two.
 fn mixed(first: u64, second: u64) -> u64 {
     let both = (first ^ second).wrapping_mul(0x9E37_79B9_7F4A_7C15);
     (both ^ both >> 29).wrapping_mul(0xBF58_476D_1CE4_E5B9)

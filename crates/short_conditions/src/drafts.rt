@@ -35,7 +35,7 @@ ghost use Rattle.short_conditions.specs.Drafts.{Adds, HasPart, IsDraft, Notes, n
 use crate::comparing::{are_same, fingerprint};
 use indexmap::IndexMap;
 use std::alloc::{AllocError, Global};
-use task_core::{Cond, FluentId, Lit, State};
+use task_core::{Cond, FluentId, Lit, MAX_FLUENTS, State};
 
 /// A conjunction, or else a disjunction, that is being made.
 #[derive(Drop)]
@@ -44,7 +44,7 @@ pub(crate) struct Draft {
     // A part decides it: one that never holds a conjunction, one that always holds a disjunction.
     pub(crate) is_settled: bool,
     pub(crate) parts: Vec<Cond>,
-    // The fluents below 256 that stand among the parts, as they are and negated.
+    // The fluents below `MAX_FLUENTS` that stand among the parts, as they are and negated.
     pub(crate) plain: State,
     pub(crate) negated: State,
     // Where a part with this fingerprint was put. It is a guess, and `are_same` decides.
@@ -75,7 +75,6 @@ impl Draft {
         }
     }
 
-    /// Adds a fluent (positive), or its negation.
     pub(crate) fn add_literal(
         &mut self,
         alloc: Global,
@@ -98,7 +97,6 @@ impl Draft {
         Ok(())
     }
 
-    /// Adds a condition.
     pub(crate) fn add(&mut self, alloc: Global, cond: Cond) -> Result<(), AllocError>
         ensures { OnOk result (Adds (λ _ value. holds cond value)
             (λ n. ids_below n cond) (depth cond) self.old self.new) }
@@ -142,7 +140,7 @@ impl Draft {
     fn has(&self, fluent: FluentId, positive: bool) -> bool
         ensures { IsTrue result → noted self.now positive fluent.0 ≡ true }
     {
-        if fluent.0 >= 256 {
+        if fluent.0 >= MAX_FLUENTS {
             return false;
         }
         if positive {
@@ -156,7 +154,7 @@ impl Draft {
     fn note(&mut self, fluent: FluentId, positive: bool)
         ensures { Notes fluent.0 positive self.old self.new }
     {
-        if fluent.0 >= 256 {
+        if fluent.0 >= MAX_FLUENTS {
             return;
         }
         if positive {
@@ -205,7 +203,6 @@ impl Draft {
         Ok(())
     }
 
-    /// The condition that this is.
     pub(crate) fn into_condition(self) -> Cond
         ensures { (means : (ℕ → Bool) → Bool) (below : ℕ → Bool) (deepest : ℕ)
             → IsDraft self.is_conjunction means below deepest self
@@ -258,7 +255,6 @@ fn constant_of(cond: &Cond) -> Option<bool>
     }
 }
 
-/// The fluent of a condition that is one.
 fn fluent_of(cond: &Cond) -> Option<FluentId>
     ensures { IfSome result (λ fluent. IsLiteral fluent.0 true cond.now) }
 {
@@ -268,7 +264,6 @@ fn fluent_of(cond: &Cond) -> Option<FluentId>
     }
 }
 
-/// The literal that a condition is, if it is one.
 fn literal_of(cond: &Cond) -> Option<Lit>
     ensures { IfSome result (λ lit. IsLiteral lit.fluent.0 lit.positive cond.now) }
 {

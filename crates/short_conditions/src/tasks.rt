@@ -102,7 +102,6 @@ fn copied_entry(alloc: Global, alternatives: &[Alternative]) -> Result<Vec<Alter
     Ok(copies)
 }
 
-/// The same literals.
 fn copied_literals(alloc: Global, lits: &[Lit]) -> Result<Vec<Lit>, AllocError>
     ensures { IfOk result (λ copies. copies.items ≡ lits.now) }
 {

@@ -427,7 +427,6 @@ impl Board {
     }
 }
 
-/// Ends a slot.
 fn end(enc: &mut Enc, slot: SetId)
     requires { IsLive enc.old.sets slot.0 }
     ensures released { Releases enc.old.sets enc.new.sets slot.0 }

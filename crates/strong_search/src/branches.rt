@@ -39,7 +39,6 @@ impl Branches {
         Ok(())
     }
 
-    /// A branch by its number.
     pub(crate) fn get(&self, branch: u32) -> Branch {
         match self.list.get(branch as usize) {
             Some(branch) => *branch,
@@ -83,7 +82,6 @@ impl Branches {
         }
     }
 
-    /// The outcome at a place of a branch.
     pub(crate) fn outcome_at(&self, branch: u32, place: u32) -> u32 {
         match self.outcomes.get(branch as usize) {
             Some(outcomes) => at(outcomes, place),

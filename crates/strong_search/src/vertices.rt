@@ -40,7 +40,6 @@ impl Vertices {
         Ok(())
     }
 
-    /// What is known of a state.
     pub(crate) fn view(&self, state: u32) -> View {
         match self.list.get(state as usize) {
             Some(vertex) => vertex.view,
@@ -96,7 +95,6 @@ impl Vertices {
         self.put(state, view);
     }
 
-    /// Adds a branch to a state.
     pub(crate) fn add_branch(&mut self, state: u32, branch: u32) -> Result<(), AllocError> {
         if let Some(vertex) = self.list.get_mut(state as usize) {
             vertex.branches.push(branch)?;

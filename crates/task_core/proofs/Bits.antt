@@ -1,11 +1,12 @@
--- One bit of four words, and the vector of a state.
+-- One bit of some words, and the vector of a state.
 use Rattle.std.proofs.Common.{◌≡◌, ℕ, ◌-◌, ◌*◌, ◌/◌, ◌%◌, ◌^◌, ◌<◌, Bool, true, false, eqb, List, length, get_or, set, sym, ◌∙◌, ap, subst, ⊎_elim, arith, w64, bit_and, bit_or}
 use Rattle.std.specs.Int.{bit_at}
 use Rattle.std.proofs.lemmas.Nat.Bits.{bit_at_set_same, bit_at_set_other, bit_at_clear_same, bit_at_clear_other}
 use Rattle.std.proofs.lemmas.List.{get_or-set_same, get_or-set_other, length-set}
 use Rattle.std.proofs.lemmas.List.Elements.{All-set}
 use Rattle.std.proofs.lemmas.Nat.{or_lt}
-use Rattle.task_core.specs.FourWords.{IsFourWords}
+use Rattle.task_core.specs.StateWords.{AreStateWords}
+use Rattle.task_core.specs.Limits.{most_fluents}
 use Rattle.std.proofs.lemmas.Bool.{cases_eq}
 
 -- `truth` over the words
@@ -56,13 +57,13 @@ clear_bit_other ws f g h ne =
     let k : f % 64 < 64 = omega arith in
     kept ws f g _ h ne (λ i within other. bit_at_clear_other w64 (get_or ws (f / 64) 0) (f % 64) k i within other)
 
--- the words after a bit is set are four words still
-pub set_bit_words : (ws : List ℕ) (f : ℕ) → IsFourWords ws → f < 256 → IsFourWords (set_bit ws f)
-set_bit_words ws f four h =
-    let within : f / 64 < length ws = omega (arith, four.count) in
-    let old : get_or ws (f / 64) 0 < 2 ^ 64 = four.each (f / 64) 0 within in
+-- the words after a bit is set are words of a state still
+pub set_bit_words : (ws : List ℕ) (f : ℕ) → AreStateWords ws → f < most_fluents → AreStateWords (set_bit ws f)
+set_bit_words ws f words h =
+    let within : f / 64 < length ws = omega (arith, words.count) in
+    let old : get_or ws (f / 64) 0 < 2 ^ 64 = words.each (f / 64) 0 within in
     let mask : 1 * 2 ^ (f % 64) % 18446744073709551616 < 2 ^ 64 = omega arith in
     record {
-      count = length-set ws (f / 64) _ ∙ four.count;
-      each = All-set (λ w. w < 2 ^ 64) ws (f / 64) _ (or_lt 64 (get_or ws (f / 64) 0) _ old mask) four.each;
+      count = length-set ws (f / 64) _ ∙ words.count;
+      each = All-set (λ w. w < 2 ^ 64) ws (f / 64) _ (or_lt 64 (get_or ws (f / 64) 0) _ old mask) words.each;
     }

@@ -1,4 +1,5 @@
 -- Worked examples of the definitions.
+use Rattle.std.specs.Prelude.{replicate}
 use Rattle.std.proofs.Common.{◌≡◌, ℕ, zero, suc, ◌≤◌, Bool, true, false, not, ◌||◌, List, [], ◌∷◌, length, Some, None, refl, sym, ◌∙◌, ap, subst, arith, if◌then◌else◌, ◌==◌, slice_get}
 use Rattle.std.specs.Prelude.{Vec}
 use Rattle.std.specs.declared.alloc.Global.{Global}
@@ -22,6 +23,7 @@ use Rattle.task_core.specs.declared.actions.Change.{Change}
 use Rattle.task_core.specs.declared.actions.Outcome.{Outcome}
 use Rattle.task_core.specs.declared.actions.GroundAction.{GroundAction}
 use Rattle.task_core.specs.declared.tasks.Task.{Task}
+use Rattle.task_core.specs.Limits.{most_fluents}
 use Rattle.task_core.proofs.Holds.{holds_Yes, holds_Is}
 
 -- the vectors of two fluents, in order
@@ -48,7 +50,7 @@ either_holds = refl
 
 -- fluents 1 and 64 are bit 1 of the first word and bit 0 of the second
 abbrev IsTwoWords : State → Type 0
-IsTwoWords s = s.bits ≡ 2 ∷ 1 ∷ 0 ∷ 0 ∷ []
+IsTwoWords s = s.bits ≡ 2 ∷ 1 ∷ replicate 14 0
 
 first_three : (s : State) → IsTwoWords s → vector 3 s ≡ false ∷ true ∷ false ∷ []
 first_three s e = rw e refl
@@ -56,7 +58,7 @@ first_three s e = rw e refl
 second_word : (s : State) → IsTwoWords s → truth s 64 ≡ true
 second_word s e = rw e refl
 
-past_the_last_word : (s : State) → IsTwoWords s → truth s 256 ≡ false
+past_the_last_word : (s : State) → IsTwoWords s → truth s most_fluents ≡ false
 past_the_last_word s e = rw e refl
 
 -- outcomes, at the allocator of their lists

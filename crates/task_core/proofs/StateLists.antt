@@ -11,7 +11,7 @@ use Rattle.std.proofs.lemmas.List.Elements.{All-push}
 use Rattle.std.proofs.lemmas.List.Folds.{fold-map, list_any_more}
 use Rattle.std.proofs.lemmas.List.Sums.{fold_more, fold-append}
 use Rattle.indexmap.specs.IndexSet.{insert_key}
-use Rattle.task_core.specs.FourWords.{IsFourWords}
+use Rattle.task_core.specs.StateWords.{AreStateWords}
 use Rattle.task_core.specs.Vectors.{Vector, value_of, same_vector, same_value}
 use Rattle.task_core.specs.States.{truth, vector, IsWithin, ShowsVectors}
 use Rattle.task_core.specs.Cubes.{Cube}
@@ -26,6 +26,7 @@ use Rattle.task_core.specs.Initial.{entry_of, entry_within, entries_of, entries_
 use Rattle.task_core.specs.declared.actions.InitSpec.{InitSpec}
 use Rattle.task_core.specs.declared.literals.Lit.{Lit}
 use Rattle.task_core.specs.declared.actions.Alternative.{Alternative}
+use Rattle.task_core.specs.Limits.{most_fluents, most_words}
 use Rattle.task_core.proofs.TaskSystem.{element_passes, value_of-vector_within}
 
 -- the derived `==` of states
@@ -56,19 +57,19 @@ bit_is xs ys i j h e =
     same_bit (suc zero) (suc (suc b)) la lb e = absurd (omega arith)
     same_bit (suc (suc a)) b la lb e = absurd (omega arith)
 
--- four words with the same truth values are the same
-words_same : (xs ys : List ℕ) → IsFourWords xs → IsFourWords ys → ((f : ℕ) → f < 256 → truth_of xs f ≡ truth_of ys f) → xs ≡ ys
+-- words of states with the same truth values are the same
+words_same : (xs ys : List ℕ) → AreStateWords xs → AreStateWords ys → ((f : ℕ) → f < most_fluents → truth_of xs f ≡ truth_of ys f) → xs ≡ ys
 words_same xs ys fx fy same =
     ext_get_or 0 xs ys (fx.count ∙ sym fy.count)
     (λ i h.
-    let four : i < 4 = subst (λ k. i < k) fx.count h in
+    let within : i < most_words = subst (λ k. i < k) fx.count h in
     same_from_bits_below 64 (get_or xs i 0) (get_or ys i 0) (fx.each i 0 h) (fy.each i 0 (subst (λ k. i < k) (fx.count ∙ sym fy.count) h))
     (λ j l. bit_is xs ys i j l (same (64 * i + j) (omega arith))))
 
 -- states with the same vector and no other fluent true have the same words
 vectors_same : (n : ℕ) (a b : State) → IsWithin n a → IsWithin n b → vector n a ≡ vector n b → a.bits ≡ b.bits
 vectors_same n a b wa wb e =
-    words_same a.bits b.bits a.four_words b.four_words
+    words_same a.bits b.bits a.state_words b.state_words
     (λ f _. ap (λ value. value f) (sym (value_of-vector_within n a wa) ∙ ap value_of e ∙ value_of-vector_within n b wb))
 
 -- so `==` of states is that of their vectors

@@ -21,7 +21,9 @@ use Rattle.task_core.specs.declared.conditions.Cond.{Cond}
 use Rattle.task_core.specs.declared.actions.Outcome.{Outcome}
 use Rattle.task_core.specs.declared.actions.GroundAction.{GroundAction}
 use Rattle.task_core.specs.declared.tasks.Task.{Task}
+use Rattle.task_core.specs.Limits.{most_fluents}
 use Rattle.task_core.proofs.Vectors.{list_all_contains, all_vectors_length, all_vectors_has, list_any-map, Contains-filter, Contains-filter_cases, Contains-map_image}
+use Rattle.std.proofs.Math.Bool.{and_comm}
 use Rattle.task_core.proofs.Agreement.{holds_agree, ids_below_widen}
 use Rattle.task_core.proofs.Changes.{outcome_widen, after_value_above}
 use Rattle.task_core.proofs.StateSpace.{any_of_all, filter_all, next_none, next_numbered, next_some}
@@ -58,8 +60,8 @@ after_vector n o s t within value =
     ∙ ap (λ g. map g (range_with_len 0 n)) new
 
 -- the invariant of a task, in a state
-pub invariant_within_256 : (task : Task) → ids_below 256 task.invariant ≡ true
-invariant_within_256 task = ids_below_widen task.invariant (fluent_count task) 256 task.few_fluents task.invariant_within
+pub invariant_within_most : (task : Task) → ids_below most_fluents task.invariant ≡ true
+invariant_within_most task = ids_below_widen task.invariant (fluent_count task) most_fluents task.few_fluents task.invariant_within
 
 pub in_space_value : (task : Task) (s : State) → holds task.invariant (truth s) ≡ in_space task (vector (fluent_count task) s)
 in_space_value task s =
@@ -77,8 +79,8 @@ module _ (task : Task) (a : ℕ) (x : GroundAction) (in_range : a < action_count
   pub exec_within : ids_below (fluent_count task) x.exec ≡ true
   exec_within = (and_parts _ _ (and_parts _ _ (and_parts _ _ action_is_within).0).0).0
 
-  pub exec_within_256 : ids_below 256 x.exec ≡ true
-  exec_within_256 = ids_below_widen x.exec (fluent_count task) 256 task.few_fluents exec_within
+  pub exec_within_most : ids_below most_fluents x.exec ≡ true
+  exec_within_most = ids_below_widen x.exec (fluent_count task) most_fluents task.few_fluents exec_within
 
   exec_value : (s : State) → holds x.exec (truth s) ≡ option_map_or (λ action. holds action.exec (value_of (vector (fluent_count task) s))) (slice_get task.actions.items a) false
   exec_value s =
@@ -86,11 +88,18 @@ module _ (task : Task) (a : ℕ) (x : GroundAction) (in_range : a < action_count
       (λ f h. sym (value_of-vector (fluent_count task) s f h))
       ∙ ap (λ o. option_map_or (λ action. holds action.exec (value_of (vector (fluent_count task) s))) o false) (sym is_at)
 
-  -- in a state of the task the action is allowed where its precondition holds
-  pub allowed_value : (s : State) → in_space task (vector (fluent_count task) s) ≡ true → holds x.exec (truth s) ≡ is_allowed task (vector (fluent_count task) s) a
-  allowed_value s inside =
-      exec_value s
-      ∙ ap (λ b. b && option_map_or (λ action. holds action.exec (value_of (vector (fluent_count task) s))) (slice_get task.actions.items a) false) (sym inside)
+  -- the precondition and then the invariant say whether the action is allowed
+  holds_in_space : (s : State) → (holds x.exec (truth s) && in_space task (vector (fluent_count task) s)) ≡ is_allowed task (vector (fluent_count task) s) a
+  holds_in_space s =
+      let holds_there = option_map_or (λ action. holds action.exec (value_of (vector (fluent_count task) s))) (slice_get task.actions.items a) false in
+      ap (λ b. b && in_space task (vector (fluent_count task) s)) (exec_value s)
+      ∙ and_comm holds_there (in_space task (vector (fluent_count task) s))
+
+  pub allowed_then : (s : State) → holds x.exec (truth s) ≡ true → in_space task (vector (fluent_count task) s) ≡ is_allowed task (vector (fluent_count task) s) a
+  allowed_then s h = ap (λ b. b && in_space task (vector (fluent_count task) s)) (sym h) ∙ holds_in_space s
+
+  pub allowed_else : (s : State) → holds x.exec (truth s) ≡ false → false ≡ is_allowed task (vector (fluent_count task) s) a
+  allowed_else s h = ap (λ b. b && in_space task (vector (fluent_count task) s)) (sym h) ∙ holds_in_space s
 
   pub outcomes_are : outcomes_at task a ≡ x.outcomes.items
   outcomes_are = ap (λ o. option_map_or (λ action. action.outcomes.items) o []) is_at
@@ -114,8 +123,8 @@ module _ (task : Task) (a : ℕ) (x : GroundAction) (in_range : a < action_count
         element_passes (outcome_within (fluent_count task)) x.outcomes.items k o
         (and_parts _ _ (and_parts _ _ (and_parts _ _ action_is_within).0).0).1 outcome_in_range outcome_is
 
-    pub outcome_within_256 : outcome_within 256 o ≡ true
-    outcome_within_256 = outcome_widen (fluent_count task) 256 o task.few_fluents outcome_is_within
+    pub outcome_within_most : outcome_within most_fluents o ≡ true
+    outcome_within_most = outcome_widen (fluent_count task) most_fluents o task.few_fluents outcome_is_within
 
     pub result_within : (s t : State) → IsWithin (fluent_count task) s → ((f : ℕ) → truth t f ≡ after_value o (truth s) f) → IsWithin (fluent_count task) t
     result_within s t within value f h =

@@ -5,7 +5,8 @@ pub mod Tables
 pub mod Solutions
 pub mod ContextPlans
 pub mod Cubes
-pub mod FourWords
+pub mod Limits
+pub mod StateWords
 pub mod States
 pub mod Conditions
 pub mod Actions

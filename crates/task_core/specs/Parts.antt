@@ -9,6 +9,7 @@ use Rattle.task_core.specs.Names.{AreActionNames, AreFluentNames, Words, name_by
 use Rattle.task_core.specs.declared.conditions.Cond.{Cond}
 use Rattle.task_core.specs.declared.actions.GroundAction.{GroundAction}
 use Rattle.task_core.specs.declared.actions.InitSpec.{InitSpec}
+use Rattle.task_core.specs.Limits.{most_fluents}
 
 -- what an action, an entry, the facts, the goal and the invariant name is one of n fluents; each
 -- action has an outcome, and each entry an alternative
@@ -29,7 +30,7 @@ pub record PartsAreShallow (actions : List GroundAction) (goal : Option Cond)
 
 pub record MakesTask (fluents : List Words) (actions : List GroundAction)
     (init : InitSpec) (goal : Option Cond) (invariant : Cond) : Type 0 where
-  pub few_fluents : length fluents ≤ 256
+  pub few_fluents : length fluents ≤ most_fluents
   pub few_actions : length actions < 2 ^ 32
   pub within : PartsAreWithin (length fluents) actions init goal invariant
   pub shallow : PartsAreShallow actions goal invariant

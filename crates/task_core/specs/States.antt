@@ -5,7 +5,7 @@ use Rattle.std.specs.Int.{bit_at}
 use Rattle.task_core.specs.Vectors.{Vector}
 use Rattle.task_core.specs.declared.states.State.{State}
 
--- the four words that hold the values
+-- the words that hold the values
 abbrev pub words : State → List ℕ
 words s = s.bits
 

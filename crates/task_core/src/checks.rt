@@ -51,8 +51,11 @@ ghost use Rattle.task_core.specs.Checks.{
   says_not,
   word_passes,
 };
+ghost use Rattle.task_core.specs.Limits.{most_fluents};
 
-use crate::{Alternative, Change, Cond, FluentId, GroundAction, InitSpec, Lit, Outcome, State};
+use crate::{
+    Alternative, Change, Cond, FluentId, GroundAction, InitSpec, Lit, MAX_FLUENTS, Outcome, State,
+};
 use std::rc::RcStr;
 
 /// Whether the byte may stand in a word of a name.
@@ -385,10 +388,10 @@ fn entries_fit(init: &InitSpec, fluents: usize) -> bool
 
 /// Whether every fluent from `fluents` on is false.
 fn facts_fit(facts: &State, fluents: usize) -> bool
-    requires { fluents ≤ 256 }
+    requires { fluents ≤ most_fluents }
     ensures { IsTrue result ↔ IsWithin fluents facts.now }
 {
-    for f in fluents as u32..256 {
+    for f in fluents as u32..MAX_FLUENTS {
         if facts.get(FluentId(f)) {
             return false;
         }
@@ -418,7 +421,7 @@ fn are_within(
     invariant: &Cond,
     count: usize,
 ) -> bool
-    requires { count ≤ 256 }
+    requires { count ≤ most_fluents }
     ensures { IsTrue result ↔ PartsAreWithin count actions.now init.now goal.now invariant.now }
 {
     actions_fit(actions, count)
@@ -446,7 +449,7 @@ pub(crate) fn make_task(
     ensures { IsTrue result
         ↔ MakesTask fluents.now actions.now init.now goal.now invariant.now }
 {
-    fluents.len() <= 256
+    fluents.len() <= MAX_FLUENTS as usize
         && actions.len() < 1 << 32
         && are_within(actions, init, goal, invariant, fluents.len())
         && are_shallow(actions, goal, invariant)

@@ -2,6 +2,7 @@
 
 ghost use Rattle.std.specs.Prelude.{◌≡◌, ◌≤◌, IsTrue};
 ghost use Rattle.task_core.specs.Conditions.{AlwaysHolds, holds_in, ids_below};
+ghost use Rattle.task_core.specs.Limits.{most_fluents};
 
 use crate::{FluentId, State};
 
@@ -21,9 +22,9 @@ pub enum Cond {
     Any(Vec<Cond>),
 }
 
-/// Whether a condition holds in a state. Its fluents are below 256.
+/// Whether a condition holds in a state. Its fluents are below `MAX_FLUENTS`.
 pub fn cond_holds(cond: &Cond, state: &State) -> bool
-    requires { IsTrue (ids_below 256 cond.now) }
+    requires { IsTrue (ids_below most_fluents cond.now) }
     ensures value { result ≡ holds_in cond.now state.now }
 {
     match cond {

@@ -42,6 +42,7 @@ ghost use Rattle.task_core.specs.Tasks.{
   states_after_entries,
 };
 ghost use Rattle.task_core.specs.Unchanged.{AreOnce, changes_none, holds_in_each};
+ghost use Rattle.task_core.specs.Limits.{most_fluents};
 
 use crate::conditions::always_holds;
 use crate::steps::in_space;
@@ -136,7 +137,7 @@ fn next_states(
     entry: &[Alternative],
     limit: usize,
 ) -> Result<Vec<State>, InitErr>
-    requires entry { entry_within 256 (entry_of entry.now) ≡ true }
+    requires entry { entry_within most_fluents (entry_of entry.now) ≡ true }
     requires few { length states.items ≤ limit }
     ensures list { IfOk result (λ after. (n : ℕ) (vs : List Vector)
         → entry_within n (entry_of entry.now) ≡ true → AreOnce [] vs
@@ -155,7 +156,7 @@ fn next_states(
 
 // Whether an entry changes none of the states, since all of its literals hold in each.
 fn changes_none(states: &[State], entry: &[Alternative]) -> bool
-    requires { entry_within 256 (entry_of entry.now) ≡ true }
+    requires { entry_within most_fluents (entry_of entry.now) ≡ true }
     ensures { result ≡ changes_none states.now (entry_of entry.now) }
 {
     for alternative in entry {
@@ -168,7 +169,7 @@ fn changes_none(states: &[State], entry: &[Alternative]) -> bool
 
 // Whether each of the literals holds in each of the states.
 fn all_hold(states: &[State], lits: &[Lit]) -> bool
-    requires { list_all (lit_within 256) lits.now ≡ true }
+    requires { list_all (lit_within most_fluents) lits.now ≡ true }
     ensures { result ≡ list_all (holds_in_each states.now) lits.now }
 {
     for lit in lits {
@@ -181,7 +182,7 @@ fn all_hold(states: &[State], lits: &[Lit]) -> bool
 
 // Whether a literal holds in each of the states.
 fn holds_in_each(states: &[State], lit: Lit) -> bool
-    requires { lit.fluent.0 < 256 }
+    requires { lit.fluent.0 < most_fluents }
     ensures { result ≡ holds_in_each states.now lit }
 {
     for state in states {
@@ -199,7 +200,7 @@ fn states_after(
     entry: &[Alternative],
     limit: usize,
 ) -> Result<Vec<State>, InitErr>
-    requires { entry_within 256 (entry_of entry.now) ≡ true }
+    requires { entry_within most_fluents (entry_of entry.now) ≡ true }
     ensures list { IfOk result (λ after. (n : ℕ) (vs : List Vector)
         → entry_within n (entry_of entry.now) ≡ true → ShowsVectors n states.now vs
         → ShowsVectors n after.items (after_entry n vs (entry_of entry.now))) }
@@ -236,7 +237,7 @@ fn add_alternatives(
     entry: &[Alternative],
     limit: usize,
 ) -> Result<(), InitErr>
-    requires entry { list_all (list_all (lit_within 256)) (entry_of entry.now) ≡ true }
+    requires entry { list_all (list_all (lit_within most_fluents)) (entry_of entry.now) ≡ true }
     requires few { length found.old.keys ≤ limit }
     ensures list { OnOk result ((n : ℕ) (vs : List Vector)
         → list_all (list_all (lit_within n)) (entry_of entry.now) ≡ true
@@ -276,7 +277,7 @@ fn add(found: &mut IndexSet<State>, state: State, limit: usize) -> Result<(), In
 
 /// The state with literals applied: deletes first, so that a fluent that is also added becomes true.
 pub fn with_literals(state: &State, lits: &[Lit]) -> State
-    requires { list_all (lit_within 256) lits.now ≡ true }
+    requires { list_all (lit_within most_fluents) lits.now ≡ true }
     ensures { (f : ℕ) → truth result f ≡ applied_value lits.now (truth state.now) f }
 {
     let deleted = with_signed(*state, lits, false);
@@ -285,7 +286,7 @@ pub fn with_literals(state: &State, lits: &[Lit]) -> State
 
 // The state with each fluent made `positive` that a literal of this sign names.
 pub(crate) fn with_signed(state: State, lits: &[Lit], positive: bool) -> State
-    requires { list_all (lit_within 256) lits.now ≡ true }
+    requires { list_all (lit_within most_fluents) lits.now ≡ true }
     ensures { (f : ℕ) → truth result f
         ≡ (if names_it positive f lits.now then positive else truth state f) }
 {

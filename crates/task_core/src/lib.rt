@@ -28,6 +28,6 @@ pub use laws::{
     without_invariant_each_vector_is_a_state,
 };
 pub use literals::{ActionId, FluentId, Lit};
-pub use states::State;
+pub use states::{MAX_FLUENTS, State, WORDS};
 pub use steps::{in_space, is_exec, outcome_count, step};
 pub use tasks::Task;

@@ -2,15 +2,22 @@
 
 ghost use Rattle.std.specs.Prelude.{◌≡◌, ℕ, ◌<◌, Bool, true, false, if◌then◌else◌, ◌==◌};
 ghost use Rattle.std.proofs.Props.{props};
-ghost use Rattle.task_core.specs.FourWords.{IsFourWords};
+ghost use Rattle.task_core.specs.StateWords.{AreStateWords};
+ghost use Rattle.task_core.specs.Limits.{most_fluents};
 
 use crate::FluentId;
 
-/// A truth value for each of 256 fluents.
+/// How many fluents a task may have.
+pub const MAX_FLUENTS: u32 = 1024;
+
+/// How many words hold their values, of 64 bits each.
+pub const WORDS: usize = 16;
+
+/// A truth value for each of `MAX_FLUENTS` fluents.
 #[derive(Clone, Copy, Debug, PartialEq, Eq, Hash)]
 pub struct State {
-    bits: [u64; 4],
-    ghost four_words: { IsFourWords bits } by { Prim.hlevel props },
+    bits: [u64; WORDS],
+    ghost state_words: { AreStateWords bits } by { Prim.hlevel props },
 }
 
 impl State {
@@ -20,12 +27,12 @@ impl State {
     pub fn none() -> State
         ensures all_false { (f : ℕ) → truth result f ≡ false }
     {
-        State { bits: [0; 4] }
+        State { bits: [0; WORDS] }
     }
 
     /// The value of a fluent.
     pub fn get(&self, f: FluentId) -> bool
-        requires { f.0 < 256 }
+        requires { f.0 < most_fluents }
         ensures value { result ≡ truth self.now f.0 }
     {
         let word = self.bits[f.0 as usize / 64];
@@ -34,7 +41,7 @@ impl State {
 
     /// The state with one value in place of the fluent's, and each other value as it is.
     pub fn with(&self, f: FluentId, value: bool) -> State
-        requires { f.0 < 256 }
+        requires { f.0 < most_fluents }
         ensures changed { truth result f.0 ≡ value }
         ensures others { (g : ℕ) → (g ≡ f.0 → ⊥) → truth result g ≡ truth self.now g }
     {
@@ -43,7 +50,7 @@ impl State {
 
     // The state with the fluent true.
     fn set(&self, f: FluentId) -> State
-        requires { f.0 < 256 }
+        requires { f.0 < most_fluents }
         ensures changed { truth result f.0 ≡ true }
         ensures others { (g : ℕ) → (g ≡ f.0 → ⊥) → truth result g ≡ truth self.now g }
     {
@@ -55,7 +62,7 @@ impl State {
 
     // The state with the fluent false.
     fn cleared(&self, f: FluentId) -> State
-        requires { f.0 < 256 }
+        requires { f.0 < most_fluents }
         ensures changed { truth result f.0 ≡ false }
         ensures others { (g : ℕ) → (g ≡ f.0 → ⊥) → truth result g ≡ truth self.now g }
     {
@@ -65,8 +72,9 @@ impl State {
         State { bits }
     }
 
-    /// The four words that hold the values: fluent `f` is bit `f % 64` of word `f / 64`.
-    pub fn bits(&self) -> &[u64; 4]
+    /// The words that hold the values: fluent `f` is bit `f % 64` of word `f / 64`. Those of a task
+    /// with at most 256 fluents are the first four.
+    pub fn bits(&self) -> &[u64; WORDS]
         ensures value { result.now ≡ words self.now }
     {
         &self.bits

@@ -31,6 +31,7 @@ ghost use Rattle.task_core.specs.Tasks.{
   is_executable,
   system_of,
 };
+ghost use Rattle.task_core.specs.Limits.{most_fluents};
 
 use crate::conditions::always_holds;
 use crate::initial::with_signed;
@@ -58,13 +59,14 @@ pub fn is_exec(task: &Task, state: &State, action: ActionId) -> bool
     is_allowed(task, state, action) && leads_to_a_state(task, state, action)
 }
 
-/// Whether the vector is a state in which the action's precondition holds.
+/// Whether the vector is a state in which the action's precondition holds. The precondition is
+/// looked at first, since an invariant is long.
 fn is_allowed(task: &Task, state: &State, action: ActionId) -> bool
     requires in_range { action.0 < action_count task.now }
     ensures { result
         ≡ is_allowed task.now (vector (fluent_count task.now) state.now) action.0 }
 {
-    in_space(task, state) && cond_holds(&task.actions[action.0 as usize].exec, state)
+    cond_holds(&task.actions[action.0 as usize].exec, state) && in_space(task, state)
 }
 
 /// Whether some outcome of the action leads to a state. Where each vector is one, nothing is tried:
@@ -113,7 +115,7 @@ pub fn step(task: &Task, state: &State, action: ActionId, outcome: u32) -> State
 
 /// The state after an outcome: deletes first, so that a fluent that is also added becomes true.
 fn state_after(outcome: &Outcome, state: &State) -> State
-    requires within { outcome_within 256 outcome.now ≡ true }
+    requires within { outcome_within most_fluents outcome.now ≡ true }
     ensures value { (f : ℕ) → truth result f ≡ after_value outcome.now (truth state.now) f }
 {
     let deleted = with_changes(outcome, state, *state, false);
@@ -123,7 +125,7 @@ fn state_after(outcome: &Outcome, state: &State) -> State
 /// `next` with each fluent made `positive` that a change of this sign makes so, its condition read
 /// in the old state.
 fn with_changes(outcome: &Outcome, old: &State, next: State, positive: bool) -> State
-    requires within { outcome_within 256 outcome.now ≡ true }
+    requires within { outcome_within most_fluents outcome.now ≡ true }
     ensures value { (f : ℕ) → truth result f
         ≡ (if list_any (change_makes positive (truth old.now) f) outcome.now.changes.items
         then positive else truth next f) }
@@ -138,7 +140,7 @@ fn with_changes(outcome: &Outcome, old: &State, next: State, positive: bool) -> 
 /// `next` with each fluent made `positive` that the change makes so, its condition read in the old
 /// state.
 fn with_change(change: &Change, old: &State, next: State, positive: bool) -> State
-    requires within { change_within 256 change.now ≡ true }
+    requires within { change_within most_fluents change.now ≡ true }
     ensures value { (f : ℕ) → truth result f
         ≡ (if change_makes positive (truth old.now) f change.now
         then positive else truth next f) }
@@ -153,7 +155,7 @@ fn with_change(change: &Change, old: &State, next: State, positive: bool) -> Sta
 /// Whether a change has a literal of this sign, and its condition holds. The condition is read only
 /// where there is such a literal.
 fn comes_about(change: &Change, old: &State, positive: bool) -> bool
-    requires within { change_within 256 change.now ≡ true }
+    requires within { change_within most_fluents change.now ≡ true }
     ensures { (f : ℕ) → change_makes positive (truth old.now) f change.now
         ≡ (names_it positive f change.now.lits.items && result) }
 {

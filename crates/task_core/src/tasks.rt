@@ -14,6 +14,7 @@ ghost use Rattle.task_core.specs.Conditions.{ids_below, is_shallow};
 ghost use Rattle.task_core.specs.Initial.{entries_within};
 ghost use Rattle.task_core.specs.Parts.{MakesTask};
 ghost use Rattle.task_core.specs.Names.{AreActionNames, AreFluentNames, name_bytes, name_of};
+ghost use Rattle.task_core.specs.Limits.{most_fluents};
 
 use crate::checks::make_task;
 use crate::{Cond, GroundAction, InitSpec};
@@ -23,7 +24,7 @@ use std::rc::RcStr;
 /// its place, what is known of the initial states, the goal where there is one, and the invariant:
 /// only the vectors of truth values in which it holds are states.
 ///
-/// There are at most 256 fluents and fewer than 2^32 actions; each action has at least one and
+/// There are at most `MAX_FLUENTS` fluents and fewer than 2^32 actions; each action has at least one and
 /// fewer than 2^32 outcomes, and each uncertain entry at least one alternative; each fluent that a
 /// condition, a change or an entry names is one of the task's, and only fluents of the task are
 /// facts. Names are lists of one word at least, each of bytes 33 to 126 without `(`, `)`, `;` and
@@ -37,7 +38,7 @@ pub struct Task {
     pub init: InitSpec,
     pub goal: Option<Cond>,
     pub invariant: Cond,
-    pub ghost few_fluents: { length fluents.items ≤ 256 },
+    pub ghost few_fluents: { length fluents.items ≤ most_fluents },
     pub ghost few_actions: { length actions.items < 2 ^ 32 },
     pub ghost actions_within: { let n = length fluents.items in
         list_all (action_within n) actions.items ≡ true },
@@ -61,7 +62,7 @@ impl Task {
         goal: Option<Cond>,
         invariant: Cond,
     ) -> Task
-        requires few_fluents { length fluents.items ≤ 256 }
+        requires few_fluents { length fluents.items ≤ most_fluents }
         requires few_actions { length actions.items < 2 ^ 32 }
         requires actions_within { let n = length fluents.items in
             list_all (action_within n) actions.items ≡ true }

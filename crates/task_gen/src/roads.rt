@@ -81,7 +81,6 @@ fn push_init(out: &mut Vec<u8>, n: u32) -> Result<(), AllocError>
     Ok(())
 }
 
-/// The line of the goal.
 fn push_goal(out: &mut Vec<u8>, n: u32) -> Result<(), AllocError>
     ensures { OnOk result (out.new.items ≡ out.old.items ++ (goal_line n ++ line_feed)) }
 {

@@ -13,7 +13,6 @@ pub struct Generated {
     pub problem: Vec<u8>,
 }
 
-/// A name made of a letter and a number.
 pub(crate) fn push_name(out: &mut Vec<u8>, letter: &[u8], number: u32) -> Result<(), AllocError>
     ensures { OnOk result (out.new.items ≡ out.old.items ++ numbered letter.now number) }
 {

@@ -58,12 +58,19 @@ fn makes_a_node_once(dd: &mut Dd) -> Result<bool, DdErr>
     Ok(is_first && is_next)
 }
 
+/// The truth values of the first variables, as the words that a diagram is asked at.
+pub(crate) fn words(bits: u64) -> [u64; 16] {
+    let mut words = [0; 16];
+    words[0] = bits;
+    words
+}
+
 /// Whether a number has the function of the conjunction.
 fn is_conjunction(dd: &Dd, f: Ref) -> bool
     requires { IsNumber dd.now.nodes f.0 }
 {
     for bits in 0..4u64 {
-        if dd.eval(f, &[bits, 0, 0, 0]) != (bits == 3) {
+        if dd.eval(f, &words(bits)) != (bits == 3) {
             return false;
         }
     }
@@ -130,7 +137,7 @@ fn keeps_the_root(alloc: Global, dd: &mut Dd) -> Result<bool, AllocError> {
 
 /// Whether a number of a table has the function of the negation of variable 1.
 fn is_negation(dd: &Dd, f: Ref) -> bool {
-    dd.len() >= 1 && f == Ref(2) && !dd.eval(f, &[2, 0, 0, 0]) && dd.eval(f, &[1, 0, 0, 0])
+    dd.len() >= 1 && f == Ref(2) && !dd.eval(f, &words(2)) && dd.eval(f, &words(1))
 }
 
 fn makes_two(dd: &mut Dd) -> bool

@@ -2,6 +2,7 @@
 ghost use Rattle.std.specs.Prelude.{◌≡◌, ◌≤◌, ◌<◌, ◌↔◌, IsTrue, All};
 ghost use Rattle.dd_nodes.specs.NodeList.{IsNumber};
 
+use crate::node_tests::words;
 use dd_nodes::{DdErr, Ref};
 use dd_ops::Ops;
 use std::alloc::Global;
@@ -72,7 +73,7 @@ fn truth(ops: &Ops, f: Ref) -> Option<u16> {
     }
     let mut table = 0;
     for state in 0..16u64 {
-        if ops.table().eval(f, &[state, 0, 0, 0]) {
+        if ops.table().eval(f, &words(state)) {
             table |= 1u16 << state;
         }
     }

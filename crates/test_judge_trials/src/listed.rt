@@ -1,6 +1,7 @@
 //! The verdict by a list of states.
 
 ghost use Rattle.std.specs.Prelude.{◌<◌, IfSome, length};
+ghost use Rattle.task_core.specs.Limits.{most_fluents};
 
 use crate::tables::{cube_of, value_in};
 use anyhow::{Result, bail, ensure};
@@ -10,7 +11,7 @@ use judge_sets::TableVerdict;
 use plan_check::{Verdict, judge_class};
 use plan_rules::{Plan, Rule, TablePlan};
 use std::alloc::{AllocError, Global};
-use task_core::{Class, FluentId, State, Task, in_space};
+use task_core::{Class, FluentId, MAX_FLUENTS, State, Task, in_space};
 
 fn is_match(rule: &Rule, state: &State) -> bool {
     for lit in &rule.cube {
@@ -34,7 +35,7 @@ fn first_match(rules: &[Rule], state: &State) -> Option<usize>
 
 /// The vectors of a list, and each of them with a fluent that is true.
 fn with_fluent(alloc: Global, states: &[State], fluent: FluentId) -> Result<Vec<State>, AllocError>
-    requires { fluent.0 < 256 }
+    requires { fluent.0 < most_fluents }
 {
     let mut more = Vec::new(alloc);
     for state in states {
@@ -44,11 +45,11 @@ fn with_fluent(alloc: Global, states: &[State], fluent: FluentId) -> Result<Vec<
     Ok(more)
 }
 
-/// All vectors of truth values over so many fluents, 256 at most.
+/// All vectors of truth values over so many fluents, `MAX_FLUENTS` at most.
 fn vectors(alloc: Global, fluents: u32) -> Result<Vec<State>, AllocError> {
     let mut states = vec![in alloc; State::none()]?;
     for number in 0..fluents {
-        if number < 256 {
+        if number < MAX_FLUENTS {
             states = with_fluent(alloc, &states, FluentId(number))?;
         }
     }

@@ -12,10 +12,10 @@ use plan_rules::Rule;
 use plan_theory::Found;
 use reach_plan::{plan_strong, plan_weak};
 use std::alloc::{AllocError, Global};
-use task_core::{ActionId, Class, FluentId, Lit, State, Task};
+use task_core::{ActionId, Class, FluentId, Lit, MAX_FLUENTS, State, Task};
 
 pub(crate) fn value_in(state: &State, fluent: FluentId) -> bool {
-    fluent.0 < 256 && state.get(fluent)
+    fluent.0 < MAX_FLUENTS && state.get(fluent)
 }
 
 /// The cube that one vector matches alone.

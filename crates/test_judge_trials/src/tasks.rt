@@ -6,7 +6,8 @@ use crate::dice::Dice;
 use std::alloc::{AllocError, Global};
 use std::rc::RcStr;
 use task_core::{
-    Alternative, Change, Cond, FluentId, GroundAction, InitSpec, Lit, Outcome, State, Task,
+    Alternative, Change, Cond, FluentId, GroundAction, InitSpec, Lit, MAX_FLUENTS, Outcome, State,
+    Task,
 };
 
 /// The names of fluents and actions.
@@ -108,7 +109,7 @@ fn initial(alloc: Global, dice: &mut Dice, fluents: u32) -> Result<InitSpec, All
     let mut facts = State::none();
     let mut entries = Vec::new(alloc);
     let lit = literal(dice, fluents);
-    if lit.positive && lit.fluent.0 < 256 {
+    if lit.positive && lit.fluent.0 < MAX_FLUENTS {
         facts = facts.with(lit.fluent, true);
     }
     if dice.once_in(2) {

@@ -9,6 +9,7 @@ use Rattle.task_core.specs.ContextPlans.{Configuration}
 use Rattle.task_core.specs.Cubes.{matches}
 use Rattle.task_core.specs.States.{vector}
 use Rattle.task_core.specs.declared.states.State.{State}
+use Rattle.task_core.specs.Limits.{most_fluents}
 use Rattle.cube_index.specs.Index.{answers, values_of}
 use Rattle.cube_index.specs.Places.{HasNone, IsFirstTrue}
 use Rattle.rule_lookup.specs.RunRules.{IsRunRuleOf, run_rules}
@@ -40,7 +41,7 @@ abbrev pub NoneBelow : ℕ → IndexedRules → State → ℕ → ℕ → Type 0
 NoneBelow n indexed state context from = (k : ℕ) (other : ContextRule) → k < from → slice_get (rules_in indexed) k ≡ Some other
     → is_for (record { state = vector n state; context = context }) other ≡ false
 
-module _ (n m : ℕ) (few : n ≤ 256) (indexed : IndexedRules) (is : AreIndexedFor n m indexed) (state : State) (context : ℕ) where
+module _ (n m : ℕ) (few : n ≤ most_fluents) (indexed : IndexedRules) (is : AreIndexedFor n m indexed) (state : State) (context : ℕ) where
   abbrev listed : List RunRule
   listed = indexed.rules.items
 

@@ -5,6 +5,7 @@ ghost use Rattle.command_base.specs.Answers.{denied};
 ghost use Rattle.never_executed.specs.Blocked.{AreNever};
 ghost use Rattle.relaxed_reach.specs.Literals.{can_be as can_have, has};
 ghost use Rattle.task_core.specs.Conditions.{ids_below};
+ghost use Rattle.task_core.specs.Limits.{most_fluents};
 ghost use Rattle.why_command.specs.Whys.{IsNever, never_text as text_of};
 
 use never_executed::{Relaxed, never_literals, push_blocked, push_reasons};
@@ -36,7 +37,7 @@ pub(crate) fn never_reached(alloc: Global, task: &Task) -> Result<Option<String>
 /// The goal of a task.
 fn goal_of(task: &Task) -> Option<&Cond>
     ensures wanted { IfSome result (λ goal. task.now.goal ≡ Some goal.now) }
-    ensures below { IfSome result (λ goal. ids_below 256 goal.now ≡ true) }
+    ensures below { IfSome result (λ goal. ids_below most_fluents goal.now ≡ true) }
 {
     task.goal.as_ref()
 }
@@ -48,7 +49,7 @@ fn never_text(
     goal: &Cond,
     lits: &[Lit],
 ) -> Result<String, AllocError>
-    requires { ids_below 256 goal.now ≡ true }
+    requires { ids_below most_fluents goal.now ≡ true }
     ensures { IfOk result (λ text. string_bytes text
         ≡ text_of relaxed.now.task.now (has relaxed.now.literals.now) goal.now lits.now) }
 {

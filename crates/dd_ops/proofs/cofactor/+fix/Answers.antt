@@ -8,6 +8,7 @@ use Rattle.dd_ops.specs.Cached.{RemembersCofactors, IsFixed}
 use Rattle.dd_ops.proofs.CachedLemmas.{same_pairs, adds_more}
 use Rattle.dd_ops.proofs.CofactorLemmas.{lo_smaller, lo_later, hi_smaller, hi_later, node_later, cofactor_extends}
 use Rattle.dd_nodes.specs.declared.node.DdErr.TheVariants.{Full}
+use Rattle.dd_nodes.specs.Limits.{most_variables}
 use Rattle.dd_ops.proofs.ErrorLemmas.{passed_on}
 use Rattle.dd_ops.proofs.HalvesLemmas.{keeps_more}
 use Rattle.dd_ops.proofs.GrowthFixed.{fixed_lo_adds, fixed_lo_full, fixed_hi_adds, fixed_hi_full, fixed_rest_adds, fixed_rest_full}
@@ -20,9 +21,9 @@ pub fix-requires : goal.fix-requires
 fix-requires t c =
     let dd = c.args.dd.now in
     let there : node_at dd.nodes c.args.f.0 ≡ Some c.in-Some.node = sym c.in-Some.ensures.node in
-    let smaller : 256 - level_of dd.nodes c.in-Some.node.lo.0 < 256 - level_of dd.nodes c.args.f.0 =
+    let smaller : most_variables - level_of dd.nodes c.in-Some.node.lo.0 < most_variables - level_of dd.nodes c.args.f.0 =
     lo_smaller dd c.requires.table c.args.f.0 c.in-Some.node there dd.nodes (extends_same dd.nodes) in
-    let falls : 256 - level_of dd.nodes c.in-Some.node.lo.0 < t = omega (arith, c.decreases) in (
+    let falls : most_variables - level_of dd.nodes c.in-Some.node.lo.0 < t = omega (arith, c.decreases) in (
       falls,
       (
         c.requires.table,
@@ -38,9 +39,9 @@ fix-requires-2 t c =
     let dd = c.args.dd.now in
     let later = c.fix.new.dd in
     let there : node_at dd.nodes c.args.f.0 ≡ Some c.in-Some.node = sym c.in-Some.ensures.node in
-    let smaller : 256 - level_of later.nodes c.in-Some.node.hi.0 < 256 - level_of dd.nodes c.args.f.0 =
+    let smaller : most_variables - level_of later.nodes c.in-Some.node.hi.0 < most_variables - level_of dd.nodes c.args.f.0 =
     hi_smaller dd c.requires.table c.args.f.0 c.in-Some.node there later.nodes c.in_ok-lo.ensures.kept.nodes in
-    let falls : 256 - level_of later.nodes c.in-Some.node.hi.0 < t = omega (arith, c.decreases) in
+    let falls : most_variables - level_of later.nodes c.in-Some.node.hi.0 < t = omega (arith, c.decreases) in
     (falls, (c.in_ok-lo.ensures.table, (hi_later dd c.requires.table c.args.f.0 c.in-Some.node there later.nodes c.in_ok-lo.ensures.kept.nodes, c.in_ok-lo.ensures.memo)))
 
 pub join_fixed-requires-clause-node : goal.join_fixed-requires-clause-node

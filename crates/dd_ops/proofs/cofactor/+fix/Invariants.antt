@@ -2,6 +2,7 @@
 use Rattle.std.proofs.Common.{◌-◌}
 use Rattle.dd_ops.specs.Answers.{level_of}
 use Rattle.dd_ops.proofs.cofactor.+fix.Given as goal
+use Rattle.dd_nodes.specs.Limits.{most_variables}
 
 abbrev pub decreases-fix : goal.decreases-fix
-decreases-fix l = 256 - level_of l.dd.now.nodes l.f.0
+decreases-fix l = most_variables - level_of l.dd.now.nodes l.f.0

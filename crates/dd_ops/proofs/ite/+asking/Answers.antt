@@ -9,6 +9,7 @@ use Rattle.dd_ops.proofs.ValueLemmas.{ok_then}
 use Rattle.dd_ops.proofs.HalvesLemmas.{half_smaller, half_answers, keeps_more}
 use Rattle.dd_ops.proofs.GrowthHalves.{adds_lo, full_lo, adds_hi, full_hi, adds_rest, full_rest}
 use Rattle.dd_nodes.specs.declared.node.DdErr.TheVariants.{Full}
+use Rattle.dd_nodes.specs.Limits.{most_variables}
 use Rattle.dd_ops.proofs.ErrorLemmas.{passed_on}
 use Rattle.dd_ops.proofs.ite.+asking.Goals as goal
 
@@ -18,7 +19,7 @@ answer-answer_open-requires t c =
     let restated : IsRestated dd.nodes c.args.q c.in-Open.p = c.in-Open.ensures.1 dd.nodes c.requires.asked in
     let tests : 1 < c.in-Open.p.f.0 = c.in-Open.ensures.0 in
     let greater : top_of dd.nodes c.args.q ≤ top_of dd.nodes c.in-Open.p = restated_top dd c.requires.table c.args.q c.in-Open.p restated in
-    let falls : 2 * (256 - top_of dd.nodes c.in-Open.p) < t = omega (arith, c.decreases) in
+    let falls : 2 * (most_variables - top_of dd.nodes c.in-Open.p) < t = omega (arith, c.decreases) in
     (falls, (c.requires.table, (restated.asked, (tests, c.requires.memo))))
 
 pub answer-returns-in-Open-clause-answer : goal.answer-returns-in-Open-clause-answer
@@ -31,9 +32,9 @@ answer-returns-in-Open-clause-answer t c = ok_then c.answer_open.result c.answer
 pub answer_open-answer-requires : goal.answer_open-answer-requires
 answer_open-answer-requires t c =
     let dd = c.args.dd.now in
-    let smaller : 256 - top_of dd.nodes c.halve-halves.result.lo < 256 - top_of dd.nodes c.args.q =
+    let smaller : most_variables - top_of dd.nodes c.halve-halves.result.lo < most_variables - top_of dd.nodes c.args.q =
     half_smaller dd c.requires.table c.args.q c.requires.asked c.requires.tests c.halve-halves.result.var c.halve-halves.ensures.top dd c.requires.table refl false c.halve-halves.result.lo c.halve-halves.ensures.lo in
-    let falls : 2 * (256 - top_of dd.nodes c.halve-halves.result.lo) + 1 < t = omega (arith, c.decreases) in
+    let falls : 2 * (most_variables - top_of dd.nodes c.halve-halves.result.lo) + 1 < t = omega (arith, c.decreases) in
     (falls, (c.requires.table, (half_asked dd.nodes c.halve-halves.result.var false c.args.q c.halve-halves.result.lo c.halve-halves.ensures.lo, subst (Remembers dd.nodes) (sym c.recall_answer.ensures.same) c.requires.memo)))
 
 pub answer_open-answer-requires-2 : goal.answer_open-answer-requires-2
@@ -41,9 +42,9 @@ answer_open-answer-requires-2 t c =
     let dd = c.args.dd.now in
     let later = c.answer.new.dd in
     let half = half_extends dd.nodes later.nodes c.in_ok-lo.ensures.kept.nodes dd.vars c.requires.table.reduced c.halve-halves.result.var true c.args.q c.halve-halves.result.hi c.requires.asked c.halve-halves.ensures.hi in
-    let smaller : 256 - top_of later.nodes c.halve-halves.result.hi < 256 - top_of dd.nodes c.args.q =
+    let smaller : most_variables - top_of later.nodes c.halve-halves.result.hi < most_variables - top_of dd.nodes c.args.q =
     half_smaller dd c.requires.table c.args.q c.requires.asked c.requires.tests c.halve-halves.result.var c.halve-halves.ensures.top later c.in_ok-lo.ensures.table c.in_ok-lo.ensures.kept.vars true c.halve-halves.result.hi half in
-    let falls : 2 * (256 - top_of later.nodes c.halve-halves.result.hi) + 1 < t = omega (arith, c.decreases) in
+    let falls : 2 * (most_variables - top_of later.nodes c.halve-halves.result.hi) + 1 < t = omega (arith, c.decreases) in
     (falls, (c.in_ok-lo.ensures.table, (half_asked later.nodes c.halve-halves.result.var true c.args.q c.halve-halves.result.hi half, c.in_ok-lo.ensures.memo)))
 
 pub answer_open-join-requires-clause-answers : goal.answer_open-join-requires-clause-answers

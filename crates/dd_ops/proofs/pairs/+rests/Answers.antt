@@ -14,6 +14,7 @@ use Rattle.dd_ops.proofs.ValueLemmas.{ok_then}
 use Rattle.dd_ops.proofs.HalvesLemmas.{half_smaller, half_answers, keeps_more}
 use Rattle.dd_ops.proofs.GrowthHalves.{adds_lo, full_lo, adds_hi, full_hi, adds_rest, full_rest}
 use Rattle.dd_nodes.specs.declared.node.DdErr.TheVariants.{Full}
+use Rattle.dd_nodes.specs.Limits.{most_variables}
 use Rattle.dd_ops.proofs.ErrorLemmas.{passed_on}
 use Rattle.dd_ops.proofs.pairs.+rests.Goals as goal
 
@@ -23,7 +24,7 @@ answer_rest-open_rest-requires t c =
     let restated : IsRestated dd.nodes (rest_of c.args.p) (rest_of c.in_order.result) = c.in_order.ensures.same dd.nodes c.requires.asked in
     let tests : 1 < (rest_of c.in_order.result).f.0 = c.in_order.ensures.tests in
     let greater : top_of dd.nodes (rest_of c.args.p) ≤ top_of dd.nodes (rest_of c.in_order.result) = restated_top dd c.requires.table (rest_of c.args.p) (rest_of c.in_order.result) restated in
-    let falls : 2 * (256 - top_of dd.nodes (rest_of c.in_order.result)) < t = omega (arith, c.decreases) in
+    let falls : 2 * (most_variables - top_of dd.nodes (rest_of c.in_order.result)) < t = omega (arith, c.decreases) in
     (falls, (c.requires.table, (restated.asked, (tests, c.requires.memo))))
 
 pub answer_rest-returns-in-None-clause-answer : goal.answer_rest-returns-in-None-clause-answer
@@ -36,9 +37,9 @@ answer_rest-returns-in-None-clause-answer t c = ok_then c.open_rest.result c.ope
 pub open_rest-answer_rest-requires : goal.open_rest-answer_rest-requires
 open_rest-answer_rest-requires t c =
     let dd = c.args.dd.now in
-    let smaller : 256 - top_of dd.nodes (rest_of c.halve_pair-halves.result.lo) < 256 - top_of dd.nodes (rest_of c.args.p) =
+    let smaller : most_variables - top_of dd.nodes (rest_of c.halve_pair-halves.result.lo) < most_variables - top_of dd.nodes (rest_of c.args.p) =
     half_smaller dd c.requires.table (rest_of c.args.p) c.requires.asked c.requires.tests c.halve_pair-halves.result.var (pair_top c.args.dd.now c.requires.table c.args.p c.halve_pair-halves.result.var c.halve_pair-halves.ensures.top 2) dd c.requires.table refl false (rest_of c.halve_pair-halves.result.lo) (pair_lo c.args.dd.now.vars c.args.dd.now.nodes c.requires.table.reduced 2 c.args.p c.halve_pair-halves.result c.halve_pair-halves.ensures) in
-    let falls : 2 * (256 - top_of dd.nodes (rest_of c.halve_pair-halves.result.lo)) + 1 < t = omega (arith, c.decreases) in
+    let falls : 2 * (most_variables - top_of dd.nodes (rest_of c.halve_pair-halves.result.lo)) + 1 < t = omega (arith, c.decreases) in
     (falls, (c.requires.table, (half_asked dd.nodes c.halve_pair-halves.result.var false (rest_of c.args.p) (rest_of c.halve_pair-halves.result.lo) (pair_lo c.args.dd.now.vars c.args.dd.now.nodes c.requires.table.reduced 2 c.args.p c.halve_pair-halves.result c.halve_pair-halves.ensures), subst (Remembers dd.nodes) (sym c.recall_answer.ensures.same) c.requires.memo)))
 
 pub open_rest-answer_rest-requires-2 : goal.open_rest-answer_rest-requires-2
@@ -46,9 +47,9 @@ open_rest-answer_rest-requires-2 t c =
     let dd = c.args.dd.now in
     let later = c.answer_rest.new.dd in
     let half = half_extends dd.nodes later.nodes c.in_ok-lo.ensures.kept.nodes dd.vars c.requires.table.reduced c.halve_pair-halves.result.var true (rest_of c.args.p) (rest_of c.halve_pair-halves.result.hi) c.requires.asked (pair_hi c.args.dd.now.vars c.args.dd.now.nodes c.requires.table.reduced 2 c.args.p c.halve_pair-halves.result c.halve_pair-halves.ensures) in
-    let smaller : 256 - top_of later.nodes (rest_of c.halve_pair-halves.result.hi) < 256 - top_of dd.nodes (rest_of c.args.p) =
+    let smaller : most_variables - top_of later.nodes (rest_of c.halve_pair-halves.result.hi) < most_variables - top_of dd.nodes (rest_of c.args.p) =
     half_smaller dd c.requires.table (rest_of c.args.p) c.requires.asked c.requires.tests c.halve_pair-halves.result.var (pair_top c.args.dd.now c.requires.table c.args.p c.halve_pair-halves.result.var c.halve_pair-halves.ensures.top 2) later c.in_ok-lo.ensures.table c.in_ok-lo.ensures.kept.vars true (rest_of c.halve_pair-halves.result.hi) half in
-    let falls : 2 * (256 - top_of later.nodes (rest_of c.halve_pair-halves.result.hi)) + 1 < t = omega (arith, c.decreases) in
+    let falls : 2 * (most_variables - top_of later.nodes (rest_of c.halve_pair-halves.result.hi)) + 1 < t = omega (arith, c.decreases) in
     (falls, (c.in_ok-lo.ensures.table, (half_asked later.nodes c.halve_pair-halves.result.var true (rest_of c.args.p) (rest_of c.halve_pair-halves.result.hi) half, c.in_ok-lo.ensures.memo)))
 
 pub open_rest-join_pair-requires-clause-answers : goal.open_rest-join_pair-requires-clause-answers

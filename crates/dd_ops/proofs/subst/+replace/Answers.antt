@@ -13,6 +13,7 @@ use Rattle.dd_ops.proofs.ReplacedLemmas.{indexed_extends, followed_answer, follo
 use Rattle.dd_ops.proofs.ValueLemmas.{ok_then}
 use Rattle.dd_ops.proofs.SubstLemmas.{numbers_extend, is_replaced_extends}
 use Rattle.dd_nodes.specs.declared.node.DdErr.TheVariants.{Full}
+use Rattle.dd_nodes.specs.Limits.{most_variables}
 use Rattle.dd_ops.proofs.ErrorLemmas.{passed_on}
 use Rattle.dd_ops.proofs.HalvesLemmas.{keeps_more}
 use Rattle.dd_ops.proofs.GrowthReplaced.{replaced_lo_adds, replaced_lo_full, replaced_hi_adds, replaced_hi_full, replaced_rest_adds, replaced_rest_full}
@@ -52,9 +53,9 @@ pub replace-requires-2 : goal.replace-requires-2
 replace-requires-2 t c =
     let dd = c.args.dd.now in
     let there : node_at dd.nodes c.args.f.0 ≡ Some c.in-Some.node = c.in-Some.ensures.node in
-    let smaller : 256 - level_of dd.nodes c.in-Some.node.lo.0 < 256 - level_of dd.nodes c.args.f.0 =
+    let smaller : most_variables - level_of dd.nodes c.in-Some.node.lo.0 < most_variables - level_of dd.nodes c.args.f.0 =
     lo_smaller dd c.requires.table c.args.f.0 c.in-Some.node there dd.nodes (extends_same dd.nodes) in
-    let falls : 256 - level_of dd.nodes c.in-Some.node.lo.0 < t = omega (arith, c.decreases) in (
+    let falls : most_variables - level_of dd.nodes c.in-Some.node.lo.0 < t = omega (arith, c.decreases) in (
       falls,
       (
         c.requires.table,
@@ -76,9 +77,9 @@ replace-requires-3 t c =
     let dd = c.args.dd.now in
     let later = c.replace-2.new.dd in
     let there : node_at dd.nodes c.args.f.0 ≡ Some c.in-Some.node = c.in-Some.ensures.node in
-    let smaller : 256 - level_of later.nodes c.in-Some.node.hi.0 < 256 - level_of dd.nodes c.args.f.0 =
+    let smaller : most_variables - level_of later.nodes c.in-Some.node.hi.0 < most_variables - level_of dd.nodes c.args.f.0 =
     hi_smaller dd c.requires.table c.args.f.0 c.in-Some.node there later.nodes c.in_ok-lo.ensures.kept.nodes in
-    let falls : 256 - level_of later.nodes c.in-Some.node.hi.0 < t = omega (arith, c.decreases) in (
+    let falls : most_variables - level_of later.nodes c.in-Some.node.hi.0 < t = omega (arith, c.decreases) in (
       falls,
       (
         c.in_ok-lo.ensures.table,

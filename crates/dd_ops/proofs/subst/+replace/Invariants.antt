@@ -2,6 +2,7 @@
 use Rattle.std.proofs.Common.{◌-◌}
 use Rattle.dd_ops.specs.Answers.{level_of}
 use Rattle.dd_ops.proofs.subst.+replace.Given as goal
+use Rattle.dd_nodes.specs.Limits.{most_variables}
 
 abbrev pub decreases-replace : goal.decreases-replace
-decreases-replace l = 256 - level_of l.dd.now.nodes l.f.0
+decreases-replace l = most_variables - level_of l.dd.now.nodes l.f.0

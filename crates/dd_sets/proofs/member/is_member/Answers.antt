@@ -1,6 +1,7 @@
 -- The walk goes to the child whose function is that of the node at the state, and ends at a constant.
 use Rattle.std.proofs.Common.{◌≡◌, ◌∙◌, sym, ap, ◌<◌, ◌≤◌, ◌+◌, length, arith, Some}
 use Rattle.dd_nodes.specs.NodeList.{Values, node_at, next_from, next, function}
+use Rattle.dd_nodes.specs.Limits.{most_variables}
 use Rattle.dd_nodes.proofs.NodeLemmas.{node_place, next_lower, function_next, function_without_node}
 use Rattle.task_core.specs.States.{truth}
 use Rattle.dd_sets.specs.Orders.{at_place}
@@ -9,7 +10,7 @@ use Rattle.dd_sets.proofs.member.is_member.Goals as goal
 pub child-at-requires : goal.child-at-requires
 child-at-requires c =
     let within : c.in-Some.node.var < c.args.dd.now.vars = c.requires.table.reduced.in_range c.loop-node.at.0 c.in-Some.node (sym c.in-Some.ensures.node) in
-    let few : c.args.dd.now.vars ≤ 256 = c.requires.table.few_vars in
+    let few : c.args.dd.now.vars ≤ most_variables = c.requires.table.few_vars in
     let stays : at_place c.args.order.now.fluents c.in-Some.node.var < c.args.dd.now.vars = c.requires.order c.in-Some.node.var within in
     omega arith
 

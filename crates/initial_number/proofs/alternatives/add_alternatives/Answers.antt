@@ -2,6 +2,7 @@ use Rattle.std.proofs.Common.{arith, sym, ◌≡◌, ◌∙◌, ℕ, subst, ap, 
 use Rattle.std.specs.List.{fold}
 use Rattle.task_core.specs.States.{ShowsVectors, truth, vector}
 use Rattle.task_core.specs.Initial.{add_state, applied, applied_value, entry_of}
+use Rattle.task_core.specs.Limits.{most_fluents}
 use Rattle.task_core.proofs.StateLists.{lits_within, alternative_at, length-entry_of, one_alternative, applied_vector, applied_within}
 use Rattle.initial_number.proofs.alternatives.add_alternatives.Goals as goal
 
@@ -12,7 +13,7 @@ with_literals-requires c =
     let x = c.alternative-item.result in
     let h : i < length (entry_of entry) = subst (λ k. i < k) (sym (length-entry_of entry)) c.loop-alternative-test.true in
     let at = alternative_at entry i x c.loop-alternative-test.true c.alternative-item.is in
-    rw c.deref.ensures.value (lits_within 256 (entry_of entry) i x.lits.items c.requires h at)
+    rw c.deref.ensures.value (lits_within most_fluents (entry_of entry) i x.lits.items c.requires h at)
 
 pub loop-alternative-preserved : goal.loop-alternative-preserved
 loop-alternative-preserved c = λ n vs all within shows.

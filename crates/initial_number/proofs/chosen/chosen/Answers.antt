@@ -3,6 +3,7 @@ use Rattle.std.proofs.Math.Nat.{mod-lt}
 use Rattle.std.proofs.lemmas.List.{get_or_default}
 use Rattle.task_core.specs.Initial.{applied_value, entry_of}
 use Rattle.task_core.specs.States.{truth}
+use Rattle.task_core.specs.Limits.{most_fluents}
 use Rattle.task_core.proofs.StateLists.{length-entry_of, lits_within}
 use Rattle.initial_number.proofs.ChoiceLemmas.{IsChosen, digit_lits, entry_in_loop, entry_some, first_chosen, fits_in_state, next_chosen}
 use Rattle.initial_number.proofs.chosen.chosen.Goals as goal
@@ -22,7 +23,7 @@ with_literals-state-requires c =
     let lits_are = digit_lits x c.args.number c.loop-entry.weight c.len-weight.result c.len.result c.index.result.now (omega (arith, c.len-weight.ensures, x.ok.0)) (omega (arith, c.len.ensures, x.ok.0)) some c.index.ensures in
     let low : digit < length entry = mod-lt (c.args.number / (c.loop-entry.weight / length entry)) some in
     let lits = get_or entry digit [] in
-    rw (c.deref.ensures.value ∙ lits_are) (lits_within 256 entry digit lits (fits_in_state task i entry at) low (get_or_default entry digit lits [] low))
+    rw (c.deref.ensures.value ∙ lits_are) (lits_within most_fluents entry digit lits (fits_in_state task i entry at) low (get_or_default entry digit lits [] low))
 
 pub loop-entry-preserved : goal.loop-entry-preserved
 loop-entry-preserved c =

@@ -7,6 +7,7 @@ use Rattle.task_core.specs.States.{truth}
 use Rattle.task_core.specs.Tasks.{fluent_count}
 use Rattle.task_core.specs.Vectors.{same_value}
 use Rattle.task_core.specs.declared.actions.Alternative.{Alternative}
+use Rattle.task_core.specs.Limits.{most_fluents}
 use Rattle.task_core.proofs.StateLists.{entry_widens, entry_within_at}
 use Rattle.list_laws.proofs.Elements.{list_any-map}
 use Rattle.relaxed_reach.specs.Literals.{has}
@@ -23,7 +24,7 @@ with_entry-literals-requires c =
     let h : i < length task.init.entries.items = subst (λ xs. i < length xs) items c.loop-entry-test.true in
     let is : x ≡ get_or task.init.entries.items i x = subst (λ xs. x ≡ get_or xs i x) items c.entry-item.is in
     let within = entry_within_at n task.init i x task.entries_within h is in
-    rw c.deref.ensures.value (entry_widens n 256 task.few_fluents (entry_of x.items) within)
+    rw c.deref.ensures.value (entry_widens n most_fluents task.few_fluents (entry_of x.items) within)
 
 pub loop-entry-init : goal.loop-entry-init
 loop-entry-init c = λ f value. facts_begin c.args.task.now.init.facts f value

@@ -2,6 +2,7 @@ use Rattle.std.proofs.Common.{◌≡◌, ◌<◌, ◌∙◌, ◌||◌, Bool, ap,
 use Rattle.std.specs.List.{list_all}
 use Rattle.task_core.specs.Initial.{entry_of, lit_within, names_it}
 use Rattle.task_core.specs.declared.actions.Alternative.{Alternative}
+use Rattle.task_core.specs.Limits.{most_fluents}
 use Rattle.task_core.proofs.StateLists.{alternative_at, alternatives_within, length-entry_of, lits_within}
 use Rattle.list_laws.proofs.Elements.{list_any-map}
 use Rattle.relaxed_reach.specs.Literals.{has}
@@ -14,8 +15,8 @@ with_all-more-requires c =
     let i = c.loop-alternative.alternative-index in
     let x = c.alternative-item.result in
     let within = subst (λ k. i < k) (sym (length-entry_of entry)) c.loop-alternative-test.true in
-    subst (λ lits. list_all (lit_within 256) lits ≡ true) (sym c.deref.ensures.value)
-    (lits_within 256 (entry_of entry) i x.lits.items (alternatives_within 256 (entry_of entry) c.requires) within (alternative_at entry i x c.loop-alternative-test.true c.alternative-item.is))
+    subst (λ lits. list_all (lit_within most_fluents) lits ≡ true) (sym c.deref.ensures.value)
+    (lits_within most_fluents (entry_of entry) i x.lits.items (alternatives_within most_fluents (entry_of entry) c.requires) within (alternative_at entry i x c.loop-alternative-test.true c.alternative-item.is))
 
 pub loop-alternative-preserved : goal.loop-alternative-preserved
 loop-alternative-preserved c = λ f value.

@@ -3,6 +3,7 @@ use Rattle.std.specs.List.{fold}
 use Rattle.std.proofs.lemmas.Result.{err_from_is_err_and}
 use Rattle.task_core.specs.States.{ShowsVectors, truth, vector}
 use Rattle.task_core.specs.Initial.{add_state, applied, applied_value, entry_of}
+use Rattle.task_core.specs.Limits.{most_fluents}
 use Rattle.task_core.proofs.StateLists.{lits_within, alternative_at, length-entry_of, one_alternative, applied_vector, applied_within, alternatives_grow}
 use Rattle.task_core.proofs.initial.add_alternatives.Goals as goal
 
@@ -13,7 +14,7 @@ with_literals-requires c =
     let x = c.alternative-item.result in
     let h : i < length (entry_of entry) = subst (λ k. i < k) (sym (length-entry_of entry)) c.loop-alternative-test.true in
     let at = alternative_at entry i x c.loop-alternative-test.true c.alternative-item.is in
-    rw c.deref.ensures.value (lits_within 256 (entry_of entry) i x.lits.items c.requires.entry h at)
+    rw c.deref.ensures.value (lits_within most_fluents (entry_of entry) i x.lits.items c.requires.entry h at)
 
 -- what the call of `add` gets, in the terms of the alternatives so far
 pub returns-in_err-add-clause-too_many : goal.returns-in_err-add-clause-too_many

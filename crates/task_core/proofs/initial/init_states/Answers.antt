@@ -5,6 +5,7 @@ use Rattle.std.proofs.lemmas.Bool.{cases_lt}
 use Rattle.task_core.specs.States.{ShowsVectors}
 use Rattle.task_core.specs.Initial.{after_entry, entries_of, entry_of, entry_within, facts_of}
 use Rattle.task_core.specs.Tasks.{fluent_count, states_after_entries}
+use Rattle.task_core.specs.Limits.{most_fluents}
 use Rattle.task_core.proofs.StateLists.{entry_at, entry_widens, entry_within_at, length-entries_of, length_shown, one_entry}
 use Rattle.task_core.proofs.initial.init_states.Goals as goal
 
@@ -18,7 +19,7 @@ next_states-requires-clause-entry c =
     let h : i < length task.init.entries.items = subst (λ xs. i < length xs) items c.loop-entry-test.true in
     let is : x ≡ get_or task.init.entries.items i x = subst (λ xs. x ≡ get_or xs i x) items c.entry-item.is in
     let within = entry_within_at n task.init i x task.entries_within h is in
-    rw c.deref.ensures.value (entry_widens n 256 task.few_fluents (entry_of x.items) within)
+    rw c.deref.ensures.value (entry_widens n most_fluents task.few_fluents (entry_of x.items) within)
 
 pub returns-in_err-states-2-clause-too_many : goal.returns-in_err-states-2-clause-too_many
 returns-in_err-states-2-clause-too_many c =

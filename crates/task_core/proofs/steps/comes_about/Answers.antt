@@ -6,13 +6,14 @@ use Rattle.task_core.specs.Initial.{lit_within, names_it}
 use Rattle.task_core.specs.States.{truth}
 use Rattle.task_core.specs.Vectors.{same_value}
 use Rattle.task_core.specs.declared.literals.Lit.{Lit}
+use Rattle.task_core.specs.Limits.{most_fluents}
 use Rattle.task_core.proofs.Changes.{comes_not, unsigned}
 use Rattle.task_core.proofs.steps.comes_about.Goals as goal
 
 pub cond_holds-requires : goal.cond_holds-requires
 cond_holds-requires c =
     let x = c.args.change.now in
-    (and_parts (ids_below 256 x.cond) (list_all (lit_within 256) x.lits.items) c.requires.within).0
+    (and_parts (ids_below most_fluents x.cond) (list_all (lit_within most_fluents) x.lits.items) c.requires.within).0
 
 pub returns-else-has_sign : goal.returns-else-has_sign
 returns-else-has_sign c = λ f.

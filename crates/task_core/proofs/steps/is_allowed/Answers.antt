@@ -1,12 +1,18 @@
 use Rattle.std.proofs.Common.{◌∙◌, sym}
-use Rattle.task_core.proofs.TaskSystem.{allowed_value, exec_within_256}
+use Rattle.task_core.proofs.TaskSystem.{allowed_else, allowed_then, exec_within_most}
 use Rattle.task_core.proofs.steps.is_allowed.Goals as goal
 
 pub cond_holds-requires : goal.cond_holds-requires
-cond_holds-requires c = exec_within_256 c.args.task.now c.args.action.0 c.index.result.now c.requires.in_range c.index.ensures
+cond_holds-requires c = exec_within_most c.args.task.now c.args.action.0 c.index.result.now c.requires.in_range c.index.ensures
 
-pub returns-then-in_space : goal.returns-then-in_space
-returns-then-in_space c =
-    c.cond_holds.ensures.value
-    ∙ allowed_value c.args.task.now c.args.action.0 c.index.result.now c.requires.in_range c.index.ensures c.args.state.now
-    (sym c.in_space.ensures.value ∙ c.if-in_space.true)
+pub returns-then-cond_holds : goal.returns-then-cond_holds
+returns-then-cond_holds c =
+    c.in_space.ensures.value
+    ∙ allowed_then c.args.task.now c.args.action.0 c.index.result.now c.requires.in_range c.index.ensures c.args.state.now
+    (sym c.cond_holds.ensures.value ∙ c.if-cond_holds.true)
+
+pub returns-else-cond_holds : goal.returns-else-cond_holds
+returns-else-cond_holds c =
+    c.if-cond_holds.false
+    ∙ allowed_else c.args.task.now c.args.action.0 c.index.result.now c.requires.in_range c.index.ensures c.args.state.now
+    (sym c.cond_holds.ensures.value ∙ c.if-cond_holds.false)

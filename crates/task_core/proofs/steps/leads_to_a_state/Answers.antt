@@ -5,7 +5,7 @@ use Rattle.task_core.specs.States.{vector}
 use Rattle.task_core.specs.Tasks.{fluent_count, in_space}
 use Rattle.task_core.specs.declared.actions.Outcome.{Outcome}
 use Rattle.task_core.proofs.StateSpace.{any_here, any_later}
-use Rattle.task_core.proofs.TaskSystem.{after_vector, always_leads, leads_value, outcome_within_256}
+use Rattle.task_core.proofs.TaskSystem.{after_vector, always_leads, leads_value, outcome_within_most}
 use Rattle.task_core.proofs.steps.leads_to_a_state.Goals as goal
 
 pub returns-then-always_holds : goal.returns-then-always_holds
@@ -27,7 +27,7 @@ state_after-requires c =
     let x = c.index.result.now in
     let items = c.deref-outcome-items.ensures.value in
     record {
-      within = outcome_within_256 c.args.task.now c.args.action.0 x c.requires.in_range c.index.ensures i o
+      within = outcome_within_most c.args.task.now c.args.action.0 x c.requires.in_range c.index.ensures i o
           (subst (λ os. i < length os) items c.loop-outcome-test.true)
           (subst (λ os. o ≡ get_or os i o) items c.outcome-item.is);
     }

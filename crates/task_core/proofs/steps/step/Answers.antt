@@ -1,12 +1,12 @@
 use Rattle.task_core.specs.States.{vector}
 use Rattle.task_core.specs.Tasks.{fluent_count}
-use Rattle.task_core.proofs.TaskSystem.{numbered_is, outcome_at, outcome_within_256, result_within, result_after}
+use Rattle.task_core.proofs.TaskSystem.{numbered_is, outcome_at, outcome_within_most, result_within, result_after}
 use Rattle.task_core.proofs.steps.step.Goals as goal
 
 pub state_after-requires : goal.state_after-requires
 state_after-requires c = record {
   within =
-      outcome_within_256 c.args.task.now c.args.action.0 c.index.result.now c.requires.action_in_range c.index.ensures
+      outcome_within_most c.args.task.now c.args.action.0 c.index.result.now c.requires.action_in_range c.index.ensures
       c.args.outcome c.index-2.result.now (outcome_at c.args.task.now c.args.action.0 c.index.result.now c.requires.action_in_range c.index.ensures c.args.outcome c.requires.outcome_in_range) c.index-2.ensures;
 }
 

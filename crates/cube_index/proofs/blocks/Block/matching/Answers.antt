@@ -1,6 +1,7 @@
 use Rattle.std.proofs.Common.{◌≡◌, ◌∙◌, sym, ap, subst, ◌<◌, List, length, get_or, take}
 use Rattle.task_core.specs.States.{truth}
 use Rattle.task_core.specs.Vectors.{value_of}
+use Rattle.task_core.specs.Limits.{most_fluents}
 use Rattle.task_core.proofs.TaskSystem.{value_of-vector}
 use Rattle.cube_index.specs.Agreement.{agrees, agrees_with_all, has_bit, word_for}
 use Rattle.cube_index.specs.Index.{values_of}
@@ -31,5 +32,5 @@ loop-test-preserved c = λ k h.
     subst (λ (l : List Test). c.word-left.result ≡ word_for (get_or l i none) c.get.result) same c.word-left.ensures in
     let value : c.get.result ≡ value_of (values_of state) (get_or tests i none).fluent.0 =
     subst (λ (l : List Test). c.get.result ≡ truth state (get_or l i none).fluent.0) same c.get.ensures.value
-    ∙ sym (value_of-vector 256 state (get_or tests i none).fluent.0 (c.requires i none lt)) in
+    ∙ sym (value_of-vector most_fluents state (get_or tests i none).fluent.0 (c.requires i none lt)) in
     one_test_more (values_of state) k tests i none c.loop-test.left c.word-left.result c.args.places c.get.result lt (c.loop-test.invariant k h) word value

@@ -3,7 +3,7 @@ use Rattle.task_core.proofs.Bits.{set_bit_same, set_bit_other, set_bit_words}
 use Rattle.task_core.proofs.states.State.set.Goals as goal
 
 pub invariant_of-result : goal.invariant_of-result
-invariant_of-result c = record { four_words = set_bit_words c.args.self.now.bits c.args.f.0 c.args.self.now.four_words c.requires }
+invariant_of-result c = record { state_words = set_bit_words c.args.self.now.bits c.args.f.0 c.args.self.now.state_words c.requires }
 
 pub returns-clause-changed : goal.returns-clause-changed
 returns-clause-changed c =
