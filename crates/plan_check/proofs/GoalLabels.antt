@@ -2,20 +2,16 @@
 use Rattle.std.proofs.Common.{◌≡◌, ◌⊎◌, ◌↔◌, ℕ, ◌+◌, ◌<◌, ◌≤◌, Bool, true, false, List, [], ◌∷◌, length, drop, get_or, map, sym, ap, ◌∙◌, subst, arith, ⊎_elim, inl, inr}
 use Rattle.std.proofs.lemmas.Bool.{false≢true, or_cases, or_left, or_right, and_from}
 use Rattle.std.proofs.lemmas.List.{drop_more, drop_all}
-use Rattle.std.specs.Prelude.{Box}
-use Rattle.std.specs.declared.alloc.Global.{Global}
-use Rattle.ctl_syntax.specs.Goals.{CtlTree, all, any, implication, ax, ex, af, ef, ag, eg, au, eu, aw, ew, goal_row}
+use Rattle.ctl_syntax.specs.Goals.{CtlTree, all, any, implication, goal_row}
 use Rattle.ctl_syntax.specs.Truth.{Anything, Nothing, Satisfies}
 use Rattle.ctl_syntax.specs.Values.{NamesBelow, ctl_value}
 use Rattle.ctl_syntax.specs.declared.goals.Ctl.{Ctl}
-use Rattle.ctl_syntax.specs.declared.goals.Ctl.TheVariants as Shut
-use Rattle.ctl_syntax.proofs.Shapes.{value_Imply, value_Ax, value_Ex, value_Af, value_Ef, value_Ag, value_Eg, value_Au, value_Eu, value_Aw, value_Ew}
 use Rattle.exec_graph.specs.Values.{followers_at, graph_size}
 use Rattle.exec_graph.specs.declared.graphs.Graph.{Graph}
 use Rattle.task_core.specs.declared.conditions.Cond.{Cond}
 use Rattle.task_core.specs.Limits.{most_fluents}
-use Rattle.plan_check.specs.Labels.{ComesAfter, HasFollowers, HoldsIn, IsJoined, IsLeast, IsNext, IsWeakest, Shows, ShowsGoal, mark_at}
-use Rattle.plan_check.specs.Plain.{HasFollowersInside}
+use Rattle.plan_check.specs.Labels.{ComesAfter, HoldsIn, IsJoined, IsLeast, IsNext, IsTotal, IsWeakest, Shows, ShowsGoal, finally_goal, globally_goal, mark_at, next_goal, until_goal, weak_goal}
+use Rattle.plan_check.specs.declared.spreading.Need.{Need}
 use Rattle.plan_check.specs.declared.spreading.Need.TheVariants.{One, Each}
 use Rattle.plan_check.specs.declared.labelling.Join.{Join}
 use Rattle.plan_check.specs.declared.labelling.Join.TheVariants.{And, Or, Implies}
@@ -126,7 +122,8 @@ pub joined_as : (join : Join) (left right first second now : List Bool) → firs
 joined_as join left right first second now is too h =
     subst (λ xs. IsJoined (length xs) join xs right now) is (subst (λ ys. IsJoined (length first) join first ys now) too h)
 
-module _ (n : ℕ) (graph : Graph) (inside : HasFollowersInside graph) (full : HasFollowers graph) where
+-- the label of a goal, from those of its parts as they were read
+module _ (graph : Graph) (total : IsTotal graph) (n : ℕ) where
   abbrev size : ℕ
   size = graph_size graph
 
@@ -134,112 +131,56 @@ module _ (n : ℕ) (graph : Graph) (inside : HasFollowersInside graph) (full : H
   next = followers_at graph
 
   -- where a goal is true
-  abbrev Is : Ctl → ℕ → Type 0
-  Is goal = Satisfies (ComesAfter graph) (HoldsIn n graph) (ctl_value goal)
+  abbrev Is : CtlTree Cond → ℕ → Type 0
+  Is = Satisfies (ComesAfter graph) (HoldsIn n graph)
 
   -- a label is that of a goal, whose names are known
-  abbrev Labels : Ctl → List Bool → Type 0
-  Labels goal marks = NamesBelow n (ctl_value goal) → ShowsGoal n graph (ctl_value goal) marks
+  abbrev Labels : CtlTree Cond → List Bool → Type 0
+  Labels goal marks = NamesBelow n goal → ShowsGoal n graph goal marks
 
-  shaped : (goal : Ctl) (tree : CtlTree Cond) (marks : List Bool) → ctl_value goal ≡ tree → (NamesBelow n tree → ShowsGoal n graph tree marks) → Labels goal marks
-  shaped goal tree marks is shows names = subst (λ t. ShowsGoal n graph t marks) (sym is) (shows (subst (NamesBelow n) is names))
+  -- the same label, as it was read
+  as_read : (G : ℕ → Type 0) (label read : List Bool) → read ≡ label → Shows size G label → Shows size G read
+  as_read G label read is = subst (Shows size G) (sym is)
 
-  -- the label of a part that was read, as that of the part
-  same_label : (part read : Ctl) (marks : List Bool) → read ≡ part → Labels read marks → Labels part marks
-  same_label part read marks is = subst (λ g. Labels g marks) is
+  pub of_next : (need : Need) (goal : CtlTree Cond) (label read marks : List Bool) → Labels goal label → read ≡ label → IsNext size need next read marks → Labels (next_goal need goal) marks
+  of_next One goal label read marks shows is h names = one_next size next total.inside (Is goal) read marks (as_read (Is goal) label read is (shows names)) h
+  of_next Each goal label read marks shows is h names = each_next size next total.inside (Is goal) read marks (as_read (Is goal) label read is (shows names)) h
 
-  module _ (goal : Ctl) (part : Box Ctl Global) (given : Ctl) (label read marks : List Bool) (same : given ≡ part.value) (shows : Labels given label) (reads : read ≡ label) where
-    pub of_Ax : goal ≡ Shut.Ax part → IsNext size Each next read marks → Labels goal marks
-    of_Ax is h =
-        shaped goal (ax (ctl_value part.value)) marks (ap ctl_value is ∙ value_Ax part)
-        (λ k. each_next size next inside (Is part.value) read marks (subst (λ l. Shows size (Is part.value) l) (sym reads) (same_label part.value given label same shows k)) h)
+  pub of_until : (need : Need) (left right : CtlTree Cond) (guard read target marks : List Bool) → Labels left guard → Labels right target → read ≡ guard → IsLeast size need next read target marks → Labels (until_goal need left right) marks
+  of_until One left right guard read target marks first second is h names =
+      some_until size next total.inside (Is left) (Is right) read target (as_read (Is left) guard read is (first names.0)) (second names.1) marks h
+  of_until Each left right guard read target marks first second is h names =
+      every_until size next total.inside (Is left) (Is right) read target (as_read (Is left) guard read is (first names.0)) (second names.1) marks h total.followers
 
-    pub of_Ex : goal ≡ Shut.Ex part → IsNext size One next read marks → Labels goal marks
-    of_Ex is h =
-        shaped goal (ex (ctl_value part.value)) marks (ap ctl_value is ∙ value_Ex part)
-        (λ k. one_next size next inside (Is part.value) read marks (subst (λ l. Shows size (Is part.value) l) (sym reads) (same_label part.value given label same shows k)) h)
+  pub of_weak : (need : Need) (left right : CtlTree Cond) (guard read target end marks : List Bool) → Labels left guard → Labels right target → read ≡ guard → end ≡ target → IsWeakest size need next read end marks → Labels (weak_goal need left right) marks
+  of_weak One left right guard read target end marks first second is too h names =
+      some_weak size next total.inside (Is left) (Is right) read end (as_read (Is left) guard read is (first names.0)) (as_read (Is right) target end too (second names.1)) marks total.followers h
+  of_weak Each left right guard read target end marks first second is too h names =
+      every_weak size next total.inside (Is left) (Is right) read end (as_read (Is left) guard read is (first names.0)) (as_read (Is right) target end too (second names.1)) marks h
 
-  -- until the part is true, with no guard
-  module _ (goal : Ctl) (part : Box Ctl Global) (given : Ctl) (guard read label marks : List Bool) (same : given ≡ part.value) (shows : Labels given label) (reads : read ≡ guard) (count : length guard ≡ size) (each : (i : ℕ) → i < size → mark_at guard i ≡ true) where
-    guarded : Shows size Anything read
-    guarded = subst (λ l. Shows size Anything l) (sym reads) (everywhere size Anything guard count each (λ i. tt))
+  -- an until whose guard is everywhere
+  pub of_finally : (need : Need) (goal : CtlTree Cond) (guard read target marks : List Bool) → length guard ≡ size → ((i : ℕ) → i < size → mark_at guard i ≡ true) → Labels goal target → read ≡ guard → IsLeast size need next read target marks → Labels (finally_goal need goal) marks
+  of_finally One goal guard read target marks count each shows is h names =
+      some_until size next total.inside Anything (Is goal) read target (as_read Anything guard read is (everywhere size Anything guard count each (λ i. tt))) (shows names) marks h
+  of_finally Each goal guard read target marks count each shows is h names =
+      every_until size next total.inside Anything (Is goal) read target (as_read Anything guard read is (everywhere size Anything guard count each (λ i. tt))) (shows names) marks h total.followers
 
-    pub of_Af : goal ≡ Shut.Af part → IsLeast size Each next read label marks → Labels goal marks
-    of_Af is h =
-        shaped goal (af (ctl_value part.value)) marks (ap ctl_value is ∙ value_Af part)
-        (λ k. every_until size next inside Anything (Is part.value) read label guarded (same_label part.value given label same shows k) marks h full)
+  -- a weak until whose target is nowhere
+  pub of_globally : (need : Need) (goal : CtlTree Cond) (guard read target end marks : List Bool) → Labels goal guard → length target ≡ size → ((i : ℕ) → i < size → mark_at target i ≡ false) → read ≡ guard → end ≡ target → IsWeakest size need next read end marks → Labels (globally_goal need goal) marks
+  of_globally One goal guard read target end marks shows count each is too h names =
+      some_weak size next total.inside (Is goal) Nothing read end (as_read (Is goal) guard read is (shows names)) (as_read Nothing target end too (nowhere size Nothing target count each (λ i none. none))) marks total.followers h
+  of_globally Each goal guard read target end marks shows count each is too h names =
+      every_weak size next total.inside (Is goal) Nothing read end (as_read (Is goal) guard read is (shows names)) (as_read Nothing target end too (nowhere size Nothing target count each (λ i none. none))) marks h
 
-    pub of_Ef : goal ≡ Shut.Ef part → IsLeast size One next read label marks → Labels goal marks
-    of_Ef is h =
-        shaped goal (ef (ctl_value part.value)) marks (ap ctl_value is ∙ value_Ef part)
-        (λ k. some_until size next inside Anything (Is part.value) read label guarded (same_label part.value given label same shows k) marks h)
+  pub of_implied : (left right : CtlTree Cond) (one read two other marks : List Bool) → Labels left one → Labels right two → read ≡ one → other ≡ two → IsJoined (length read) Implies read other marks → Labels (implication left right) marks
+  of_implied left right one read two other marks first second is too h names =
+      let l = as_read (Is left) one read is (first names.0) in
+      implies_shows size (Is left) (Is right) read other l (as_read (Is right) two other too (second names.1)) marks (subst (λ m. IsJoined m Implies read other marks) l.count h)
 
-  -- for ever
-  module _ (goal : Ctl) (part : Box Ctl Global) (given : Ctl) (label read target none marks : List Bool) (same : given ≡ part.value) (shows : Labels given label) (reads : read ≡ label) (too : none ≡ target) (count : length target ≡ size) (each : (i : ℕ) → i < size → mark_at target i ≡ false) where
-    never : Shows size Nothing none
-    never = subst (λ l. Shows size Nothing l) (sym too) (nowhere size Nothing target count each (λ i n. n))
+-- the tree of a goal, from those of its parts as they were read
+pub one_part : (op : CtlTree Cond → CtlTree Cond) (goal shape part given : Ctl) → goal ≡ shape → ctl_value shape ≡ op (ctl_value part) → given ≡ part → ctl_value goal ≡ op (ctl_value given)
+one_part op goal shape part given is value same = ap ctl_value is ∙ value ∙ ap (λ g. op (ctl_value g)) (sym same)
 
-    pub of_Ag : goal ≡ Shut.Ag part → IsWeakest size Each next read none marks → Labels goal marks
-    of_Ag is h =
-        shaped goal (ag (ctl_value part.value)) marks (ap ctl_value is ∙ value_Ag part)
-        (λ k. every_weak size next inside (Is part.value) Nothing read none (subst (λ l. Shows size (Is part.value) l) (sym reads) (same_label part.value given label same shows k)) never marks h)
-
-    pub of_Eg : goal ≡ Shut.Eg part → IsWeakest size One next read none marks → Labels goal marks
-    of_Eg is h =
-        shaped goal (eg (ctl_value part.value)) marks (ap ctl_value is ∙ value_Eg part)
-        (λ k. some_weak size next inside (Is part.value) Nothing read none (subst (λ l. Shows size (Is part.value) l) (sym reads) (same_label part.value given label same shows k)) never marks full h)
-
-  -- until the second part is true, with the first as the guard
-  module _ (goal : Ctl) (left right : Box Ctl Global) (first second : Ctl) (guard read target marks : List Bool) (same : first ≡ left.value) (too : second ≡ right.value) (shows : Labels first guard) (more : Labels second target) (reads : read ≡ guard) where
-    pub of_Au : goal ≡ Shut.Au left right → IsLeast size Each next read target marks → Labels goal marks
-    of_Au is h =
-        shaped goal (au (ctl_value left.value) (ctl_value right.value)) marks (ap ctl_value is ∙ value_Au left right)
-        (λ k. every_until size next inside (Is left.value) (Is right.value) read target (subst (λ l. Shows size (Is left.value) l) (sym reads) (same_label left.value first guard same shows k.0)) (same_label right.value second target too more k.1) marks h full)
-
-    pub of_Eu : goal ≡ Shut.Eu left right → IsLeast size One next read target marks → Labels goal marks
-    of_Eu is h =
-        shaped goal (eu (ctl_value left.value) (ctl_value right.value)) marks (ap ctl_value is ∙ value_Eu left right)
-        (λ k. some_until size next inside (Is left.value) (Is right.value) read target (subst (λ l. Shows size (Is left.value) l) (sym reads) (same_label left.value first guard same shows k.0)) (same_label right.value second target too more k.1) marks h)
-
-  module _ (goal : Ctl) (left right : Box Ctl Global) (first second : Ctl) (guard read target end marks : List Bool) (same : first ≡ left.value) (too : second ≡ right.value) (shows : Labels first guard) (more : Labels second target) (reads : read ≡ guard) (with : end ≡ target) where
-    pub of_Aw : goal ≡ Shut.Aw left right → IsWeakest size Each next read end marks → Labels goal marks
-    of_Aw is h =
-        shaped goal (aw (ctl_value left.value) (ctl_value right.value)) marks (ap ctl_value is ∙ value_Aw left right)
-        (λ k. every_weak size next inside (Is left.value) (Is right.value) read end (subst (λ l. Shows size (Is left.value) l) (sym reads) (same_label left.value first guard same shows k.0)) (subst (λ l. Shows size (Is right.value) l) (sym with) (same_label right.value second target too more k.1)) marks h)
-
-    pub of_Ew : goal ≡ Shut.Ew left right → IsWeakest size One next read end marks → Labels goal marks
-    of_Ew is h =
-        shaped goal (ew (ctl_value left.value) (ctl_value right.value)) marks (ap ctl_value is ∙ value_Ew left right)
-        (λ k. some_weak size next inside (Is left.value) (Is right.value) read end (subst (λ l. Shows size (Is left.value) l) (sym reads) (same_label left.value first guard same shows k.0)) (subst (λ l. Shows size (Is right.value) l) (sym with) (same_label right.value second target too more k.1)) marks full h)
-
-  -- the first part implies the second
-  pub of_Imply : (goal : Ctl) (left right : Box Ctl Global) (first second : Ctl) (one two read other marks : List Bool) → first ≡ left.value → second ≡ right.value → Labels first one → Labels second two → read ≡ one → other ≡ two
-      → goal ≡ Shut.Imply left right → IsJoined (length read) Implies read other marks → Labels goal marks
-  of_Imply goal left right first second one two read other marks same too shows more reads with is h =
-      shaped goal (implication (ctl_value left.value) (ctl_value right.value)) marks (ap ctl_value is ∙ value_Imply left right)
-      (λ k.
-      let l : Shows size (Is left.value) read = subst (λ l. Shows size (Is left.value) l) (sym reads) (same_label left.value first one same shows k.0) in
-      let r : Shows size (Is right.value) other = subst (λ l. Shows size (Is right.value) l) (sym with) (same_label right.value second two too more k.1) in
-      implies_shows size (Is left.value) (Is right.value) read other l r marks (subst (λ m. IsJoined m Implies read other marks) l.count h))
-
--- labels of two parts have a mark for each configuration
-module _ (graph : Graph) (goal : Ctl) (left right : Box Ctl Global) (first second : Ctl) (one two : List Bool) (same : first ≡ left.value) (too : second ≡ right.value) (names : NamesBelow most_fluents (ctl_value goal))
-    (shows : (n : ℕ) → NamesBelow n (ctl_value first) → ShowsGoal n graph (ctl_value first) one) (more : (n : ℕ) → NamesBelow n (ctl_value second) → ShowsGoal n graph (ctl_value second) two) where
-  sizes : NamesBelow most_fluents (ctl_value left.value) → NamesBelow most_fluents (ctl_value right.value) → (length one ≡ graph_size graph) × (length two ≡ graph_size graph)
-  sizes a b =
-      ((shows most_fluents (subst (λ g. NamesBelow most_fluents (ctl_value g)) (sym same) a)).count, (more most_fluents (subst (λ g. NamesBelow most_fluents (ctl_value g)) (sym too) b)).count)
-
-  pub sizes_Imply : goal ≡ Shut.Imply left right → (length one ≡ graph_size graph) × (length two ≡ graph_size graph)
-  sizes_Imply is = let both = subst (NamesBelow most_fluents) (ap ctl_value is ∙ value_Imply left right) names in sizes both.0 both.1
-
-  pub sizes_Au : goal ≡ Shut.Au left right → (length one ≡ graph_size graph) × (length two ≡ graph_size graph)
-  sizes_Au is = let both = subst (NamesBelow most_fluents) (ap ctl_value is ∙ value_Au left right) names in sizes both.0 both.1
-
-  pub sizes_Eu : goal ≡ Shut.Eu left right → (length one ≡ graph_size graph) × (length two ≡ graph_size graph)
-  sizes_Eu is = let both = subst (NamesBelow most_fluents) (ap ctl_value is ∙ value_Eu left right) names in sizes both.0 both.1
-
-  pub sizes_Aw : goal ≡ Shut.Aw left right → (length one ≡ graph_size graph) × (length two ≡ graph_size graph)
-  sizes_Aw is = let both = subst (NamesBelow most_fluents) (ap ctl_value is ∙ value_Aw left right) names in sizes both.0 both.1
-
-  pub sizes_Ew : goal ≡ Shut.Ew left right → (length one ≡ graph_size graph) × (length two ≡ graph_size graph)
-  sizes_Ew is = let both = subst (NamesBelow most_fluents) (ap ctl_value is ∙ value_Ew left right) names in sizes both.0 both.1
+pub two_parts : (op : CtlTree Cond → CtlTree Cond → CtlTree Cond) (goal shape left right first second : Ctl) → goal ≡ shape → ctl_value shape ≡ op (ctl_value left) (ctl_value right) → first ≡ left → second ≡ right → ctl_value goal ≡ op (ctl_value first) (ctl_value second)
+two_parts op goal shape left right first second is value same too =
+    ap ctl_value is ∙ value ∙ ap (λ g. op (ctl_value g) (ctl_value right)) (sym same) ∙ ap (λ g. op (ctl_value first) (ctl_value g)) (sym too)

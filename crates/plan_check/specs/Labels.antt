@@ -1,14 +1,16 @@
 -- Private: labels of configurations. A label is a list of marks: number i has it where its mark is
 -- true.
 use Rattle.std.specs.Prelude.{◌≡◌, ◌<◌, ◌↔◌, ◌||◌, ◌&&◌, not, ℕ, zero, suc, Bool, true, false, List}
-use Rattle.std.specs.Prelude.{length, slice_index_or}
+use Rattle.std.specs.Prelude.{IfOk, Result, Vec, length, slice_index_or}
+use Rattle.std.specs.declared.alloc.Global.{Global}
 use Rattle.std.specs.List.{Contains, list_all, list_any}
 use Rattle.task_core.specs.declared.conditions.Cond.{Cond}
-use Rattle.ctl_syntax.specs.Goals.{CtlTree}
+use Rattle.ctl_syntax.specs.Goals.{CtlTree, ax, ex, af, ef, ag, eg, au, eu, aw, ew}
 use Rattle.ctl_syntax.specs.Truth.{Satisfies}
+use Rattle.ctl_syntax.specs.Values.{NamesBelow}
 use Rattle.exec_graph.specs.Values.{followers_at, graph_size}
 use Rattle.exec_graph.specs.declared.graphs.Graph.{Graph}
-use Rattle.plan_check.specs.Plain.{is_goal_at}
+use Rattle.plan_check.specs.Plain.{HasFollowersInside, HasPredecessors, is_goal_at}
 use Rattle.plan_check.specs.declared.spreading.Need.{Need}
 use Rattle.plan_check.specs.declared.spreading.Need.TheVariants.{One, Each}
 use Rattle.plan_check.specs.declared.labelling.Join.{Join}
@@ -110,3 +112,35 @@ HasFollowers graph = (i : ℕ) → i < graph_size graph → (j : ℕ) × Contain
 abbrev pub ShowsGoal : ℕ → Graph → CtlTree Cond → List Bool → Type 0
 ShowsGoal n graph goal marks =
     Shows (graph_size graph) (Satisfies (ComesAfter graph) (HoldsIn n graph) goal) marks
+
+-- Private: the marks, if there are any, are where the goal is true
+abbrev pub ShowsIfOk : {E : Type 0} → Graph → CtlTree Cond → Result (Vec Bool Global) E → Type 0
+ShowsIfOk graph goal result = (n : ℕ) → NamesBelow n goal
+    → IfOk result (λ marks. ShowsGoal n graph goal marks.items)
+
+-- Private: a graph in which each configuration has a follower, and the two kinds of lists agree
+pub record IsTotal (graph : Graph) : Type 0 where
+  pub inside : HasFollowersInside graph
+  pub turned : HasPredecessors graph
+  pub followers : HasFollowers graph
+
+-- Private: the operators of computation tree logic, each on some path or on every one
+abbrev pub next_goal : Need → CtlTree Cond → CtlTree Cond
+next_goal One goal = ex goal
+next_goal Each goal = ax goal
+
+abbrev pub finally_goal : Need → CtlTree Cond → CtlTree Cond
+finally_goal One goal = ef goal
+finally_goal Each goal = af goal
+
+abbrev pub globally_goal : Need → CtlTree Cond → CtlTree Cond
+globally_goal One goal = eg goal
+globally_goal Each goal = ag goal
+
+abbrev pub until_goal : Need → CtlTree Cond → CtlTree Cond → CtlTree Cond
+until_goal One guard goal = eu guard goal
+until_goal Each guard goal = au guard goal
+
+abbrev pub weak_goal : Need → CtlTree Cond → CtlTree Cond → CtlTree Cond
+weak_goal One guard goal = ew guard goal
+weak_goal Each guard goal = aw guard goal
