@@ -1,6 +1,7 @@
 -- Counts that stand at a bound.
 use Rattle.std.proofs.Common.{◌≡◌, ℕ, zero, suc, ◌+◌, ◌*◌, ◌<◌, ◌≤◌, List, length, get_or, drop, min, ap, sym, ◌∙◌, arith, add-one, inl, inr}
-use Rattle.std.proofs.lemmas.Bool.{cases_lt}
+use Rattle.std.specs.Prelude.{nat_le}
+use Rattle.std.proofs.lemmas.Bool.{cases_lt, le-leb, lt-leb}
 use Rattle.std.proofs.Math.Nat.{min-eq_left, min-eq_right, mul-le-mul_right, mul_comm, mul_assoc, mul-zero}
 use Rattle.std.proofs.Math.Seq.{drop-cons}
 use Rattle.ground_instances.specs.Counts.{shown}
@@ -11,6 +12,13 @@ shown_within n = omega arith
 
 pub shown_small : (n : ℕ) → n ≤ 1000001 → shown n ≡ n
 shown_small n h = omega arith
+
+-- a count is within a limit exactly where what is shown of it is
+pub shown_below : (n k : ℕ) → k ≤ 1000000 → nat_le (shown n) k ≡ nat_le n k
+shown_below n k few = elim (cases_lt k n) [
+  | inl above ↦ lt-leb (shown n) k (omega arith) ∙ sym (lt-leb n k above)
+  | inr below ↦ le-leb (shown n) k (omega arith) ∙ sym (le-leb n k below)
+]
 
 -- a shown part shows the same sum
 pub shown_total : (a b : ℕ) → shown (shown a + b) ≡ shown (a + b)

@@ -5,6 +5,7 @@ pub mod TreeValues
 pub mod SettledLemmas
 pub mod PartialLemmas
 pub mod UnderLemmas
+pub mod LookedLemmas
 pub mod ValueLemmas
 pub mod KeptLemmas
 pub mod EnteringLemmas

@@ -1,5 +1,5 @@
 -- The bindings that begin with some objects, and which of them are kept.
-use Rattle.std.proofs.Common.{◌≡◌, ℕ, zero, suc, ◌+◌, ◌<◌, ◌≤◌, Bool, true, false, cond, List, [], ◌∷◌, ◌++◌, length, ◌-◌, get_or, take, drop, map, Some, refl, ap, sym, subst, ◌∙◌, arith, add-one, append_assoc, append-nil, length-append}
+use Rattle.std.proofs.Common.{◌≡◌, ℕ, zero, suc, ◌+◌, ◌<◌, ◌≤◌, Bool, true, false, not, cond, List, [], ◌∷◌, ◌++◌, length, ◌-◌, get_or, take, drop, map, Some, refl, ap, sym, subst, ◌∙◌, arith, add-one, append_assoc, append-nil, length-append}
 use Rattle.std.specs.Prelude.{nat_le, replicate}
 use Rattle.std.specs.List.{flat_map}
 use Rattle.std.proofs.Math.Seq.{drop-cons, take-append_seam}
@@ -12,7 +12,14 @@ use Rattle.pddl_system.specs.Settings.{Setting}
 use Rattle.pddl_system.specs.Sizes.{binding_count}
 use Rattle.pddl_system.specs.ThreeValues.{Value as Known, value, may_hold}
 use Rattle.ground_instances.specs.Kept.{kept_among, kept_objects, kept_under, numbered, rows_under, with_number, IsBegunBy}
+use Rattle.ground_instances.specs.Counts.{shown}
+use Rattle.ground_instances.specs.LookedAt.{is_hopeless}
 use Rattle.ground_instances.specs.Partial.{partial_value}
+use Rattle.ground_instances.specs.Values.{known_value}
+use Rattle.ground_instances.specs.declared.values.Value.{Value}
+use Rattle.ground_instances.specs.declared.values.Value.TheVariants.{No, Unknown, Yes}
+use Rattle.ground_instances.specs.contracts.values.Value.{the_type}
+use denote.Enum.Bare.{sameb}
 use Rattle.ground_instances.specs.declared.instances.Instance.{Instance}
 use Rattle.ground_instances.specs.declared.values.Free.{Free}
 use Rattle.ground_instances.proofs.KeptLemmas.{above, count_kept, is_above, is_within, within}
@@ -86,8 +93,10 @@ empty [] e = refl
 empty (x ∷ xs) e = absurd (omega arith)
 
 -- an action without bindings has no instances
-pub no_rows : (at : Setting) (s : SchemaTree) (n : ℕ) → n ≡ binding_count at.objects s.parameters → n ≡ 0 → kept_objects at s ≡ []
-no_rows at s n counted zeroed = ap (kept_among at s) (empty (bindings at.objects s.parameters) (length_bindings at.objects s.parameters ∙ sym counted ∙ zeroed))
+pub no_rows : (at : Setting) (s : SchemaTree) (n : ℕ) → n ≡ shown (binding_count at.objects s.parameters) → n ≡ 0 → kept_objects at s ≡ []
+no_rows at s n counted zeroed =
+    let rows : length (bindings at.objects s.parameters) ≡ binding_count at.objects s.parameters = length_bindings at.objects s.parameters in
+    ap (kept_among at s) (empty (bindings at.objects s.parameters) (omega arith))
 
 -- none is kept
 dropped_each : (at : Setting) (s : SchemaTree) (first types os : List ℕ)
@@ -216,6 +225,22 @@ hopeless at s first filled free v len end few counted ended full start stop know
     (full ∙ ap (λ xs. xs ++ replicate (end - len) 0) (take_all end first (omega (arith, few, ended))))
     (let zeros : List ℕ = replicate (end - len) 0 in let l : length zeros ≡ end - len = length-replicate {A = ℕ} (end - len) 0 in omega (arith, l, few, counted, ended))
     (start ∙ counted) (stop ∙ ended) known falsely
+
+-- whether it is known to be false
+pub no_is : (v : Value) → sameb the_type v No ≡ not (may_hold (known_value v))
+no_is No = refl
+no_is Unknown = refl
+no_is Yes = refl
+
+pub hopeless_is : (at : Setting) (s : SchemaTree) (first filled : List ℕ) (v : Value) (len end : ℕ) → length first ≤ length s.parameters
+    → len ≡ length first → end ≡ length s.parameters → filled ≡ take end first ++ replicate (end - len) 0
+    → known_value v ≡ partial_value at s.precondition filled (record { first = len; end = end }) → sameb the_type v No ≡ is_hopeless at s first
+hopeless_is at s first filled v len end few counted ended full known =
+    no_is v
+    ∙ ap (λ k. not (may_hold k)) (known
+    ∙ ap (λ xs. partial_value at s.precondition xs (record { first = len; end = end })) (full ∙ ap (λ xs. xs ++ replicate (end - len) 0) (take_all end first (omega (arith, few, ended))))
+    ∙ ap (λ k. partial_value at s.precondition (first ++ replicate (end - k) 0) (record { first = k; end = end })) counted
+    ∙ ap (λ k. partial_value at s.precondition (first ++ replicate (k - length first) 0) (record { first = length first; end = k })) ended)
 
 -- nothing is added
 pub none_within : (most : ℕ) (old : List Instance) (rows : List (List ℕ)) → rows ≡ [] → length old ≤ most → true ≡ nat_le (length old + length rows) most

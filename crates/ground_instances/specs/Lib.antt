@@ -3,6 +3,8 @@ pub mod Counts
 pub mod Entering
 pub mod Groups
 pub mod Kept
+pub mod Limits
+pub mod LookedAt
 pub mod Partial
 pub mod Settled
 pub mod Tables

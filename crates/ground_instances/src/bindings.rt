@@ -13,7 +13,7 @@ use pddl_ast::{ObjectId, TypeId};
 use std::alloc::AllocError;
 
 /// At this number counts stand still.
-const TOO_MANY: usize = 1_000_001;
+pub(crate) const TOO_MANY: usize = 1_000_001;
 
 /// The sum of two counts that stand at a bound.
 pub fn total(first: usize, second: usize) -> usize

@@ -7,15 +7,12 @@ ghost use Rattle.ground_instances.specs.Kept.{kept_objects, kept_under, numbered
 ghost use Rattle.ground_instances.specs.Kept.{with_number, IsBegunBy};
 ghost use Rattle.ground_instances.specs.Tables.{setting_in};
 ghost use Rattle.pddl_ast.specs.Values.{domain_value, schema_value};
-ghost use Rattle.pddl_system.specs.Sizes.{most_actions};
+ghost use Rattle.ground_instances.specs.LookedAt.{is_hopeless};
 
 use crate::setting::Setting;
 use crate::values::{Free, Value};
 use pddl_ast::{Domain, ObjectId, Objects, Schema, TypeId};
 use std::alloc::{AllocError, Global};
-
-/// The most kept instances.
-const MOST_KEPT: usize = 16_384;
 
 /// An instance of an action: which action of the domain, counted from 0, and an object for each of
 /// its parameters.
@@ -36,25 +33,30 @@ struct NumberedSchema<'a> {
 #[derive(Debug, Drop)]
 pub enum Kept {
     All(Vec<Instance>),
-    /// There are more than 16,384.
+    /// There are more than the most that are wanted.
     TooMany,
 }
 
 /// The kept instances of a domain's actions by their numbers: by action as declared, then by their
 /// objects, the first parameter slowest. An instance is kept unless its precondition is known to be
-/// false. Stops where there are more than 16,384. Fails only where memory runs out, or where an
-/// action or a quantifier has more than 1,000,000 bindings, which the limits rule out.
-pub fn kept_instances(alloc: Global, setting: &Setting, domain: &Domain) -> Result<Kept, AllocError>
+/// false. Stops where there are more than `most`. Fails only where memory runs out, or where a
+/// quantifier has more than 1,000,000 bindings, which the limits rule out.
+pub fn kept_instances(
+    alloc: Global,
+    setting: &Setting,
+    domain: &Domain,
+    most: usize,
+) -> Result<Kept, AllocError>
     ensures kept { IfOk result (λ kept. IfSome (all_of kept) (λ instances.
         map (instance_of (domain_value domain.now)) instances
         ≡ map Some (kept_by (setting_in setting.now) (domain_value domain.now)))) }
     ensures within { IfOk result (λ kept. is_some (all_of kept)
         ≡ nat_le (length (kept_by (setting_in setting.now)
-        (domain_value domain.now))) most_actions) }
+        (domain_value domain.now))) most) }
 {
     let mut kept = Vec::new(alloc);
     for action in 0..domain.actions.len() {
-        if !setting.add_kept(alloc, action, &domain.actions[action], &mut kept)? {
+        if !setting.add_kept(alloc, action, &domain.actions[action], &mut kept, most)? {
             return Ok(Kept::TooMany);
         }
     }
@@ -63,23 +65,24 @@ pub fn kept_instances(alloc: Global, setting: &Setting, domain: &Domain) -> Resu
 
 impl Setting {
     /// Appends the kept instances of an action, whose number is `action`, to those of the actions
-    /// before it; false where they are then more than 16,384.
-    fn add_kept(
+    /// before it; false where they are then more than `most`.
+    pub(crate) fn add_kept(
         &self,
         alloc: Global,
         action: usize,
         schema: &Schema,
         kept: &mut Vec<Instance>,
+        most: usize,
     ) -> Result<bool, AllocError>
-        requires { length kept.old.items ≤ most_actions }
+        requires { length kept.old.items ≤ most }
         ensures within { IfOk result (λ fits. fits ≡ nat_le (length kept.old.items
-            + length (kept_objects (setting_in self.now) (schema_value schema.now))) most_actions) }
+            + length (kept_objects (setting_in self.now) (schema_value schema.now))) most) }
         ensures added { IfOk result (λ fits. fits ≡ true
             → map numbered kept.new.items ≡ map numbered kept.old.items
             ++ map (with_number action)
             (kept_objects (setting_in self.now) (schema_value schema.now))) }
     {
-        if self.few_bindings(&schema.parameters)? == 0 {
+        if self.binding_count(&schema.parameters) == 0 {
             return Ok(true);
         }
         let action = NumberedSchema {
@@ -87,7 +90,7 @@ impl Setting {
             schema,
         };
         let mut objects = Vec::new(alloc);
-        Ok(self.add_under(alloc, &action, &mut objects, kept)?)
+        Ok(self.add_under(alloc, &action, &mut objects, kept, most)?)
     }
 
     /// Brings the next variables of these types into scope, as long as their types have one object,
@@ -112,13 +115,15 @@ impl Setting {
 
     /// Whether it is known that no instance of an action with these first objects is kept. The
     /// objects are afterwards as they were before.
-    fn is_hopeless(
+    pub(crate) fn is_hopeless(
         &self,
         alloc: Global,
         schema: &Schema,
         objects: &mut Vec<ObjectId>,
     ) -> Result<bool, AllocError>
         requires { length objects.old.items ≤ length schema.now.parameters.items }
+        ensures value { IfOk result (λ hopeless. hopeless
+            ≡ is_hopeless (setting_in self.now) (schema_value schema.now) objects.old.items) }
         ensures none { IfOk result (λ hopeless. hopeless ≡ true
             → kept_under (setting_in self.now) (schema_value schema.now) objects.old.items ≡ []) }
         ensures objects { OnOk result (objects.new.items ≡ objects.old.items) }
@@ -133,7 +138,7 @@ impl Setting {
     }
 
     /// Appends the kept instances of an action that have these first objects; false where there are
-    /// then more than 16,384. Parameters are bound one after another, and where it is known already
+    /// then more than `most`. Parameters are bound one after another, and where it is known already
     /// that no instance is kept the rest are not. The objects are afterwards as they were before, and
     /// maybe more.
     fn add_under(
@@ -142,14 +147,15 @@ impl Setting {
         action: &NumberedSchema<'_>,
         objects: &mut Vec<ObjectId>,
         kept: &mut Vec<Instance>,
+        most: usize,
     ) -> Result<bool, AllocError>
-        requires few { length kept.old.items ≤ most_actions }
+        requires few { length kept.old.items ≤ most }
         requires objects { length objects.old.items ≤ length action.now.schema.now.parameters.items }
         ensures objects { IfOk result (λ fits. fits ≡ true
             → IsBegunBy objects.old.items objects.new.items) }
         ensures within { IfOk result (λ fits. fits ≡ nat_le (length kept.old.items
             + length (kept_under (setting_in self.now) (schema_value action.now.schema.now)
-            objects.old.items)) most_actions) }
+            objects.old.items)) most) }
         ensures added { IfOk result (λ fits. fits ≡ true
             → map numbered kept.new.items ≡ map numbered kept.old.items
             ++ map (with_number action.now.number) (kept_under (setting_in self.now)
@@ -158,14 +164,14 @@ impl Setting {
         self.bind_lone(&action.schema.parameters, objects)?;
         let place = objects.len();
         if place == action.schema.parameters.len() {
-            return self.add_if_kept(alloc, action, objects, kept);
+            return self.add_if_kept(alloc, action, objects, kept, most);
         }
         if self.is_hopeless(alloc, action.schema, objects)? {
             return Ok(true);
         }
         for object in self.objects_of(action.schema.parameters[place]) {
             objects.push(*object)?;
-            if !self.add_under(alloc, action, objects, kept)? {
+            if !self.add_under(alloc, action, objects, kept, most)? {
                 return Ok(false);
             }
             objects.truncate(place);
@@ -174,19 +180,20 @@ impl Setting {
     }
 
     /// Appends the instance of an action with these objects if it is kept; false where there are
-    /// then more than 16,384. The objects are afterwards as they were before.
+    /// then more than `most`. The objects are afterwards as they were before.
     fn add_if_kept(
         &self,
         alloc: Global,
         action: &NumberedSchema<'_>,
         objects: &mut Vec<ObjectId>,
         kept: &mut Vec<Instance>,
+        most: usize,
     ) -> Result<bool, AllocError>
-        requires { length kept.old.items ≤ most_actions }
+        requires { length kept.old.items ≤ most }
         ensures objects { OnOk result (objects.new.items ≡ objects.old.items) }
         ensures within { IfOk result (λ fits. fits ≡ nat_le (length kept.old.items
             + length (kept_among (setting_in self.now) (schema_value action.now.schema.now)
-            (objects.old.items ∷ []))) most_actions) }
+            (objects.old.items ∷ []))) most) }
         ensures added { IfOk result (λ fits. fits ≡ true
             → map numbered kept.new.items ≡ map numbered kept.old.items
             ++ map (with_number action.now.number) (kept_among (setting_in self.now)
@@ -195,7 +202,7 @@ impl Setting {
         if self.value(alloc, &action.schema.precondition, objects)? == Value::No {
             return Ok(true);
         }
-        if kept.len() == MOST_KEPT {
+        if kept.len() == most {
             return Ok(false);
         }
         kept.push(Instance {

@@ -9,9 +9,13 @@
 mod atoms;
 mod bindings;
 mod changed;
+mod counted;
 mod groups;
 mod instances;
+mod limits;
+mod looked_at;
 mod objects;
+mod programs;
 mod setting;
 mod settled;
 mod sizes;
@@ -19,6 +23,7 @@ mod values;
 
 pub use atoms::{Atom, object_of};
 pub use instances::{Instance, Kept, kept_instances};
+pub use limits::{Counting, Limits};
 pub use setting::Setting;
 pub use sizes::has_few_objects;
 pub use values::Value;

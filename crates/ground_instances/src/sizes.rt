@@ -1,28 +1,26 @@
 //! What is counted before anything is built.
 
-ghost use Rattle.std.specs.Prelude.{◌≡◌, nat_le};
+ghost use Rattle.std.specs.Prelude.{◌≡◌, map, nat_le, IfOk};
 ghost use Rattle.std.specs.Option.{option_map};
 ghost use Rattle.ground_instances.specs.Counts.{shown};
 ghost use Rattle.ground_instances.specs.Tables.{setting_in};
 ghost use Rattle.pddl_ast.specs.Values.{domain_value, problem_value, formula_value, effect_value};
 ghost use Rattle.pddl_ast.specs.Values.{schema_value, temporal_value};
 ghost use Rattle.pddl_system.specs.Settings.{setting};
-ghost use Rattle.pddl_system.specs.Sizes.{keeps, object_limit, size_limit, instance_limit};
+ghost use Rattle.pddl_system.specs.Sizes.{keeps, object_limit, size_limit};
 ghost use Rattle.pddl_system.specs.Sizes.{formula_size, effect_size, schema_size, goal_size};
 ghost use Rattle.pddl_system.specs.Sizes.{ctl_size, most_size, temporal_size};
 
 use crate::bindings::{product, total};
 use crate::setting::Setting;
 use pddl_ast::{Domain, Effect, Formula, Problem, Schema, Temporal};
+use std::alloc::{AllocError, Global};
 
 /// The most constants and objects.
 const MOST_OBJECTS: usize = 1_024;
 
 /// The greatest expanded size of an action, a goal or the invariant.
 const MOST_SIZE: usize = 100_000;
-
-/// The most instances of all actions, kept or not.
-const MOST_INSTANCES: usize = 1_000_000;
 
 /// Whether a domain and a problem have at most 1,024 constants and objects.
 pub fn has_few_objects(domain: &Domain, problem: &Problem) -> bool
@@ -121,15 +119,23 @@ impl Setting {
         }
     }
 
+    /// The expanded size of an action; 1,000,001 where it is more than 1,000,000.
+    fn schema_size(&self, schema: &Schema) -> usize
+        ensures { result ≡ shown (schema_size (setting_in self.now).objects
+            (schema_value schema.now)) }
+    {
+        total(
+            self.formula_size(&schema.precondition),
+            self.effect_size(&schema.effect),
+        )
+    }
+
     /// Whether the expanded size of an action is at most 100,000.
     fn is_small_action(&self, schema: &Schema) -> bool
         ensures { result ≡ nat_le (schema_size (setting_in self.now).objects
             (schema_value schema.now)) most_size }
     {
-        total(
-            self.formula_size(&schema.precondition),
-            self.effect_size(&schema.effect),
-        ) <= MOST_SIZE
+        self.schema_size(schema) <= MOST_SIZE
     }
 
     /// Whether the expanded size of a formula is at most 100,000.
@@ -179,18 +185,15 @@ impl Setting {
             && self.is_small_ctl(&problem.ctl)
     }
 
-    /// Whether the actions have at most 1,000,000 instances, kept or not. `self` is the setting of
-    /// the domain and the problem.
-    pub fn has_few_instances(&self, domain: &Domain, problem: &Problem) -> bool
-        requires { setting_in self.now
-            ≡ setting (domain_value domain.now) (problem_value problem.now) }
-        ensures { result
-            ≡ keeps (domain_value domain.now) (problem_value problem.now) instance_limit }
+    /// For each action its expanded size; 1,000,001 where it is more than 1,000,000.
+    pub fn schema_sizes(&self, alloc: Global, schemas: &[Schema]) -> Result<Vec<usize>, AllocError>
+        ensures { IfOk result (λ sizes. sizes.items ≡ map (λ s. shown (schema_size
+            (setting_in self.now).objects s)) (map schema_value schemas.now)) }
     {
-        let mut count = 0;
-        for schema in &domain.actions {
-            count = total(count, self.binding_count(&schema.parameters));
+        let mut sizes = Vec::new(alloc);
+        for schema in schemas {
+            sizes.push(self.schema_size(schema))?;
         }
-        count <= MOST_INSTANCES
+        Ok(sizes)
     }
 }

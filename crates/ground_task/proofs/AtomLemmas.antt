@@ -1,5 +1,5 @@
 -- A table of atoms answers as the list of the plain atoms does.
-use Rattle.std.proofs.Common.{◌≡◌, suc, ◌+◌, ◌≤◌, arith, Bool, true, false, cond, not, List, [], ◌∷◌, ◌++◌, map, length, refl, ap, sym, ◌∙◌, Some, None, ◌||◌, if◌then◌else◌}
+use Rattle.std.proofs.Common.{◌≡◌, ℕ, suc, ◌+◌, ◌≤◌, arith, Bool, true, false, cond, not, List, [], ◌∷◌, ◌++◌, map, length, refl, ap, sym, ◌∙◌, Some, None, ◌||◌, if◌then◌else◌}
 use Rattle.std.specs.Prelude.{nat_lt}
 use Rattle.std.specs.List.{list_any, position, position_or_len}
 use Rattle.std.proofs.lemmas.Bool.{ltb-false}
@@ -49,9 +49,9 @@ no_place p xs none = pick (nat_lt (position_or_len p xs) (length xs)) refl none
     pick false is none = omega (arith, place_within p xs, ltb-false (position_or_len p xs) (length xs) is)
 
 -- the table after an atom is added
-pub table_with : (keys after : List Atom) (a : Atom) → nat_lt 256 (length (map atom_tree keys)) ≡ false
-    → after ≡ (if list_any (is_atom a) keys then keys else keys ++ a ∷ []) → map atom_tree after ≡ with_atom (map atom_tree keys) (atom_tree a)
-table_with keys after a few grows =
+pub table_with : (most : ℕ) (keys after : List Atom) (a : Atom) → nat_lt most (length (map atom_tree keys)) ≡ false
+    → after ≡ (if list_any (is_atom a) keys then keys else keys ++ a ∷ []) → map atom_tree after ≡ with_atom most (map atom_tree keys) (atom_tree a)
+table_with most keys after a few grows =
     ap (map atom_tree) grows
     ∙ ap (λ b. map atom_tree (if b then keys else keys ++ a ∷ [])) (any_atom a keys)
     ∙ both (is_among (map atom_tree keys) (atom_tree a))

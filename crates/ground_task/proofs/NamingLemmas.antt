@@ -8,28 +8,28 @@ use Rattle.pddl_ast.specs.Trees.{AtomTree}
 use Rattle.pddl_system.specs.GroundAtoms.{is_among}
 use Rattle.ground_task.specs.Collecting.{collected, with_atom}
 
-pub collected-append : (t xs ys : List AtomTree) → collected t (xs ++ ys) ≡ collected (collected t xs) ys
-collected-append = fold-append with_atom
+pub collected-append : (most : ℕ) (t xs ys : List AtomTree) → collected most t (xs ++ ys) ≡ collected most (collected most t xs) ys
+collected-append most = fold-append (with_atom most)
 
 -- once there are too many, nothing is added
-full_atom : (t : List AtomTree) (a : AtomTree) → nat_lt 256 (length t) ≡ true → with_atom t a ≡ t
-full_atom t a full = ap (λ b. if b || is_among t a then t else t ++ a ∷ []) full
+full_atom : (most : ℕ) (t : List AtomTree) (a : AtomTree) → nat_lt most (length t) ≡ true → with_atom most t a ≡ t
+full_atom most t a full = ap (λ b. if b || is_among t a then t else t ++ a ∷ []) full
 
-pub full_stays : (t atoms : List AtomTree) → nat_lt 256 (length t) ≡ true → collected t atoms ≡ t
-full_stays t [] full = refl
-full_stays t (a ∷ atoms) full = ap (λ u. collected u atoms) (full_atom t a full) ∙ full_stays t atoms full
+pub full_stays : (most : ℕ) (t atoms : List AtomTree) → nat_lt most (length t) ≡ true → collected most t atoms ≡ t
+full_stays most t [] full = refl
+full_stays most t (a ∷ atoms) full = ap (λ u. collected most u atoms) (full_atom most t a full) ∙ full_stays most t atoms full
 
 -- one element more of a list whose elements name atoms
-pub collect_step : {X : Type 0} (f : X → List AtomTree) (xs : List X) (i : ℕ) (d : X) (t grown whole : List AtomTree) → i < length xs
-    → grown ≡ collected t (f (get_or xs i d)) → collected t (flat_map f (drop i xs)) ≡ whole → collected grown (flat_map f (drop (i + 1) xs)) ≡ whole
-collect_step f xs i d t grown whole within grows so_far =
-    ap (λ u. collected u (flat_map f (drop (i + 1) xs))) grows
-    ∙ sym (collected-append t (f (get_or xs i d)) (flat_map f (drop (i + 1) xs)))
-    ∙ ap (collected t) (sym (at_drop_more (flat_map f) xs i d within))
+pub collect_step : {X : Type 0} (most : ℕ) (f : X → List AtomTree) (xs : List X) (i : ℕ) (d : X) (t grown whole : List AtomTree) → i < length xs
+    → grown ≡ collected most t (f (get_or xs i d)) → collected most t (flat_map f (drop i xs)) ≡ whole → collected most grown (flat_map f (drop (i + 1) xs)) ≡ whole
+collect_step most f xs i d t grown whole within grows so_far =
+    ap (λ u. collected most u (flat_map f (drop (i + 1) xs))) grows
+    ∙ sym (collected-append most t (f (get_or xs i d)) (flat_map f (drop (i + 1) xs)))
+    ∙ ap (collected most t) (sym (at_drop_more (flat_map f) xs i d within))
     ∙ so_far
 
-pub collect_end : {X : Type 0} (f : X → List AtomTree) (xs : List X) (i : ℕ) (t whole : List AtomTree) → length xs ≤ i → collected t (flat_map f (drop i xs)) ≡ whole → t ≡ whole
-collect_end f xs i t whole past so_far = sym (ap (collected t) (at_drop_all (flat_map f) xs i past)) ∙ so_far
+pub collect_end : {X : Type 0} (most : ℕ) (f : X → List AtomTree) (xs : List X) (i : ℕ) (t whole : List AtomTree) → length xs ≤ i → collected most t (flat_map f (drop i xs)) ≡ whole → t ≡ whole
+collect_end most f xs i t whole past so_far = sym (ap (collected most t) (at_drop_all (flat_map f) xs i past)) ∙ so_far
 
 -- the next of a list that is numbered by another
 pub turn_by : {X Y Z : Type 0} (f : X → Z) (g : Y → Z) (xs : List X) (ys : List Y) (i : ℕ) (x : X) → map f xs ≡ map g ys → i < length xs → x ≡ get_or xs i x
@@ -52,11 +52,11 @@ turn f = turn_by f Some
 pub same_length : {X Y : Type 0} (f : X → Option Y) (xs : List X) (ys : List Y) → map f xs ≡ map Some ys → length xs ≡ length ys
 same_length f xs ys same = sym (length-map xs f) ∙ ap length same ∙ length-map ys Some
 
-pub collect_turn : {X : Type 0} (f : X → List AtomTree) (xs : List X) (i : ℕ) (x : X) (t grown whole : List AtomTree) → drop i xs ≡ x ∷ drop (suc i) xs
-    → grown ≡ collected t (f x) → collected t (flat_map f (drop i xs)) ≡ whole → collected grown (flat_map f (drop (i + 1) xs)) ≡ whole
-collect_turn f xs i x t grown whole here grows so_far =
-    ap (λ n. collected grown (flat_map f (drop n xs))) (add-one i)
-    ∙ ap (λ u. collected u (flat_map f (drop (suc i) xs))) grows
-    ∙ sym (collected-append t (f x) (flat_map f (drop (suc i) xs)))
-    ∙ ap (λ l. collected t (flat_map f l)) (sym here)
+pub collect_turn : {X : Type 0} (most : ℕ) (f : X → List AtomTree) (xs : List X) (i : ℕ) (x : X) (t grown whole : List AtomTree) → drop i xs ≡ x ∷ drop (suc i) xs
+    → grown ≡ collected most t (f x) → collected most t (flat_map f (drop i xs)) ≡ whole → collected most grown (flat_map f (drop (i + 1) xs)) ≡ whole
+collect_turn most f xs i x t grown whole here grows so_far =
+    ap (λ n. collected most grown (flat_map f (drop n xs))) (add-one i)
+    ∙ ap (λ u. collected most u (flat_map f (drop (suc i) xs))) grows
+    ∙ sym (collected-append most t (f x) (flat_map f (drop (suc i) xs)))
+    ∙ ap (λ l. collected most t (flat_map f l)) (sym here)
     ∙ so_far

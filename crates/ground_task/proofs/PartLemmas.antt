@@ -1,5 +1,5 @@
 -- The parts that are built are those of the task of the domain and the problem.
-use Rattle.std.proofs.Common.{◌≡◌, true, ℕ, List, [], map, length, Option, None, sym, ap, subst, ◌∙◌}
+use Rattle.std.proofs.Common.{◌≡◌, true, ℕ, List, [], map, length, Option, sym, ap, subst, ◌∙◌}
 use Rattle.std.specs.Prelude.{Vec}
 use Rattle.std.specs.declared.alloc.Global.{Global}
 use Rattle.std.specs.Option.{option_map}
@@ -19,7 +19,6 @@ use Rattle.pddl_ast.specs.Trees.{AtomTree, DomainTree, FormulaTree, ProblemTree}
 use Rattle.pddl_system.specs.Fluents.{fluents}
 use Rattle.pddl_system.specs.Names.{NamesAreWords}
 use Rattle.pddl_system.specs.Settings.{Setting, setting}
-use Rattle.pddl_system.specs.Sizes.{first_passed}
 use Rattle.pddl_system.specs.Systems as systems
 use Rattle.pddl_system.specs.Systems.{atom_name}
 use Rattle.pddl_system.specs.Tasks.{condition_of, task_of}
@@ -28,6 +27,7 @@ use Rattle.pddl_system.specs.Values.{ArePartsOf, action_has_literals, action_val
 use Rattle.pddl_system.proofs.TaskParts.{parts_make_task}
 use Rattle.ground_instances.specs.Kept.{kept_by}
 use Rattle.ground_task.specs.Actions.{action_in}
+use Rattle.ground_task.specs.Limits.{FitsTask}
 use Rattle.ground_task.proofs.FactLemmas.{vector_is, within_is}
 
 -- what is known of the parts over the setting and the fluents that they are built from
@@ -58,9 +58,9 @@ module _ (d : DomainTree) (p : ProblemTree) (at : Setting) (listed : List AtomTr
     invariant_is = built.holding ∙ ap (λ s. condition_of s listed d.invariant []) built.setting_is ∙ ap (λ l. condition_of (setting d p) l d.invariant []) built.fluents_are;
   }
 
-  pub make_task : FitsDomain d → FitsProblem d p → NamesAreWords d p → first_passed d p ≡ None → MakesTask names actions init goal invariant
+  pub make_task : FitsDomain d → FitsProblem d p → NamesAreWords d p → FitsTask d p → MakesTask names actions init goal invariant
   make_task fits_d fits_p words within =
-      parts_make_task d p names actions init goal invariant fits_d fits_p words within are_parts built.says (subst (λ n. IsWithin n init.facts) count (within_is (systems.facts_of at listed) init.facts built.begins))
+      parts_make_task within.most d p names actions init goal invariant within.fluents within.actions fits_d fits_p words within.within are_parts built.says (subst (λ n. IsWithin n init.facts) count (within_is (systems.facts_of at listed) init.facts built.begins))
 
 -- the task with these parts
 pub task_is : (d : DomainTree) (p : ProblemTree) (task : Task) (names : Vec Words Global) (actions : Vec GroundAction Global) (init : InitSpec) (goal : Option Cond) (invariant : Cond)

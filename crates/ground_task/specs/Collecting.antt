@@ -1,5 +1,5 @@
--- Private: how the atoms that are named are collected, each once, as long as they are few.
-use Rattle.std.specs.Prelude.{◌||◌, List, [], ◌∷◌, ◌++◌, fold, length, map, nat_lt}
+-- Private: how the atoms that are named are collected, each once, as long as they aren't too many.
+use Rattle.std.specs.Prelude.{ℕ, ◌||◌, List, [], ◌∷◌, ◌++◌, fold, length, map, nat_lt}
 use Rattle.std.specs.Prelude.{if◌then◌else◌, Vec}
 use Rattle.std.specs.declared.alloc.Global.{Global}
 use Rattle.pddl_ast.specs.Trees.{AtomTree, LiteralTree}
@@ -7,13 +7,14 @@ use Rattle.pddl_ast.specs.Values.{literal_value}
 use Rattle.pddl_ast.specs.declared.trees.InitialLiteral.{InitialLiteral}
 use Rattle.pddl_system.specs.GroundAtoms.{is_among}
 
--- an atom goes last, unless it is there already or there are 257
-abbrev pub with_atom : List AtomTree → AtomTree → List AtomTree
-with_atom atoms a = if nat_lt 256 (length atoms) || is_among atoms a then atoms else atoms ++ a ∷ []
+-- an atom goes last, unless it is there already or there are more than the most that are wanted
+abbrev pub with_atom : ℕ → List AtomTree → AtomTree → List AtomTree
+with_atom most atoms a =
+    if nat_lt most (length atoms) || is_among atoms a then atoms else atoms ++ a ∷ []
 
 -- some atoms, and then others
-abbrev pub collected : List AtomTree → List AtomTree → List AtomTree
-collected = fold with_atom
+abbrev pub collected : ℕ → List AtomTree → List AtomTree → List AtomTree
+collected most = fold (with_atom most)
 
 -- the uncertain entries as plain trees
 abbrev pub literals_value : List InitialLiteral → List LiteralTree

@@ -6,3 +6,4 @@ pub mod Drafts
 pub mod Limits
 pub mod NameWords
 pub mod Numbered
+pub mod Tallies

@@ -17,11 +17,8 @@ use std::alloc::{AllocError, Global};
 use std::marker::Model;
 use task_core::FluentId;
 
-/// The most fluents of a task.
-const MOST_FLUENTS: usize = 256;
-
-/// The fluents of a task: different atoms, at most 257, by which it is seen that they are too many.
-/// A clause sees the list of the atoms, whose places are their numbers.
+/// The fluents of a task: different atoms, at most one more than the most that are wanted, by which it
+/// is seen that they are too many. A clause sees the list of the atoms, whose places are their numbers.
 #[derive(Drop)]
 pub(crate) struct Fluents {
     atoms: IndexSet<Atom>,
@@ -36,7 +33,7 @@ impl Model for Fluents {
 
     ghost view = { λ t. map atom_tree t.atoms.keys };
 
-    ghost invariant = { λ t. length t.atoms.keys ≤ 257 };
+    ghost invariant = { λ t. length t.atoms.keys ≤ 1000001 };
 }
 
 impl Fluents {
@@ -49,18 +46,19 @@ impl Fluents {
         }
     }
 
-    /// Whether there are too many.
-    pub fn is_full(&self) -> bool
-        ensures { result ≡ nat_lt 256 (length self.now) }
+    /// Whether there are more than `most`.
+    pub fn is_full(&self, most: usize) -> bool
+        ensures { result ≡ nat_lt most (length self.now) }
     {
-        self.atoms.len() > MOST_FLUENTS
+        self.atoms.len() > most
     }
 
-    /// Adds an atom, unless it is there already or there are too many.
-    pub fn add(&mut self, atom: Atom) -> Result<(), AllocError>
-        ensures { OnOk result (self.new ≡ with_atom self.old (atom_tree atom)) }
+    /// Adds an atom, unless it is there already or there are more than `most`.
+    pub fn add(&mut self, atom: Atom, most: usize) -> Result<(), AllocError>
+        requires { most ≤ 1000000 }
+        ensures { OnOk result (self.new ≡ with_atom most self.old (atom_tree atom)) }
     {
-        if self.is_full() {
+        if self.is_full(most) {
             return Ok(());
         }
         self.atoms.insert(atom)?;
@@ -89,7 +87,7 @@ impl Fluents {
     /// How many fluents there are.
     pub fn len(&self) -> usize
         ensures count { result ≡ length self.now }
-        ensures few { result ≤ 257 }
+        ensures few { result ≤ 1000001 }
     {
         self.atoms.len()
     }

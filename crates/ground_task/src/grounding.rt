@@ -17,20 +17,23 @@ ghost use Rattle.std.specs.Prelude.{
 ghost use Rattle.std.specs.Option.{option_map};
 ghost use Rattle.ctl_syntax.specs.Values.{IsAtMostDeep, NamesBelow, ctl_value};
 ghost use Rattle.ground_instances.specs.Kept.{instance_of, kept_by};
+ghost use Rattle.ground_instances.specs.Limits.{limits_of};
 ghost use Rattle.ground_instances.specs.Tables.{setting_in};
 ghost use Rattle.ground_task.specs.Drafts.{action_tree, drafted};
-ghost use Rattle.ground_task.specs.Limits.{KeepsFirst, limit_of};
+ghost use Rattle.ground_task.specs.Limits.{FitsTask, KeepsFirst, limit_of};
 ghost use Rattle.pddl_ast.specs.Fits.{FitsDomain, FitsProblem};
 ghost use Rattle.pddl_ast.specs.Values.{domain_value, formula_value, problem_value};
 ghost use Rattle.pddl_system.specs.CtlGoals.{ctl_goal_of, goal_value};
 ghost use Rattle.pddl_system.specs.Fluents.{fluents as fluents_of};
 ghost use Rattle.pddl_system.specs.Names.{NamesAreWords};
 ghost use Rattle.pddl_system.specs.Settings.{setting as setting_of};
-ghost use Rattle.pddl_system.specs.Sizes.{action_limit, first_passed, keeps};
+ghost use Rattle.pddl_system.specs.Sizes.{action_limit, first_passed, first_passed_within};
+ghost use Rattle.pddl_system.specs.Sizes.{keeps_within};
 ghost use Rattle.pddl_system.specs.Systems.{system};
 ghost use Rattle.pddl_system.specs.Tasks.{condition_of, task_of};
 ghost use Rattle.ctl_syntax.specs.Conditions.{condition_value};
 ghost use Rattle.pddl_system.specs.Values.{task_value};
+ghost use Rattle.task_core.specs.Limits.{most_fluents};
 ghost use Rattle.task_core.specs.Tasks.{fluent_count, system_of};
 
 use crate::actions::actions;
@@ -43,7 +46,7 @@ use crate::initial::{entries, facts};
 use crate::names::{Naming, fluent_names};
 use crate::words::NameWords;
 use ctl_syntax::Ctl;
-use ground_instances::{Instance, Kept, Setting, has_few_objects, kept_instances};
+use ground_instances::{Instance, Kept, Limits, Setting, has_few_objects, kept_instances};
 use pddl_ast::{Domain, Formula, Problem};
 use std::alloc::{AllocError, Global};
 use task_core::{Cond, InitSpec, Task};
@@ -67,16 +70,16 @@ pub enum GroundErr {
     /// The expanded size of an action, of a goal or of the invariant is more than 100,000.
     #[error("an action or the goal is too large")]
     Size,
-    /// There are more than 1,000,000 instances of the actions, kept or not.
+    /// There are more instances of the actions than the limits allow.
     #[error("too many instances of actions")]
     Instances,
-    /// There are more than 16,384 kept instances.
+    /// There are more kept instances than the limits allow.
     #[error("too many actions")]
     Actions,
     /// A kept instance has more than 64 outcomes.
     #[error("an action has too many outcomes")]
     Outcomes,
-    /// There are more than 256 fluents.
+    /// There are more fluents than the limits allow.
     #[error("too many fluents")]
     Fluents,
     /// There was no memory.
@@ -94,27 +97,28 @@ impl From<AllocError> for GroundErr {
     }
 }
 
-/// The kept instances of a domain and a problem, of which `setting` is the setting, where there
-/// are at most 16,384.
+/// The kept instances of a domain and a problem, of which `setting` is the setting, where they are
+/// within the limits.
 fn all_kept(
     alloc: Global,
     setting: &Setting,
     domain: &Domain,
     problem: &Problem,
+    limits: &Limits,
 ) -> Result<Vec<Instance>, GroundErr>
     requires setting { setting_in setting.now
         ≡ setting_of (domain_value domain.now) (problem_value problem.now) }
-    requires first { KeepsFirst (domain_value domain.now) (problem_value problem.now) }
+    requires first { KeepsFirst (limits_of limits.now) (domain_value domain.now) (problem_value problem.now) }
     ensures kept { IfOk result (λ instances.
         map (instance_of (domain_value domain.now)) instances.items
         ≡ map Some (kept_by (setting_in setting.now) (domain_value domain.now))) }
     ensures within { IfOk result (λ _.
-        keeps (domain_value domain.now) (problem_value problem.now) action_limit ≡ true) }
+        keeps_within (limits_of limits.now) (domain_value domain.now) (problem_value problem.now) action_limit ≡ true) }
     ensures limit { IfErr result (λ refusal. (refusal ≡ GroundErr.Memory)
-        ⊎ (first_passed (domain_value domain.now) (problem_value problem.now)
+        ⊎ (first_passed_within (limits_of limits.now) (domain_value domain.now) (problem_value problem.now)
         ≡ limit_of refusal)) }
 {
-    match kept_instances(alloc, setting, domain)? {
+    match kept_instances(alloc, setting, domain, limits.actions)? {
         Kept::All(instances) => Ok(instances),
         Kept::TooMany => Err(GroundErr::Actions),
     }
@@ -122,15 +126,20 @@ fn all_kept(
 
 /// The setting of a domain and a problem, where the limits that are tried before their instances
 /// are made are kept.
-fn small_setting(alloc: Global, domain: &Domain, problem: &Problem) -> Result<Setting, GroundErr>
+fn small_setting(
+    alloc: Global,
+    domain: &Domain,
+    problem: &Problem,
+    limits: &Limits,
+) -> Result<Setting, GroundErr>
     requires fits_domain { FitsDomain (domain_value domain.now) }
     requires fits_problem { FitsProblem (domain_value domain.now) (problem_value problem.now) }
     ensures setting { IfOk result (λ s. setting_in s
         ≡ setting_of (domain_value domain.now) (problem_value problem.now)) }
     ensures within { IfOk result (λ _.
-        KeepsFirst (domain_value domain.now) (problem_value problem.now)) }
+        KeepsFirst (limits_of limits.now) (domain_value domain.now) (problem_value problem.now)) }
     ensures limit { IfErr result (λ refusal. (refusal ≡ GroundErr.Memory)
-        ⊎ (first_passed (domain_value domain.now) (problem_value problem.now)
+        ⊎ (first_passed_within (limits_of limits.now) (domain_value domain.now) (problem_value problem.now)
         ≡ limit_of refusal)) }
 {
     if !has_few_objects(domain, problem) {
@@ -140,7 +149,7 @@ fn small_setting(alloc: Global, domain: &Domain, problem: &Problem) -> Result<Se
     if !setting.has_small_trees(domain, problem) {
         return Err(GroundErr::Size);
     }
-    if !setting.has_few_instances(domain, problem) {
+    if !setting.has_few_instances(alloc, domain, problem, limits)? {
         return Err(GroundErr::Instances);
     }
     Ok(setting)
@@ -154,6 +163,7 @@ fn all_fluents<'a>(
     domain: &'a Domain,
     problem: &Problem,
     instances: &'a [Instance],
+    limits: &Limits,
 ) -> Result<Found<'a>, GroundErr>
     requires fits_domain { FitsDomain (domain_value domain.now) }
     requires fits_problem { FitsProblem (domain_value domain.now) (problem_value problem.now) }
@@ -161,27 +171,27 @@ fn all_fluents<'a>(
         ≡ setting_of (domain_value domain.now) (problem_value problem.now) }
     requires instances { map (instance_of (domain_value domain.now)) instances.now
         ≡ map Some (kept_by (setting_in setting.now) (domain_value domain.now)) }
-    requires first { KeepsFirst (domain_value domain.now) (problem_value problem.now) }
-    requires actions { keeps (domain_value domain.now) (problem_value problem.now) action_limit
+    requires first { KeepsFirst (limits_of limits.now) (domain_value domain.now) (problem_value problem.now) }
+    requires actions { keeps_within (limits_of limits.now) (domain_value domain.now) (problem_value problem.now) action_limit
         ≡ true }
     ensures fluents { IfOk result (λ found. found.fluents
         ≡ fluents_of (domain_value domain.now) (problem_value problem.now)) }
-    ensures few { IfOk result (λ found. length found.fluents ≤ 256) }
+    ensures few { IfOk result (λ found. length found.fluents ≤ most_fluents) }
     ensures drafts { IfOk result (λ found.
         map (action_tree (domain_value domain.now)) found.drafts.items
         ≡ map (drafted (setting_in setting.now))
         (kept_by (setting_in setting.now) (domain_value domain.now))) }
     ensures within { IfOk result (λ _.
-        first_passed (domain_value domain.now) (problem_value problem.now) ≡ None) }
+        first_passed_within (limits_of limits.now) (domain_value domain.now) (problem_value problem.now) ≡ None) }
     ensures limit { IfErr result (λ refusal. (refusal ≡ GroundErr.Memory)
-        ⊎ (first_passed (domain_value domain.now) (problem_value problem.now)
+        ⊎ (first_passed_within (limits_of limits.now) (domain_value domain.now) (problem_value problem.now)
         ≡ limit_of refusal)) }
 {
     let few = has_few_outcomes(alloc, setting, domain, instances)?;
     if !few {
         return Err(GroundErr::Outcomes);
     }
-    match find_fluents(alloc, setting, domain, problem, instances)? {
+    match find_fluents(alloc, setting, domain, problem, instances, limits.fluents)? {
         Some(found) => Ok(found),
         None => Err(GroundErr::Fluents),
     }
@@ -248,7 +258,7 @@ fn build<'a>(
     requires fits_domain { FitsDomain (domain_value domain.now) }
     requires fits_problem { FitsProblem (domain_value domain.now) (problem_value problem.now) }
     requires names { NamesAreWords (domain_value domain.now) (problem_value problem.now) }
-    requires within { first_passed (domain_value domain.now) (problem_value problem.now) ≡ None }
+    requires within { FitsTask (domain_value domain.now) (problem_value problem.now) }
     requires setting { setting_in setting.now
         ≡ setting_of (domain_value domain.now) (problem_value problem.now) }
     requires drafts { map (action_tree (domain_value domain.now)) found.now.drafts.items
@@ -256,7 +266,7 @@ fn build<'a>(
         (kept_by (setting_in setting.now) (domain_value domain.now)) }
     requires fluents { found.now.fluents
         ≡ fluents_of (domain_value domain.now) (problem_value problem.now) }
-    requires few { length found.now.fluents ≤ 256 }
+    requires few { length found.now.fluents ≤ most_fluents }
     ensures { IfOk result (λ task. task_value task
         ≡ task_of (domain_value domain.now) (problem_value problem.now)) }
 {
@@ -284,6 +294,7 @@ fn ground_kept(
     problem: &Problem,
     setting: &Setting,
     instances: &[Instance],
+    limits: &Limits,
 ) -> Result<Grounded, GroundErr>
     requires fits_domain { FitsDomain (domain_value domain.now) }
     requires fits_problem { FitsProblem (domain_value domain.now) (problem_value problem.now) }
@@ -292,20 +303,20 @@ fn ground_kept(
         ≡ setting_of (domain_value domain.now) (problem_value problem.now) }
     requires instances { map (instance_of (domain_value domain.now)) instances.now
         ≡ map Some (kept_by (setting_in setting.now) (domain_value domain.now)) }
-    requires first { KeepsFirst (domain_value domain.now) (problem_value problem.now) }
-    requires actions { keeps (domain_value domain.now) (problem_value problem.now) action_limit
+    requires first { KeepsFirst (limits_of limits.now) (domain_value domain.now) (problem_value problem.now) }
+    requires actions { keeps_within (limits_of limits.now) (domain_value domain.now) (problem_value problem.now) action_limit
         ≡ true }
     ensures task { IfOk result (λ grounded. task_value grounded.task
         ≡ task_of (domain_value domain.now) (problem_value problem.now)) }
     ensures ctl { IfOk result (λ grounded. option_map goal_value grounded.ctl
         ≡ ctl_goal_of (domain_value domain.now) (problem_value problem.now)) }
     ensures within { IfOk result (λ _.
-        first_passed (domain_value domain.now) (problem_value problem.now) ≡ None) }
+        first_passed_within (limits_of limits.now) (domain_value domain.now) (problem_value problem.now) ≡ None) }
     ensures limit { IfErr result (λ refusal. (refusal ≡ GroundErr.Memory)
-        ⊎ (first_passed (domain_value domain.now) (problem_value problem.now)
+        ⊎ (first_passed_within (limits_of limits.now) (domain_value domain.now) (problem_value problem.now)
         ≡ limit_of refusal)) }
 {
-    let found = all_fluents(alloc, setting, domain, problem, instances)?;
+    let found = all_fluents(alloc, setting, domain, problem, instances, limits)?;
     let task = build(alloc, domain, problem, setting, &found)?;
     let ctl = ctl_goal(alloc, setting, &found.fluents, &problem.ctl)?;
     Ok(Grounded { task, ctl })
@@ -318,30 +329,63 @@ fn ground_set(
     domain: &Domain,
     problem: &Problem,
     setting: &Setting,
+    limits: &Limits,
 ) -> Result<Grounded, GroundErr>
     requires fits_domain { FitsDomain (domain_value domain.now) }
     requires fits_problem { FitsProblem (domain_value domain.now) (problem_value problem.now) }
     requires names { NamesAreWords (domain_value domain.now) (problem_value problem.now) }
     requires setting { setting_in setting.now
         ≡ setting_of (domain_value domain.now) (problem_value problem.now) }
-    requires first { KeepsFirst (domain_value domain.now) (problem_value problem.now) }
+    requires first { KeepsFirst (limits_of limits.now) (domain_value domain.now) (problem_value problem.now) }
     ensures task { IfOk result (λ grounded. task_value grounded.task
         ≡ task_of (domain_value domain.now) (problem_value problem.now)) }
     ensures ctl { IfOk result (λ grounded. option_map goal_value grounded.ctl
         ≡ ctl_goal_of (domain_value domain.now) (problem_value problem.now)) }
     ensures within { IfOk result (λ _.
-        first_passed (domain_value domain.now) (problem_value problem.now) ≡ None) }
+        first_passed_within (limits_of limits.now) (domain_value domain.now) (problem_value problem.now) ≡ None) }
     ensures limit { IfErr result (λ refusal. (refusal ≡ GroundErr.Memory)
-        ⊎ (first_passed (domain_value domain.now) (problem_value problem.now)
+        ⊎ (first_passed_within (limits_of limits.now) (domain_value domain.now) (problem_value problem.now)
         ≡ limit_of refusal)) }
 {
-    let instances = all_kept(alloc, setting, domain, problem)?;
-    let grounded = ground_kept(alloc, domain, problem, setting, &instances)?;
+    let instances = all_kept(alloc, setting, domain, problem, limits)?;
+    let grounded = ground_kept(alloc, domain, problem, setting, &instances, limits)?;
     Ok(grounded)
 }
 
 /// The task of a domain and a problem, whose system is theirs, and their goal in computation tree
 /// logic over the task's conditions; or the first limit that is passed.
+pub fn ground_within(
+    alloc: Global,
+    domain: &Domain,
+    problem: &Problem,
+    limits: &Limits,
+) -> Result<Grounded, GroundErr>
+    requires fits_domain { FitsDomain (domain_value domain.now) }
+    requires fits_problem { FitsProblem (domain_value domain.now) (problem_value problem.now) }
+    requires names { NamesAreWords (domain_value domain.now) (problem_value problem.now) }
+    ensures task { IfOk result (λ grounded. task_value grounded.task
+        ≡ task_of (domain_value domain.now) (problem_value problem.now)) }
+    ensures ctl { IfOk result (λ grounded. option_map goal_value grounded.ctl
+        ≡ ctl_goal_of (domain_value domain.now) (problem_value problem.now)) }
+    ensures ctl_names { IfOk result (λ grounded. IfSome grounded.ctl (λ goal.
+        NamesBelow (fluent_count grounded.task) (ctl_value goal))) }
+    ensures ctl_shallow { IfOk result (λ grounded. IfSome grounded.ctl (λ goal.
+        IsAtMostDeep 199 (ctl_value goal))) }
+    ensures system { IfOk result (λ grounded. system_of grounded.task
+        ≡ system (domain_value domain.now) (problem_value problem.now)) }
+    ensures within { IfOk result (λ _.
+        first_passed_within (limits_of limits.now) (domain_value domain.now) (problem_value problem.now) ≡ None) }
+    ensures limit { IfErr result (λ refusal. (refusal ≡ GroundErr.Memory)
+        ⊎ (first_passed_within (limits_of limits.now) (domain_value domain.now) (problem_value problem.now)
+        ≡ limit_of refusal)) }
+{
+    let setting = small_setting(alloc, domain, problem, limits)?;
+    let grounded = ground_set(alloc, domain, problem, &setting, limits)?;
+    Ok(grounded)
+}
+
+/// The task of a domain and a problem, whose system is theirs, and their goal in computation tree
+/// logic over the task's conditions; or the first of the standard limits that is passed.
 pub fn ground(alloc: Global, domain: &Domain, problem: &Problem) -> Result<Grounded, GroundErr>
     requires fits_domain { FitsDomain (domain_value domain.now) }
     requires fits_problem { FitsProblem (domain_value domain.now) (problem_value problem.now) }
@@ -362,7 +406,7 @@ pub fn ground(alloc: Global, domain: &Domain, problem: &Problem) -> Result<Groun
         ⊎ (first_passed (domain_value domain.now) (problem_value problem.now)
         ≡ limit_of refusal)) }
 {
-    let setting = small_setting(alloc, domain, problem)?;
-    let grounded = ground_set(alloc, domain, problem, &setting)?;
+    let limits = Limits::standard();
+    let grounded = ground_within(alloc, domain, problem, &limits)?;
     Ok(grounded)
 }

@@ -6,6 +6,7 @@ ghost use Rattle.ground_task.specs.Collecting.{entries_value, entry_value, liter
 ghost use Rattle.pddl_ast.specs.Values.{literal_value};
 ghost use Rattle.pddl_system.specs.Systems as systems;
 ghost use Rattle.task_core.specs.Initial as initial;
+ghost use Rattle.task_core.specs.Limits.{most_fluents};
 ghost use Rattle.task_core.specs.States.{truth};
 ghost use Rattle.task_core.specs.Vectors.{value_of};
 
@@ -18,7 +19,7 @@ use task_core::{Alternative, FluentId, Lit, State};
 
 /// The state in which just the facts are true.
 pub(crate) fn facts(setting: &Setting, fluents: &Fluents) -> State
-    requires { length fluents.now ≤ 256 }
+    requires { length fluents.now ≤ most_fluents }
     ensures { (f : ℕ) → truth result f
         ≡ value_of (systems.facts_of (setting_in setting.now) fluents.now) f }
 {

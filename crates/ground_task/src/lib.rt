@@ -19,8 +19,11 @@ mod naming;
 mod outcomes;
 mod products;
 mod schemas;
+mod tally;
 mod variables;
 mod walk;
 mod words;
 
-pub use grounding::{GroundErr, Grounded, ground};
+pub use ground_instances::{Counting, Limits};
+pub use grounding::{GroundErr, Grounded, ground, ground_within};
+pub use tally::tally;

@@ -1,6 +1,6 @@
-//! The atoms that outcomes and uncertain entries name.
+//! The atoms that outcomes and uncertain entries name, as long as there are at most `most`.
 
-ghost use Rattle.std.specs.Prelude.{◌≡◌, ◌++◌, map, IfOk, OnOk};
+ghost use Rattle.std.specs.Prelude.{◌≡◌, ◌≤◌, ◌++◌, map, IfOk, OnOk};
 ghost use Rattle.std.specs.List.{flat_map};
 ghost use Rattle.ground_instances.specs.Atoms.{atom_tree};
 ghost use Rattle.ground_task.specs.Collecting.{
@@ -24,12 +24,14 @@ fn name_changes(
     alloc: Global,
     changes: &[ChangeDraft],
     fluents: &mut Fluents,
+    most: usize,
 ) -> Result<(), AllocError>
-    ensures { OnOk result (fluents.new ≡ collected fluents.old
+    requires { most ≤ 1000000 }
+    ensures { OnOk result (fluents.new ≡ collected most fluents.old
         (map (λ (c : ChangeDraft). atom_tree c.atom) changes.now)) }
 {
     for change in changes {
-        fluents.add(copied_atom(alloc, &change.atom)?)?;
+        fluents.add(copied_atom(alloc, &change.atom)?, most)?;
     }
     Ok(())
 }
@@ -39,12 +41,14 @@ fn name_parts(
     alloc: Global,
     parts: &[PartDraft<'_>],
     fluents: &mut Fluents,
+    most: usize,
 ) -> Result<(), AllocError>
+    requires { most ≤ 1000000 }
     ensures { OnOk result (fluents.new
-        ≡ collected fluents.old (flat_map part_atoms parts.now)) }
+        ≡ collected most fluents.old (flat_map part_atoms parts.now)) }
 {
     for part in parts {
-        name_changes(alloc, &part.changes, fluents)?;
+        name_changes(alloc, &part.changes, fluents, most)?;
     }
     Ok(())
 }
@@ -54,12 +58,14 @@ pub(crate) fn name_outcomes(
     alloc: Global,
     outcomes: &[OutcomeDraft<'_>],
     fluents: &mut Fluents,
+    most: usize,
 ) -> Result<(), AllocError>
+    requires { most ≤ 1000000 }
     ensures { OnOk result (fluents.new
-        ≡ collected fluents.old (flat_map draft_atoms outcomes.now)) }
+        ≡ collected most fluents.old (flat_map draft_atoms outcomes.now)) }
 {
     for outcome in outcomes {
-        name_parts(alloc, &outcome.parts, fluents)?;
+        name_parts(alloc, &outcome.parts, fluents, most)?;
     }
     Ok(())
 }
@@ -79,12 +85,14 @@ fn name_literals(
     alloc: Global,
     literals: &[InitialLiteral],
     fluents: &mut Fluents,
+    most: usize,
 ) -> Result<(), AllocError>
-    ensures { OnOk result (fluents.new ≡ collected fluents.old
+    requires { most ≤ 1000000 }
+    ensures { OnOk result (fluents.new ≡ collected most fluents.old
         (map (λ l. l.atom) (literals_value literals.now))) }
 {
     for literal in literals {
-        fluents.add(atom_of(alloc, &literal.atom)?)?;
+        fluents.add(atom_of(alloc, &literal.atom)?, most)?;
     }
     Ok(())
 }
@@ -94,12 +102,14 @@ fn name_entry(
     alloc: Global,
     entry: &[Vec<InitialLiteral>],
     fluents: &mut Fluents,
+    most: usize,
 ) -> Result<(), AllocError>
+    requires { most ≤ 1000000 }
     ensures { OnOk result (fluents.new
-        ≡ collected fluents.old (named_by (entry_value entry.now))) }
+        ≡ collected most fluents.old (named_by (entry_value entry.now))) }
 {
     for alternative in entry {
-        name_literals(alloc, alternative, fluents)?;
+        name_literals(alloc, alternative, fluents, most)?;
     }
     Ok(())
 }
@@ -109,12 +119,14 @@ pub(crate) fn name_entries(
     alloc: Global,
     entries: &[Vec<Vec<InitialLiteral>>],
     fluents: &mut Fluents,
+    most: usize,
 ) -> Result<(), AllocError>
+    requires { most ≤ 1000000 }
     ensures { OnOk result (fluents.new
-        ≡ collected fluents.old (flat_map named_by (entries_value entries.now))) }
+        ≡ collected most fluents.old (flat_map named_by (entries_value entries.now))) }
 {
     for entry in entries {
-        name_entry(alloc, entry, fluents)?;
+        name_entry(alloc, entry, fluents, most)?;
     }
     Ok(())
 }

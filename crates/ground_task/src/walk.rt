@@ -1,6 +1,6 @@
 //! The outcomes and the fluents of all kept instances.
 
-ghost use Rattle.std.specs.Prelude.{◌≡◌, Some, false, length, map, nat_lt, IfOk, OnOk};
+ghost use Rattle.std.specs.Prelude.{◌≡◌, ◌≤◌, Some, false, length, map, nat_lt, IfOk, OnOk};
 ghost use Rattle.std.specs.List.{flat_map};
 ghost use Rattle.ground_instances.specs.Kept.{instance_of, kept_by};
 ghost use Rattle.ground_instances.specs.Tables.{setting_in};
@@ -36,32 +36,34 @@ fn instance_outcomes<'a>(
 }
 
 /// The outcomes of kept instances, in their order. Their atoms are added to the fluents. Stops
-/// where these are too many.
+/// where these are more than `most`.
 pub(crate) fn instances_outcomes<'a>(
     alloc: Global,
     setting: &Setting,
     domain: &'a Domain,
     instances: &'a [Instance],
     fluents: &mut Fluents,
+    most: usize,
 ) -> Result<Vec<ActionDraft<'a>>, AllocError>
-    requires { map (instance_of (domain_value domain.now)) instances.now
+    requires few { most ≤ 1000000 }
+    requires instances { map (instance_of (domain_value domain.now)) instances.now
         ≡ map Some (kept_by (setting_in setting.now) (domain_value domain.now)) }
-    ensures fluents { OnOk result (fluents.new ≡ collected fluents.old
+    ensures fluents { OnOk result (fluents.new ≡ collected most fluents.old
         (flat_map (changed_by (setting_in setting.now))
         (kept_by (setting_in setting.now) (domain_value domain.now)))) }
-    ensures outcomes { IfOk result (λ drafts. nat_lt 256 (length fluents.new) ≡ false
+    ensures outcomes { IfOk result (λ drafts. nat_lt most (length fluents.new) ≡ false
         → map (action_tree (domain_value domain.now)) drafts.items
         ≡ map (drafted (setting_in setting.now))
         (kept_by (setting_in setting.now) (domain_value domain.now))) }
 {
     let mut drafts = Vec::new(alloc);
     for instance in instances {
-        if fluents.is_full() {
+        if fluents.is_full(most) {
             return Ok(drafts);
         }
         let schema = schema_of(domain, instance);
         let outcomes = instance_outcomes(alloc, setting, schema, instance)?;
-        name_outcomes(alloc, &outcomes, fluents)?;
+        name_outcomes(alloc, &outcomes, fluents, most)?;
         drafts.push(ActionDraft { instance, outcomes })?;
     }
     Ok(drafts)

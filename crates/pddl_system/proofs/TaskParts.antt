@@ -10,6 +10,7 @@ use Rattle.std.proofs.Math.Nat.{max-le}
 use Rattle.task_core.specs.Actions.{action_is_shallow, action_within, change_is_shallow, change_within, goal_is_shallow, goal_within, outcome_is_shallow, outcome_within}
 use Rattle.task_core.specs.Conditions.{depth, ids_below, is_shallow}
 use Rattle.task_core.specs.Initial.{entries_within, entry_within, lit_within}
+use Rattle.task_core.specs.Limits.{most_fluents}
 use Rattle.task_core.specs.Names.{AreActionNames, AreFluentNames, Words, name_bytes, name_of}
 use Rattle.task_core.specs.Parts.{MakesTask}
 use Rattle.task_core.specs.States.{IsWithin}
@@ -31,7 +32,7 @@ use Rattle.pddl_system.specs.Names.{NamesAreWords}
 use Rattle.pddl_system.specs.Objects.{all_objects, is_kind_of, type_of}
 use Rattle.pddl_system.specs.Outcomes.{ChangeTree, Condition, OutcomeTree, may_change, outcomes_of, possible_changes}
 use Rattle.pddl_system.specs.Settings.{setting}
-use Rattle.pddl_system.specs.Sizes.{Limit, action_limit, outcome_limit, fluent_limit, first_passed, keeps, limits, most_outcomes_of_one}
+use Rattle.pddl_system.specs.Sizes.{Limit, Limits, action_limit, outcome_limit, fluent_limit, first_passed_within, keeps_within, limits, most_outcomes_of_one}
 use Rattle.pddl_system.specs.Systems.{action_names, atom_name, fluent_names, instance_name, literal_of}
 use Rattle.pddl_system.specs.Systems as systems
 use Rattle.ctl_syntax.specs.Conditions.{CondTree, condition_row, condition_value}
@@ -315,15 +316,18 @@ module _ (d : DomainTree) (p : ProblemTree) (fits_d : FitsDomain d) (fits_p : Fi
 
   -- all parts
 
-  module _ (words : NamesAreWords d p) (all_kept : first_passed d p ≡ None) (fluent_list : List Words) (actions : List GroundAction) (init : InitSpec) (goal : Option Cond) (invariant : Cond) (parts : ArePartsOf d p fluent_list actions init goal invariant) (says : list_all action_has_literals actions ≡ true) (facts : IsWithin (length fluent_list) init.facts) where
-    kept_limit : (limit : Limit) → Among limit limits → keeps d p limit ≡ true
-    kept_limit limit h = none_found (keeps d p) limits all_kept limit h
+  module _ (most : Limits) (fluents_fit : most.fluents ≤ most_fluents) (actions_fit : most.actions < 2 ^ 32) (words : NamesAreWords d p) (all_kept : first_passed_within most d p ≡ None) (fluent_list : List Words) (actions : List GroundAction) (init : InitSpec) (goal : Option Cond) (invariant : Cond) (parts : ArePartsOf d p fluent_list actions init goal invariant) (says : list_all action_has_literals actions ≡ true) (facts : IsWithin (length fluent_list) init.facts) where
+    kept_limit : (limit : Limit) → Among limit limits → keeps_within most d p limit ≡ true
+    kept_limit limit h = none_found (keeps_within most d p) limits all_kept limit h
 
-    few_fluents : many ≤ 256
-    few_fluents = leb-true many 256 (kept_limit fluent_limit (inr (inr (inr (inr (inr (inl refl)))))))
+    few_fluents : many ≤ most_fluents
+    few_fluents = few_enough (leb-true many most.fluents (kept_limit fluent_limit (inr (inr (inr (inr (inr (inl refl))))))))
+      where
+        few_enough : many ≤ most.fluents → many ≤ most_fluents
+        few_enough h = omega (arith, fluents_fit)
 
-    few_actions : length (kept_instances d p) ≤ 16384
-    few_actions = leb-true (length (kept_instances d p)) 16384 (kept_limit action_limit (inr (inr (inr (inl refl)))))
+    few_actions : length (kept_instances d p) ≤ most.actions
+    few_actions = leb-true (length (kept_instances d p)) most.actions (kept_limit action_limit (inr (inr (inr (inl refl)))))
 
     few_outcomes : (i : Instance) → Among i (kept_instances d p) → length (outcomes_of (setting d p) i) ≤ 64
     few_outcomes i h =
@@ -338,8 +342,8 @@ module _ (d : DomainTree) (p : ProblemTree) (fits_d : FitsDomain d) (fits_p : Fi
 
     makes_task : MakesTask fluent_list actions init goal invariant
     makes_task = record {
-      few_fluents = subst (λ n. n ≤ 256) (sym count_same) few_fluents;
-      few_actions = (let same = actions_same in let few = few_actions in omega arith);
+      few_fluents = subst (λ n. n ≤ most_fluents) (sym count_same) few_fluents;
+      few_actions = (let same = actions_same in let few = few_actions in omega (arith, actions_fit));
       within = record {
         actions_within = subst (λ n. list_all (action_within n) actions ≡ true) (sym count_same)
             (zip_all action_value (action_of d p) action_has_literals (action_within many) actions (kept_instances d p) (λ x i some h e. action_within_it i h (few_outcomes i h) x some e) says parts.actions_are);
@@ -365,5 +369,5 @@ module _ (d : DomainTree) (p : ProblemTree) (fits_d : FitsDomain d) (fits_p : Fi
             subst (λ e. entry_within many e ≡ true) from.2 (entry_is_within from.0 from.1)
 
 pub parts_make_task : PartsMakeTask
-parts_make_task d p fluent_list actions init goal invariant fits_d fits_p words all_kept parts says facts =
-    makes_task d p fits_d fits_p words all_kept fluent_list actions init goal invariant parts says facts
+parts_make_task most d p fluent_list actions init goal invariant fluents_fit actions_fit fits_d fits_p words all_kept parts says facts =
+    makes_task d p fits_d fits_p most fluents_fit actions_fit words all_kept fluent_list actions init goal invariant parts says facts

@@ -1,5 +1,5 @@
 -- What is true of every domain and problem: the statements of the laws.
-use Rattle.std.specs.Prelude.{◌≡◌, ◌≢◌, ℕ, ◌<◌, ◌≤◌, ◌↔◌, List, length, Bool, true, false, Option}
+use Rattle.std.specs.Prelude.{◌≡◌, ◌≢◌, ℕ, ◌<◌, ◌≤◌, ◌^◌, ◌↔◌, List, length, Bool, true, false, Option}
 use Rattle.std.specs.Prelude.{[], None, Some, slice_get, if◌then◌else◌}
 use Rattle.pddl_ast.specs.Fits.{FitsDomain, FitsEffect, FitsProblem}
 use Rattle.pddl_ast.specs.Known.{Known}
@@ -24,7 +24,7 @@ use Rattle.std.specs.List.Sorted.{IsSorted}
 use Rattle.pddl_system.specs.Objects.{bindings}
 use Rattle.pddl_system.specs.Outcomes.{ChangeTree, OutcomeTree, may_change, outcomes, outcomes_of}
 use Rattle.pddl_system.specs.Settings.{Setting, is_rigid_in, setting}
-use Rattle.pddl_system.specs.Sizes.{binding_count, first_passed, outcome_count}
+use Rattle.pddl_system.specs.Sizes.{Limits, binding_count, first_passed_within, outcome_count}
 use Rattle.pddl_system.specs.States.{comes_about, formula_holds, fluent_number}
 use Rattle.pddl_system.specs.Systems.{IsExecutable, action_names, fluent_names, initial_of, system}
 use Rattle.pddl_system.specs.Systems.{vectors_after}
@@ -33,6 +33,7 @@ use Rattle.pddl_system.specs.ThreeValues.{value}
 use Rattle.ctl_syntax.specs.Conditions.{condition_value}
 use Rattle.pddl_system.specs.Values.{ArePartsOf, action_has_literals, task_value}
 use Rattle.task_core.specs.ContextPlans.{Configuration, ContextPlan, Follows}
+use Rattle.task_core.specs.Limits.{most_fluents}
 use Rattle.task_core.specs.Names.{AreActionNames, AreFluentNames, Words}
 use Rattle.task_core.specs.Parts.{MakesTask}
 use Rattle.task_core.specs.States.{IsWithin}
@@ -98,14 +99,16 @@ ActionNamesAreNames =
     (d : DomainTree) (p : ProblemTree)
     → FitsDomain d → FitsProblem d p → NamesAreWords d p → AreActionNames (action_names d p)
 
--- parts that stand for those of the task of a domain and a problem make a task, where no limit is
--- passed and each change has a literal: what they name is among the fluents, their conditions are at most 200 deep, each action
--- has an outcome and each uncertain entry an alternative, and names are names
+-- parts that stand for those of the task of a domain and a problem make a task, where no limit that
+-- a task can have is passed and each change has a literal: what they name is among the fluents, their
+-- conditions are at most 200 deep, each action has an outcome and each uncertain entry an
+-- alternative, and names are names
 abbrev pub PartsMakeTask : Type 0
 PartsMakeTask =
-    (d : DomainTree) (p : ProblemTree) (fluents : List Words)
+    (most : Limits) (d : DomainTree) (p : ProblemTree) (fluents : List Words)
     (actions : List GroundAction) (init : InitSpec) (goal : Option Cond) (invariant : Cond)
-    → FitsDomain d → FitsProblem d p → NamesAreWords d p → first_passed d p ≡ None
+    → most.fluents ≤ most_fluents → most.actions < 2 ^ 32
+    → FitsDomain d → FitsProblem d p → NamesAreWords d p → first_passed_within most d p ≡ None
     → ArePartsOf d p fluents actions init goal invariant
     → list_all action_has_literals actions ≡ true → IsWithin (length fluents) init.facts
     → MakesTask fluents actions init goal invariant

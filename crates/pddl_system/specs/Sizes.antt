@@ -112,45 +112,65 @@ abbrev pub instance_count : (ℕ → List ℕ) → List SchemaTree → ℕ
 instance_count objects schemas =
     sum (map (λ (s : SchemaTree). binding_count objects s.parameters) schemas)
 
--- the most objects, the most expanded size of an action, of the invariant and of each goal, the most
--- instances, kept instances, outcomes of one kept instance, and fluents
+-- the most objects, the most expanded size of an action, of the invariant and of each goal, and the
+-- most outcomes of one kept instance
 abbrev pub most_objects : ℕ
 most_objects = 1024
 
 abbrev pub most_size : ℕ
 most_size = 100000
 
-abbrev pub most_instances : ℕ
-most_instances = 1000000
-
-abbrev pub most_actions : ℕ
-most_actions = 16384
-
 abbrev pub most_outcomes_of_one : ℕ
 most_outcomes_of_one = 64
 
-abbrev pub most_fluents : ℕ
-most_fluents = 256
+-- what a program allows: how it counts instances, and the most instances that count, kept instances
+-- and fluents
+pub record Limits : Type 0 where
+  pub counted : DomainTree → ProblemTree → ℕ
+  pub instances : ℕ
+  pub actions : ℕ
+  pub fluents : ℕ
 
--- the limits
+-- all instances count, kept or not
+abbrev pub all_instances : DomainTree → ProblemTree → ℕ
+all_instances d p = instance_count (setting d p).objects d.actions
+
+-- the limits of a program that names no others
+abbrev pub standard_instances : ℕ
+standard_instances = 1000000
+
+abbrev pub standard_actions : ℕ
+standard_actions = 16384
+
+abbrev pub standard_fluents : ℕ
+standard_fluents = 256
+
+abbrev pub standard : Limits
+standard = record {
+  counted = all_instances;
+  instances = standard_instances;
+  actions = standard_actions;
+  fluents = standard_fluents;
+}
+
+-- the limits by name
 pub data Limit : Type 0 where
   object_limit size_limit instance_limit action_limit outcome_limit fluent_limit : Limit
 
 -- whether what is counted is within a limit
-abbrev pub keeps : DomainTree → ProblemTree → Limit → Bool
-keeps d p object_limit = nat_le (length (all_objects d p)) most_objects
-keeps d p size_limit = let objects = (setting d p).objects in
+abbrev pub keeps_within : Limits → DomainTree → ProblemTree → Limit → Bool
+keeps_within most d p object_limit = nat_le (length (all_objects d p)) most_objects
+keeps_within most d p size_limit = let objects = (setting d p).objects in
     list_all (λ s. nat_le (schema_size objects s) most_size) d.actions
     && nat_le (formula_size objects d.invariant) most_size
     && nat_le (goal_size objects p.goal) most_size
     && nat_le (ctl_size objects p.ctl) most_size
-keeps d p instance_limit =
-    nat_le (instance_count (setting d p).objects d.actions) most_instances
-keeps d p action_limit = nat_le (length (kept_instances d p)) most_actions
-keeps d p outcome_limit =
+keeps_within most d p instance_limit = nat_le (most.counted d p) most.instances
+keeps_within most d p action_limit = nat_le (length (kept_instances d p)) most.actions
+keeps_within most d p outcome_limit =
     list_all (λ i. nat_le (length (outcomes_of (setting d p) i)) most_outcomes_of_one)
     (kept_instances d p)
-keeps d p fluent_limit = nat_le (length (fluents d p)) most_fluents
+keeps_within most d p fluent_limit = nat_le (length (fluents d p)) most.fluents
 
 -- the limits in the order in which they are tried
 abbrev pub limits : List Limit
@@ -158,5 +178,12 @@ limits =
     object_limit ∷ size_limit ∷ instance_limit ∷ action_limit ∷ outcome_limit ∷ fluent_limit ∷ []
 
 -- the first limit that is passed, if one is
+abbrev pub first_passed_within : Limits → DomainTree → ProblemTree → Option Limit
+first_passed_within most d p = find (λ limit. not (keeps_within most d p limit)) limits
+
+-- the same of the standard limits
+abbrev pub keeps : DomainTree → ProblemTree → Limit → Bool
+keeps = keeps_within standard
+
 abbrev pub first_passed : DomainTree → ProblemTree → Option Limit
-first_passed d p = find (λ limit. not (keeps d p limit)) limits
+first_passed = first_passed_within standard

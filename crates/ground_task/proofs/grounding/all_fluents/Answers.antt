@@ -3,6 +3,7 @@ use Rattle.std.specs.Prelude.{nat_le}
 use Rattle.std.specs.List.{list_all}
 use Rattle.std.specs.Option.{is_some}
 use Rattle.ground_instances.specs.Kept.{kept_by}
+use Rattle.ground_instances.specs.Limits.{limits_of}
 use Rattle.ground_instances.specs.Tables.{setting_in}
 use Rattle.pddl_ast.specs.Trees.{DomainTree, ProblemTree}
 use Rattle.pddl_ast.specs.Values.{domain_value, problem_value}
@@ -23,10 +24,10 @@ pub returns-then-not-few-clause-limit : goal.returns-then-not-few-clause-limit
 returns-then-not-few-clause-limit c =
     let d = domain_value c.args.domain.now in
     let p = problem_value c.args.problem.now in
-    inr (passes_outcomes d p c.requires.first c.requires.actions (counted d p (setting_in c.args.setting.now) c.in_ok-few.few _ c.requires.setting c.in_ok-few.ensures c.if-not-few.true))
+    inr (passes_outcomes (limits_of c.args.limits.now) d p c.requires.first c.requires.actions (counted d p (setting_in c.args.setting.now) c.in_ok-few.few _ c.requires.setting c.in_ok-few.ensures c.if-not-few.true))
 
 pub returns-in-None-clause-limit : goal.returns-in-None-clause-limit
 returns-in-None-clause-limit c =
     let d = domain_value c.args.domain.now in
     let p = problem_value c.args.problem.now in
-    inr (passes_fluents d p c.requires.first c.requires.actions (counted d p (setting_in c.args.setting.now) c.in_ok-few.few _ c.requires.setting c.in_ok-few.ensures c.if-not-few.false) (sym c.in_ok-found.ensures.within ∙ ap is_some c.in-None.is))
+    inr (passes_fluents (limits_of c.args.limits.now) d p c.requires.first c.requires.actions (counted d p (setting_in c.args.setting.now) c.in_ok-few.few _ c.requires.setting c.in_ok-few.ensures c.if-not-few.false) (sym c.in_ok-found.ensures.within ∙ ap is_some c.in-None.is))

@@ -6,5 +6,5 @@ use Rattle.ground_task.proofs.naming.name_changes.Given as goal
 
 abbrev pub invariant-loop-change : goal.invariant-loop-change
 invariant-loop-change l =
-    collected l.fluents (map (λ (c : ChangeDraft). atom_tree c.atom) (drop l.change-index l.changes))
-    ≡ collected l.fn.fluents (map (λ (c : ChangeDraft). atom_tree c.atom) l.changes)
+    collected l.most l.fluents (map (λ (c : ChangeDraft). atom_tree c.atom) (drop l.change-index l.changes))
+    ≡ collected l.most l.fn.fluents (map (λ (c : ChangeDraft). atom_tree c.atom) l.changes)

@@ -6,5 +6,5 @@ use Rattle.ground_task.proofs.naming.name_entries.Given as goal
 
 abbrev pub invariant-loop-entry : goal.invariant-loop-entry
 invariant-loop-entry l =
-    collected l.fluents (flat_map named_by (entries_value (drop l.entry-index l.entries)))
-    ≡ collected l.fn.fluents (flat_map named_by (entries_value l.entries))
+    collected l.most l.fluents (flat_map named_by (entries_value (drop l.entry-index l.entries)))
+    ≡ collected l.most l.fn.fluents (flat_map named_by (entries_value l.entries))

@@ -5,5 +5,5 @@ use Rattle.ground_task.proofs.naming.name_entry.Given as goal
 
 abbrev pub invariant-loop-alternative : goal.invariant-loop-alternative
 invariant-loop-alternative l =
-    collected l.fluents (named_by (entry_value (drop l.alternative-index l.entry)))
-    ≡ collected l.fn.fluents (named_by (entry_value l.entry))
+    collected l.most l.fluents (named_by (entry_value (drop l.alternative-index l.entry)))
+    ≡ collected l.most l.fn.fluents (named_by (entry_value l.entry))

@@ -5,5 +5,5 @@ use Rattle.ground_task.proofs.naming.name_literals.Given as goal
 
 abbrev pub invariant-loop-literal : goal.invariant-loop-literal
 invariant-loop-literal l =
-    collected l.fluents (map (λ (k : LiteralTree). k.atom) (literals_value (drop l.literal-index l.literals)))
-    ≡ collected l.fn.fluents (map (λ (k : LiteralTree). k.atom) (literals_value l.literals))
+    collected l.most l.fluents (map (λ (k : LiteralTree). k.atom) (literals_value (drop l.literal-index l.literals)))
+    ≡ collected l.most l.fn.fluents (map (λ (k : LiteralTree). k.atom) (literals_value l.literals))

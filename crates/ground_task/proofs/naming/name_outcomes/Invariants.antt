@@ -6,4 +6,4 @@ use Rattle.ground_task.proofs.naming.name_outcomes.Given as goal
 
 abbrev pub invariant-loop-outcome : goal.invariant-loop-outcome
 invariant-loop-outcome l =
-    collected l.fluents (flat_map draft_atoms (drop l.outcome-index l.outcomes)) ≡ collected l.fn.fluents (flat_map draft_atoms l.outcomes)
+    collected l.most l.fluents (flat_map draft_atoms (drop l.outcome-index l.outcomes)) ≡ collected l.most l.fn.fluents (flat_map draft_atoms l.outcomes)

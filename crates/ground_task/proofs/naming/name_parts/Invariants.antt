@@ -6,4 +6,4 @@ use Rattle.ground_task.proofs.naming.name_parts.Given as goal
 
 abbrev pub invariant-loop-part : goal.invariant-loop-part
 invariant-loop-part l =
-    collected l.fluents (flat_map part_atoms (drop l.part-index l.parts)) ≡ collected l.fn.fluents (flat_map part_atoms l.parts)
+    collected l.most l.fluents (flat_map part_atoms (drop l.part-index l.parts)) ≡ collected l.most l.fn.fluents (flat_map part_atoms l.parts)

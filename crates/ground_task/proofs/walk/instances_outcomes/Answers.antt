@@ -18,12 +18,12 @@ use Rattle.ground_task.proofs.walk.instances_outcomes.Goals as goal
 pub returns-then-is_full-clause-fluents : goal.returns-then-is_full-clause-fluents
 returns-then-is_full-clause-fluents c =
     let at = setting_in c.args.setting.now in
-    sym (full_stays c.loop-instance.fluents (flat_map (changed_by at) (drop c.loop-instance.instance-index (kept_by at (domain_value c.args.domain.now)))) (sym c.is_full.ensures ∙ c.if-is_full.true)) ∙ c.loop-instance.invariant.0
+    sym (full_stays c.args.most c.loop-instance.fluents (flat_map (changed_by at) (drop c.loop-instance.instance-index (kept_by at (domain_value c.args.domain.now)))) (sym c.is_full.ensures ∙ c.if-is_full.true)) ∙ c.loop-instance.invariant.0
 
 pub schema_of-schema-requires : goal.schema_of-schema-requires
 schema_of-schema-requires c =
     let d = domain_value c.args.domain.now in
-    let k = turn (instance_of d) c.args.instances.now (kept_by (setting_in c.args.setting.now) d) c.loop-instance.instance-index c.instance-item.result c.requires c.loop-instance-test.true c.instance-item.is in
+    let k = turn (instance_of d) c.args.instances.now (kept_by (setting_in c.args.setting.now) d) c.loop-instance.instance-index c.instance-item.result c.requires.instances c.loop-instance-test.true c.instance-item.is in
     ap is_some k.1
 
 pub loop-instance-preserved : goal.loop-instance-preserved
@@ -34,11 +34,11 @@ loop-instance-preserved c =
     let item = c.instance-item.result in
     let s = schema_value c.schema_of-schema.result.now in
     let os = c.in_ok-outcomes.outcomes.items in
-    let k = turn (instance_of d) c.args.instances.now (kept_by at d) i item c.requires c.loop-instance-test.true c.instance-item.is in
+    let k = turn (instance_of d) c.args.instances.now (kept_by at d) i item c.requires.instances c.loop-instance-test.true c.instance-item.is in
     let same : instance_with s item ≡ k.0 = inner (instance_with s item) k.0 (sym c.schema_of-schema.ensures ∙ k.1) in
     let are : draft_trees os ≡ map (possible_changes at) (outcomes_of at k.0) = c.in_ok-outcomes.ensures ∙ ap (λ (j : InstanceTree). map (possible_changes at) (outcomes_of at j)) same in (
-      collect_turn (changed_by at) (kept_by at d) i k.0 c.loop-instance.fluents _ _ k.2
-          (c.in_ok-name_outcomes.ensures ∙ ap (λ l. collected c.loop-instance.fluents (flat_map draft_atoms l)) c.deref.ensures.value ∙ ap (collected c.loop-instance.fluents) (atoms_are_changed at k.0 os are))
+      collect_turn c.args.most (changed_by at) (kept_by at d) i k.0 c.loop-instance.fluents _ _ k.2
+          (c.in_ok-name_outcomes.ensures ∙ ap (λ l. collected c.args.most c.loop-instance.fluents (flat_map draft_atoms l)) c.deref.ensures.value ∙ ap (collected c.args.most c.loop-instance.fluents) (atoms_are_changed at k.0 os are))
           c.loop-instance.invariant.0,
       ap (λ l. map (action_tree d) l ++ map (drafted at) (drop (i + 1) (kept_by at d))) c.in_ok-push.ensures.items
           ∙ map_turn (action_tree d) (drafted at) (kept_by at d) i k.0 c.loop-instance.drafts.items _ _ k.2

@@ -10,7 +10,7 @@ use Rattle.ground_task.proofs.walk.instances_outcomes.Given as goal
 
 abbrev pub invariant-loop-instance : goal.invariant-loop-instance
 invariant-loop-instance l =
-    (collected l.fluents (flat_map (changed_by (setting_in l.setting)) (drop l.instance-index (kept_by (setting_in l.setting) (domain_value l.domain))))
-    ≡ collected l.fn.fluents (flat_map (changed_by (setting_in l.setting)) (kept_by (setting_in l.setting) (domain_value l.domain))))
+    (collected l.most l.fluents (flat_map (changed_by (setting_in l.setting)) (drop l.instance-index (kept_by (setting_in l.setting) (domain_value l.domain))))
+    ≡ collected l.most l.fn.fluents (flat_map (changed_by (setting_in l.setting)) (kept_by (setting_in l.setting) (domain_value l.domain))))
     × (map (action_tree (domain_value l.domain)) l.drafts.items ++ map (drafted (setting_in l.setting)) (drop l.instance-index (kept_by (setting_in l.setting) (domain_value l.domain)))
     ≡ map (drafted (setting_in l.setting)) (kept_by (setting_in l.setting) (domain_value l.domain)))

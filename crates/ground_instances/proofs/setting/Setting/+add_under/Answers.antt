@@ -3,7 +3,6 @@ use Rattle.std.specs.Prelude.{nat_le}
 use Rattle.ground_instances.specs.Kept.{kept_among, kept_under, numbered, rows_under, with_number}
 use Rattle.ground_instances.specs.Tables.{setting_in}
 use Rattle.pddl_ast.specs.Values.{schema_value}
-use Rattle.pddl_system.specs.Sizes.{most_actions}
 use Rattle.ground_instances.proofs.UnderLemmas.{added_next, all_added, all_within, begun_of, cut_back, few_next, left, left_begin, left_end, left_next, same_default, too_many}
 use Rattle.ground_instances.proofs.setting.Setting.+add_under.Goals as goal
 
@@ -49,8 +48,8 @@ loop-object-preserved t c =
     let added : map numbered c.add_under.new.kept.items ≡ map numbered c.loop-object.kept.items ++ map (with_number c.args.action.now.number) here =
     c.in_ok-add_under.ensures.added c.if-not-branch.false ∙ ap (λ xs. map numbered c.loop-object.kept.items ++ map (with_number c.args.action.now.number) (kept_under at s xs)) pushed in
     record {
-      few = few_next c.args.action.now.number most_actions c.loop-object.kept.items c.add_under.new.kept.items here c.in_ok-add_under.field-0
-          (c.in_ok-add_under.ensures.within ∙ ap (λ xs. nat_le (length c.loop-object.kept.items + length (kept_under at s xs)) most_actions) pushed) c.if-not-branch.false added;
+      few = few_next c.args.action.now.number c.args.most c.loop-object.kept.items c.add_under.new.kept.items here c.in_ok-add_under.field-0
+          (c.in_ok-add_under.ensures.within ∙ ap (λ xs. nat_le (length c.loop-object.kept.items + length (kept_under at s xs)) c.args.most) pushed) c.if-not-branch.false added;
       place = c.loop-object.invariant.place ∙ ap (λ xs. length xs) (sym cut);
       begun = begun_of c.args.objects.now.items first c.truncate.new.self.items cut c.loop-object.invariant.begun;
       added = ap (λ xs. map numbered c.add_under.new.kept.items ++ map (with_number c.args.action.now.number) (left at s xs (drop (i + 1) chosen))) cut
@@ -65,9 +64,9 @@ returns-then-not-branch-clause-within t c =
     let chosen = c.objects_of-object-items.result.now in
     let i = c.loop-object.object-index in
     let first = c.loop-object.objects.items in
-    too_many c.args.action.now.number most_actions c.args.kept.now.items c.loop-object.kept.items (kept_under at s c.args.objects.now.items) (left at s first (drop i chosen))
+    too_many c.args.action.now.number c.args.most c.args.kept.now.items c.loop-object.kept.items (kept_under at s c.args.objects.now.items) (left at s first (drop i chosen))
     (kept_under at s (first ++ get_or chosen i 0 ∷ [])) (left at s first (drop (i + 1) chosen)) c.in_ok-add_under.field-0 (left_next at s first chosen i c.loop-object-test.true)
-    (c.in_ok-add_under.ensures.within ∙ ap (λ xs. nat_le (length c.loop-object.kept.items + length (kept_under at s xs)) most_actions) c.in_ok-push.ensures.items)
+    (c.in_ok-add_under.ensures.within ∙ ap (λ xs. nat_le (length c.loop-object.kept.items + length (kept_under at s xs)) c.args.most) c.in_ok-push.ensures.items)
     c.if-not-branch.true c.loop-object.invariant.added
 
 pub returns-clause-within : goal.returns-clause-within
@@ -77,7 +76,7 @@ returns-clause-within t c =
     let chosen = c.objects_of-object-items.result.now in
     let i = c.loop-object.object-index in
     let first = c.loop-object.objects.items in
-    all_within c.args.action.now.number most_actions c.args.kept.now.items c.loop-object.kept.items (kept_under at s c.args.objects.now.items) (left at s first (drop i chosen))
+    all_within c.args.action.now.number c.args.most c.args.kept.now.items c.loop-object.kept.items (kept_under at s c.args.objects.now.items) (left at s first (drop i chosen))
     (left_end at s first chosen i (omega arith)) c.loop-object.invariant.few c.loop-object.invariant.added
 
 pub returns-clause-added : goal.returns-clause-added

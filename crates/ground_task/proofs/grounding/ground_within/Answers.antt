@@ -1,7 +1,7 @@
 use Rattle.pddl_ast.specs.Values.{domain_value, problem_value}
 use Rattle.pddl_system.proofs.SystemsAgree.{task_has_the_system}
 use Rattle.ground_task.proofs.GoalLemmas.{names, shallow}
-use Rattle.ground_task.proofs.grounding.ground.Goals as goal
+use Rattle.ground_task.proofs.grounding.ground_within.Goals as goal
 
 pub returns-clause-system : goal.returns-clause-system
 returns-clause-system c = task_has_the_system (domain_value c.args.domain.now) (problem_value c.args.problem.now) c.in_ok-grounded.grounded.task c.in_ok-grounded.ensures.task
