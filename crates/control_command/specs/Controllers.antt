@@ -1,5 +1,5 @@
 -- Which answer is a controller, and the answer to the words.
-use Rattle.std.specs.Prelude.{◌≡◌, ◌≢◌, ◌++◌, ◌<◌, ◌≤◌, ◌⊎◌, ℕ, Bool, true, false, List, [], codes}
+use Rattle.std.specs.Prelude.{◌≡◌, ◌≢◌, ◌++◌, ◌<◌, ◌≤◌, ◌⊎◌, ℕ, Bool, true, false, List, [], codes, Some}
 use Rattle.std.specs.Prelude.{IsTrue, length}
 use Rattle.controller_rules.specs.AsRun.{HasNoDeadRule, HasNoHiddenRule, HasOneMove}
 use Rattle.controller_rules.specs.AsRun.{NamesLastContext}
